@@ -1,0 +1,82 @@
+-- A section drawn by another hand, for demand 3: vertices listed for each depth and edges listed for each step, under document 01's conditions and
+-- no others. Inner vertices may be any number and may be twins, a word may have several paths, symbols may be any numbers, and nothing here asks
+-- for our layout or bounds. Step t + 1 of document 01 is written as step t.
+use mathlib.Core.Path.{_≡_}
+use mathlib.Core.List.{List}
+use Prim.Native.Nat.{ℕ, suc, _≤_, _<_}
+use Rattle.trellis.specs.Lists.{_∈_, Once}
+use Rattle.trellis.specs.Label.{symbol}
+use Rattle.trellis.specs.Word.{Word}
+use Rattle.trellis.specs.Own.{Edge, edge}
+
+-- vertices are named by numbers; a vertex of depth 0 stands for a root, one of depth n for a goal
+pub record Drawing : Type 0 where
+  pub vertices : ℕ → List ℕ
+  pub edges : ℕ → List Edge
+  pub rootOf : ℕ → ℕ
+  pub goalOf : ℕ → ℕ
+
+-- the vertices x 0 .. x n and the symbols a 0 .. a (n - 1) are a path from depth 0 to depth n
+pub record Path (n : ℕ) (D : Drawing) (x a : ℕ → ℕ) : Type 0 where
+  pub takes : (t : ℕ) → t < n → edge (x t) (a t) (x (suc t)) ∈ D .edges t
+
+-- the word that such a path carries is w: root state, the edges' symbols one by one, goal state
+pub record Carries (n : ℕ) (D : Drawing) (x a : ℕ → ℕ) (w : Word) : Type 0 where
+  pub root : D .rootOf (x 0) ≡ w .root
+  pub symbols : (t : ℕ) → t < n → a t ≡ symbol n t (w .label)
+  pub goal : D .goalOf (x n) ≡ w .goal
+
+-- a path that carries w
+pub record PathOf (n : ℕ) (D : Drawing) (w : Word) : Type 0 where
+  pub x : ℕ → ℕ
+  pub a : ℕ → ℕ
+  pub path : Path n D x a
+  pub carries : Carries n D x a w
+
+-- a word of the table that the path carries
+pub record WordOf (n : ℕ) (D : Drawing) (table : List Word) (x a : ℕ → ℕ) : Type 0 where
+  pub word : Word
+  pub listed : word ∈ table
+  pub carried : Carries n D x a word
+
+-- a path through the vertex v of depth t
+pub record Through (n : ℕ) (D : Drawing) (t v : ℕ) : Type 0 where
+  pub x : ℕ → ℕ
+  pub a : ℕ → ℕ
+  pub path : Path n D x a
+  pub passes : x t ≡ v
+
+-- a vertex of the list that stands for the state s
+pub record HasVertex (list : List ℕ) (stateOf : ℕ → ℕ) (s : ℕ) : Type 0 where
+  pub vertex : ℕ
+  pub listed : vertex ∈ list
+  pub is : stateOf vertex ≡ s
+
+-- a word of the table with the state s
+pub record HasState (table : List Word) (state : Word → ℕ) (s : ℕ) : Type 0 where
+  pub word : Word
+  pub listed : word ∈ table
+  pub is : state word ≡ s
+
+-- the list has just one vertex for each state that the words have, and no other vertex
+pub record JustOne (table : List Word) (state : Word → ℕ) (list : List ℕ) (stateOf : ℕ → ℕ) : Type 0 where
+  pub atLeast : (w : Word) → w ∈ table → HasVertex list stateOf (state w)
+  pub atMost : (v u : ℕ) → v ∈ list → u ∈ list → stateOf v ≡ stateOf u → v ≡ u
+  pub only : (v : ℕ) → v ∈ list → HasState table state (stateOf v)
+
+-- D is a section drawn for the table
+pub record DrawnFor (n : ℕ) (table : List Word) (D : Drawing) : Type 0 where
+  -- no vertex is listed twice
+  pub noneTwice : (t : ℕ) → t ≤ n → Once (D .vertices t)
+  -- each edge joins vertices of its step's two depths
+  pub joins : (t : ℕ) → t < n → (e : Edge) → e ∈ D .edges t → (e .from ∈ D .vertices t) × (e .to ∈ D .vertices (suc t))
+  -- no edge is repeated
+  pub noRepeat : (t : ℕ) → t < n → Once (D .edges t)
+  -- just one vertex for each root, just one for each goal
+  pub roots : JustOne table (λ w. w .root) (D .vertices 0) (D .rootOf)
+  pub goals : JustOne table (λ w. w .goal) (D .vertices n) (D .goalOf)
+  -- every vertex is on a path
+  pub onPath : (t v : ℕ) → t ≤ n → v ∈ D .vertices t → Through n D t v
+  -- the paths carry the table's words, no more and no fewer
+  pub noMore : (x a : ℕ → ℕ) → Path n D x a → WordOf n D table x a
+  pub noFewer : (w : Word) → w ∈ table → PathOf n D w

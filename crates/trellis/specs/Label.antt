@@ -1,0 +1,44 @@
+-- Labels: n symbols packed at two bits each, the first symbol highest. So a label is a number below 4 ^ n, and its symbols are its base-4 digits.
+-- Everything here is for general n. Symbols are counted from 0: symbol t stands between depth t and depth t + 1.
+use mathlib.Core.Path.{_≡_}
+use mathlib.Core.Bool.{Bool, true, false, _&&_, not}
+use Prim.Native.Nat.{ℕ, zero, suc, _+_, _-_, _*_, _/_, _%_, _^_, _<_}
+use lib.Dec.{ltb, eqb}
+use Rattle.trellis.specs.Lists.{one-if}
+
+-- symbol t of a label of n symbols
+unfoldable pub symbol : ℕ → ℕ → ℕ → ℕ
+symbol n t x = x / 4 ^ (n - suc t) % 4
+
+-- the first t symbols of a label of n symbols, as a label of t symbols
+unfoldable pub front : ℕ → ℕ → ℕ → ℕ
+front n t x = x / 4 ^ (n - t)
+
+-- the symbols behind depth t, as a label of n - t symbols
+unfoldable pub back : ℕ → ℕ → ℕ → ℕ
+back n t x = x % 4 ^ (n - t)
+
+-- the first t symbols of x, followed by the others of y
+unfoldable pub spliced : ℕ → ℕ → ℕ → ℕ → ℕ
+spliced n t x y = front n t x * 4 ^ (n - t) + back n t y
+
+-- whether the last k symbols of x are all below q
+unfoldable pub symbolsBelow : ℕ → ℕ → ℕ → Bool
+symbolsBelow q zero x = true
+symbolsBelow q (suc k) x = ltb (x % 4) q && symbolsBelow q k (x / 4)
+
+-- whether x is a label of n symbols below q
+unfoldable pub isLabel : ℕ → ℕ → ℕ → Bool
+isLabel q n x = ltb x (4 ^ n) && symbolsBelow q n x
+
+-- the first symbol in which x and y differ is smaller in x
+pub record Earlier (n x y : ℕ) : Type 0 where
+  pub at : ℕ
+  pub inside : at < n
+  pub before : (t : ℕ) → t < at → symbol n t x ≡ symbol n t y
+  pub smaller : symbol n at x < symbol n at y
+
+-- how many of the last k symbols differ in x and y
+unfoldable pub distance : ℕ → ℕ → ℕ → ℕ
+distance zero x y = 0
+distance (suc k) x y = one-if (not (eqb (x % 4) (y % 4))) + distance k (x / 4) (y / 4)

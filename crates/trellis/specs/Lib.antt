@@ -1,0 +1,9 @@
+-- The theory of trellis sections, lowest first: what each file defines is used by those below it.
+pub mod Lists
+pub mod Label
+pub mod Word
+pub mod Own
+pub mod Drawn
+pub mod Demand
+pub mod Witness
+pub mod Outcome
