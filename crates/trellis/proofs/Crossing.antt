@@ -10,7 +10,7 @@ use Rattle.trellis.specs.Lists.{_∈_}
 use Rattle.trellis.specs.Label.{symbol, front, back}
 use Rattle.trellis.specs.Word.{Word, wordAt, joined}
 use Rattle.trellis.specs.Own.{Edge, edge}
-use Rattle.trellis.specs.Drawn.{Drawing, Path, DrawnFor}
+use Rattle.trellis.specs.Drawn.{Drawing, IsPath, DrawnFor}
 use Rattle.trellis.proofs.Labels.{front-by-symbols, back-by-symbols}
 use Rattle.trellis.proofs.Words.{word-in, beginning-eq, ending-eq, joined-is}
 
@@ -85,7 +85,7 @@ module _ (n : ℕ) (table : List Word) (D : Drawing) (H : DrawnFor n table D) wh
     abbrev symbols : ℕ → ℕ
     symbols = cut t (λ u. symbol n u (v .label)) (λ u. symbol n u (w .label))
 
-    crossing : Path n D (cut t x y) symbols
+    crossing : IsPath n D (cut t x y) symbols
     crossing = record { takes = λ u h. go u h (decLt u t) }
       where
         go : (u : ℕ) → u < n → Dec (u < t) → edge (cut t x y u) (symbols u) (cut t x y (suc u)) ∈ D .edges u

@@ -10,7 +10,7 @@ use native.Mathlib.Nat.{not-suc-le-zero, add-zero, add-suc, suc-add, zero-add, l
 use native.Mathlib.Decide.{ℕ-discrete, decLt}
 use lib.ListN.{length, getD}
 use lib.Dec.{T, ltb, eqb, eqb→eq, eqb-refl, ltb→lt, nltb→le}
-use Rattle.trellis.specs.Lists.{_∈_, run, each, sum, keep, first, isIn, one-if}
+use Rattle.trellis.specs.Lists.{_∈_, run, each, sum, sooner, first, isIn, one-if}
 use Rattle.trellis.proofs.Bools.{holds, fails}
 
 -- ---- runs
@@ -116,7 +116,7 @@ first-ok p (suc m) = go (ltb (first p m) m) (p m) refl refl (first-ok p m)
     split j r l f h (yes q) t = fails f (subst (λ z. T (p z)) q t)
     split j r l f h (no q) t = r .miss j (omega arith) t
 
-    go : (a b : Bool) → ltb (first p m) m ≡ a → p m ≡ b → First p m (first p m) → First p (suc m) (keep a b m (first p m))
+    go : (a b : Bool) → ltb (first p m) m ≡ a → p m ≡ b → First p m (first p m) → First p (suc m) (sooner a b m (first p m))
     go true b e f r = let h = ltb→lt (first p m) m (holds e) in record { most = omega arith; hit = λ z. r .hit h; miss = r .miss }
     go false true e f r =
         let h = nltb→le (first p m) m (subst (λ z. T (not z)) (sym e) tt) in

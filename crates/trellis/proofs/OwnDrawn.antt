@@ -13,7 +13,7 @@ use Rattle.trellis.specs.Lists.{_∈_, Once, run, each, rank, ascending}
 use Rattle.trellis.specs.Label.{symbol, front, back}
 use Rattle.trellis.specs.Word.{Word, wordAt, Table, beginning, ending, joined}
 use Rattle.trellis.specs.Own.{Edge, edge, edgeLess, key, keys, vertexOf, vertexCount, edgeOf, edgesAt}
-use Rattle.trellis.specs.Drawn.{Drawing, Path, Carries, PathOf, WordOf, Through, HasState, HasVertex, JustOne, DrawnFor}
+use Rattle.trellis.specs.Drawn.{Drawing, IsPath, Carries, PathOf, WordOf, Through, HasState, HasVertex, JustOne, DrawnFor}
 use Rattle.trellis.specs.Demand.{ours}
 use Rattle.trellis.proofs.Lists.{From, in-each, of-each, of-run, in-place}
 use Rattle.trellis.proofs.Ascending.{Ascends, numbers, ascends, once-of, in-ascending, of-ascending, rank-at}
@@ -101,7 +101,7 @@ module _ (n : ℕ) (table : List Word) (G : Table n table) (O : Numbering n tabl
   goal-at i h = key-at n table n i h ∙ key-goal n table i (G .some)
 
   -- the path of word i, which carries it
-  path-of : (i : ℕ) → i < length table → Path n (ours n table) (λ t. c t i) (λ t. symbolAt n table t i)
+  path-of : (i : ℕ) → i < length table → IsPath n (ours n table) (λ t. c t i) (λ t. symbolAt n table t i)
   path-of i h = record { takes = λ t l. edge-in n table t i h }
 
   carries-of : (i : ℕ) → i < length table → Carries n (ours n table) (λ t. c t i) (λ t. symbolAt n table t i) (wordAt table i)
@@ -115,7 +115,7 @@ module _ (n : ℕ) (table : List Word) (G : Table n table) (O : Numbering n tabl
     here : c t at ≡ x t
     spells : (u : ℕ) → u < t → a u ≡ symbolAt n table u at
 
-  module _ (x a : ℕ → ℕ) (P : Path n (ours n table) x a) where
+  module _ (x a : ℕ → ℕ) (P : IsPath n (ours n table) x a) where
     taken : (t : ℕ) → t < n → From (edgeOf n table t) (length table) (edge (x t) (a t) (x (suc t)))
     taken t l = edge-of n table t (edge (x t) (a t) (x (suc t))) (P .takes t l)
 
