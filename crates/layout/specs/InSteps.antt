@@ -46,19 +46,22 @@ steps-none m labels n old counts h = record {
   len = refl;
 }
 
+-- the rows of a step and the next are in the map
+pub rows-fit : {m labels : List ℕ} {n row t : ℕ} → SmallMap m labels n → row ≡ t * length labels → t < n → row + length labels + length labels ≤ suc n * length labels
+rows-fit {m} {labels} {n} {row} {t} S e h =
+    let p : suc (suc t) * length labels ≤ suc n * length labels = mul-le-mul-right (length labels) (omega arith) in
+    omega (arith, suc-mul t (length labels), suc-mul (suc t) (length labels))
+
 module _ {m labels : List ℕ} {n : ℕ} {old out counts : List ℕ} {at row t : ℕ} (S : SmallMap m labels n) (c : InSteps m labels n old out counts at row t) (h : t < n) where
-  -- the rows of this step and the next are in the map
-  rows-fit : row + length labels + length labels ≤ suc n * length labels
-  rows-fit =
-      let p : suc (suc t) * length labels ≤ suc n * length labels = mul-le-mul-right (length labels) (omega arith) in
-      omega (arith, c .row-is, suc-mul t (length labels), suc-mul (suc t) (length labels))
+  fit : row + length labels + length labels ≤ suc n * length labels
+  fit = rows-fit {m = m} S (c .row-is) h
 
   pub step-rows : SmallRows m labels row
   step-rows = record {
     words = S .words;
-    room = omega (arith, rows-fit, S .room);
-    from = λ i l. S .vertices (row + i) (omega (arith, rows-fit));
-    to = λ i l. S .vertices (row + length labels + i) (omega (arith, rows-fit));
+    room = omega (arith, fit, S .room);
+    from = λ i l. S .vertices (row + i) (omega (arith, fit));
+    to = λ i l. S .vertices (row + length labels + i) (omega (arith, fit));
   }
 
   row-low : row ≤ 7168

@@ -3,3 +3,4 @@ pub mod InTakers
 pub mod Pieces
 pub mod InPieces
 pub mod InSteps
+pub mod AllPieces

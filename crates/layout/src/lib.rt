@@ -6,7 +6,9 @@ ghost use Prim.Native.Nat.{ℕ, _+_, _-_, _*_, _<_, _≤_};
 ghost use lib.ListN.{length, getD, set};
 ghost use lib.Dec.{leb};
 ghost use Rattle.trellis.specs.Write.{Wrote};
-ghost use Rattle.layout.specs.Pieces.{SmallMap, AllTaken, part, pairsOf, symbolsOf, Words};
+ghost use Rattle.trellis.specs.Layout.{joinedUp};
+ghost use Rattle.layout.specs.Pieces.{SmallMap, AllTaken, stepTakers, part, pairsOf, symbolsOf, Words};
+ghost use Rattle.layout.specs.AllPieces.{Taken, stepPairs, stepSymbols};
 ghost use Rattle.layout.specs.Takers.{rowEdge, raised, takers, SmallRows, ArcOf};
 
 fn wide(x: u16) -> usize
@@ -163,6 +165,59 @@ fn put_symbols(
         section[to] = label::symbol(labels[i], n, t);
         to += 1;
         k += 1;
+    }
+    to
+}
+
+// The pairs of all steps' edges, one step behind another, from place `at` on. `words` and `counts` are what take_edges left.
+pub fn put_all_pairs(
+    words: &[u16],
+    counts: &[u16; 8],
+    n: usize,
+    labels: &[u16],
+    map: &[u16],
+    section: &mut [u16],
+    at: usize,
+) -> usize
+    requires { ⌜ SmallMap (now map) (now labels) n × Taken (now map) (now labels) n (now words) (now counts) × (at + 2 * length (joinedUp (stepTakers (now map) (now labels) n) n) ≤ length (now section)) ⌝ }
+    ensures { λ r. ⌜ Wrote (now (section .entry)) at (joinedUp (stepPairs (now (map .entry)) (now (labels .entry)) n) n) (now (section .exit)) r ⌝ }
+{
+    let w = labels.len();
+    let mut to = at;
+    let mut lo: usize = 0;
+    let mut row: usize = 0;
+    let mut t: usize = 0;
+    while t < n {
+        let count = wide(counts[t]);
+        to = put_pairs(words, lo, lo + count, map, row, w, section, to);
+        lo += count;
+        row += w;
+        t += 1;
+    }
+    to
+}
+
+// The symbols of all steps' edges, in the same order. The map is lent only for the contract to speak of: it decides the first words.
+pub fn put_all_symbols(
+    words: &[u16],
+    counts: &[u16; 8],
+    n: usize,
+    labels: &[u16],
+    map: &[u16],
+    section: &mut [u16],
+    at: usize,
+) -> usize
+    requires { ⌜ SmallMap (now map) (now labels) n × Taken (now map) (now labels) n (now words) (now counts) × (at + 1 * length (joinedUp (stepTakers (now map) (now labels) n) n) ≤ length (now section)) ⌝ }
+    ensures { λ r. ⌜ Wrote (now (section .entry)) at (joinedUp (stepSymbols (now (map .entry)) (now (labels .entry)) n) n) (now (section .exit)) r ⌝ }
+{
+    let mut to = at;
+    let mut lo: usize = 0;
+    let mut t: usize = 0;
+    while t < n {
+        let count = wide(counts[t]);
+        to = put_symbols(words, lo, lo + count, labels, n, t, section, to);
+        lo += count;
+        t += 1;
     }
     to
 }
