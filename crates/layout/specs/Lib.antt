@@ -4,3 +4,5 @@ pub mod Pieces
 pub mod InPieces
 pub mod InSteps
 pub mod AllPieces
+pub mod States
+pub mod InStates

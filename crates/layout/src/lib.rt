@@ -11,6 +11,8 @@ ghost use Rattle.layout.specs.Pieces.{SmallMap, AllTaken, stepTakers, pa
 ghost use Rattle.layout.specs.AllPieces.{Taken, stepPairs, stepSymbols};
 ghost use Rattle.layout.specs.Takers.{rowEdge, raised, takers, SmallRows, ArcOf};
 
+pub mod states;
+
 fn wide(x: u16) -> usize
     ensures { λ r. ⌜ r ≡ x ⌝ }
 {
