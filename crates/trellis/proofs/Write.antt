@@ -47,3 +47,10 @@ wrote-before {a} {b} {us} {at} {m} p j h = ap (λ l. getD l j 0) (p .new-is) ∙
 
 pub wrote-at : {a b us : List ℕ} {at m : ℕ} → Wrote a at us b m → at + length us ≤ length a → (k : ℕ) → k < length us → getD b (at + k) 0 ≡ getD us k 0
 wrote-at {a} {b} {us} {at} {m} p r k h = ap (λ l. getD l (at + k) 0) (p .new-is) ∙ sets-at us a at k h r
+
+sets-behind : (vs l : List ℕ) (i j : ℕ) → i + length vs ≤ j → getD (sets l i vs) j 0 ≡ getD l j 0
+sets-behind [] l i j h = refl
+sets-behind (v ∷ vs) l i j h = sets-behind vs (set l i v) (suc i) j (omega arith) ∙ getD-set-other l i j v 0 (λ e. omega arith)
+
+pub wrote-behind : {a b us : List ℕ} {at m : ℕ} → Wrote a at us b m → (j : ℕ) → at + length us ≤ j → getD b j 0 ≡ getD a j 0
+wrote-behind {a} {b} {us} {at} {m} p j h = ap (λ l. getD l j 0) (p .new-is) ∙ sets-behind us a at j h
