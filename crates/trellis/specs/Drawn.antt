@@ -17,7 +17,7 @@ pub record Drawing : Type 0 where
   pub goalOf : ℕ → ℕ
 
 -- the vertices x 0 .. x n and the symbols a 0 .. a (n - 1) are a path from depth 0 to depth n
-pub record Path (n : ℕ) (D : Drawing) (x a : ℕ → ℕ) : Type 0 where
+pub record IsPath (n : ℕ) (D : Drawing) (x a : ℕ → ℕ) : Type 0 where
   pub takes : (t : ℕ) → t < n → edge (x t) (a t) (x (suc t)) ∈ D .edges t
 
 -- the word that such a path carries is w: root state, the edges' symbols one by one, goal state
@@ -30,7 +30,7 @@ pub record Carries (n : ℕ) (D : Drawing) (x a : ℕ → ℕ) (w : Word) : Type
 pub record PathOf (n : ℕ) (D : Drawing) (w : Word) : Type 0 where
   pub x : ℕ → ℕ
   pub a : ℕ → ℕ
-  pub path : Path n D x a
+  pub path : IsPath n D x a
   pub carries : Carries n D x a w
 
 -- a word of the table that the path carries
@@ -43,7 +43,7 @@ pub record WordOf (n : ℕ) (D : Drawing) (table : List Word) (x a : ℕ → ℕ
 pub record Through (n : ℕ) (D : Drawing) (t v : ℕ) : Type 0 where
   pub x : ℕ → ℕ
   pub a : ℕ → ℕ
-  pub path : Path n D x a
+  pub path : IsPath n D x a
   pub passes : x t ≡ v
 
 -- a vertex of the list that stands for the state s
@@ -78,5 +78,5 @@ pub record DrawnFor (n : ℕ) (table : List Word) (D : Drawing) : Type 0 where
   -- every vertex is on a path
   pub onPath : (t v : ℕ) → t ≤ n → v ∈ D .vertices t → Through n D t v
   -- the paths carry the table's words, no more and no fewer
-  pub noMore : (x a : ℕ → ℕ) → Path n D x a → WordOf n D table x a
+  pub noMore : (x a : ℕ → ℕ) → IsPath n D x a → WordOf n D table x a
   pub noFewer : (w : Word) → w ∈ table → PathOf n D w

@@ -5,5 +5,7 @@ pub mod Word
 pub mod Own
 pub mod Drawn
 pub mod Demand
+pub mod Section
+pub mod Layout
 pub mod Witness
 pub mod Outcome

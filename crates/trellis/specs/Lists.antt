@@ -1,7 +1,7 @@
 -- Lists as the other definitions use them: membership, lists without repeats, ascending lists, places and counts.
 -- Everything here computes.
 use mathlib.Core.Path.{_≡_}
-use mathlib.Core.Bool.{Bool, true, false, _||_, _&&_}
+use mathlib.Core.Bool.{Bool, true, false, cond, _||_, _&&_}
 use mathlib.Core.List.{List, [], _∷_, List·Memᴰ}
 use Prim.Native.Nat.{ℕ, zero, suc, _+_, _<_}
 use lib.Dec.{ltb, eqb}
@@ -34,20 +34,25 @@ unfoldable pub sum : (ℕ → ℕ) → ℕ → ℕ → ℕ
 sum f at zero = 0
 sum f at (suc count) = f at + sum f (suc at) count
 
-abbrev pub keep : Bool → Bool → ℕ → ℕ → ℕ
-keep true b m k = k
-keep false true m k = m
-keep false false m k = suc m
+abbrev pub sooner : Bool → Bool → ℕ → ℕ → ℕ
+sooner true b m k = k
+sooner false true m k = m
+sooner false false m k = suc m
 
 -- the first number below m that passes the test, or m where none does
 unfoldable pub first : (ℕ → Bool) → ℕ → ℕ
 first test zero = 0
-first test (suc m) = let k = first test m in keep (ltb k m) (test m) m k
+first test (suc m) = let k = first test m in sooner (ltb k m) (test m) m k
 
 -- whether x stands in the list, where eq tells elements apart
 unfoldable pub isIn {ℓ} : {A : Type ℓ} → (A → A → Bool) → A → List A → Bool
 isIn eq x [] = false
 isIn eq x (y ∷ l) = eq x y || isIn eq x l
+
+-- the elements that pass a test, in their order
+unfoldable pub keep {ℓ} : {A : Type ℓ} → (A → Bool) → List A → List A
+keep test [] = []
+keep test (x ∷ l) = cond (test x) (x ∷ keep test l) (keep test l)
 
 -- how many numbers of the list are below s
 unfoldable pub rank : ℕ → List ℕ → ℕ

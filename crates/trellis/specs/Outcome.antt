@@ -10,6 +10,10 @@ pub record Outcome : Type 0 where
 abbrev pub outcome : ℕ → List ℕ → Outcome
 outcome k vs = record { number = k; values = vs }
 
+-- the section's length for merging, the file's length for reading back, the distance for decoding
+abbrev pub success : ℕ → Outcome
+success value = outcome 0 (value ∷ [])
+
 -- the file is under 5 bytes, or not 5 + 4W
 abbrev pub badLength : ℕ → Outcome
 badLength fileLength = outcome 1 (fileLength ∷ [])
@@ -26,6 +30,34 @@ badWord index = outcome 3 (index ∷ [])
 abbrev pub notAbove : ℕ → Outcome
 notAbove index = outcome 4 (index ∷ [])
 
+-- the map buffer is shorter than W·(n+1)
+abbrev pub shortMap : ℕ → Outcome
+shortMap needed = outcome 5 (needed ∷ [])
+
 -- the table is not rectangular at a depth, where words i, j, k force a missing one
 abbrev pub notRectangular : ℕ → ℕ → ℕ → ℕ → Outcome
 notRectangular depth i j k = outcome 6 (depth ∷ i ∷ j ∷ k ∷ [])
+
+-- the section buffer is shorter than the section
+abbrev pub shortSection : ℕ → Outcome
+shortSection needed = outcome 7 (needed ∷ [])
+
+-- K is outside its bounds, or a section is not usable, or numbers are left over
+abbrev pub badSection : ℕ → Outcome
+badSection index = outcome 8 (index ∷ [])
+
+-- a length, a state or a block of the frame is at fault
+abbrev pub badBlock : ℕ → Outcome
+badBlock block = outcome 9 (block ∷ [])
+
+-- a buffer is too short
+abbrev pub shortBuffer : ℕ → Outcome
+shortBuffer needed = outcome 10 (needed ∷ [])
+
+-- the chain has no path
+abbrev pub noPath : Outcome
+noPath = outcome 11 []
+
+-- reading back finds over 1,024 words
+abbrev pub tooManyWords : Outcome
+tooManyWords = outcome 12 []

@@ -1,12 +1,13 @@
 -- Why a table is refused: three of its words that force a fourth that it lacks. Everything here computes.
+use mathlib.Core.Path.{_≡_}
 use mathlib.Core.Bool.{Bool, true, false, _&&_, not}
 use mathlib.Core.List.{List}
-use Prim.Native.Nat.{ℕ, zero, suc, _-_}
+use Prim.Native.Nat.{ℕ, zero, suc, _-_, _≤_, _<_}
 use lib.ListN.{length}
 use lib.Dec.{eqb}
-use Rattle.trellis.specs.Lists.{isIn}
+use Rattle.trellis.specs.Lists.{_∈_, isIn}
 use Rattle.trellis.specs.Label.{front, back}
-use Rattle.trellis.specs.Word.{Word, wordAt, sameWord, joined}
+use Rattle.trellis.specs.Word.{Word, wordAt, sameWord, beginning, ending, joined}
 
 -- at depth t, words i, j, k are (a,c), (a,d), (b,c) with (b,d) missing; or there is nothing of the kind
 pub data Witness : Type 0 where
@@ -53,3 +54,21 @@ module _ (n : ℕ) (table : List Word) where
   -- the first witness: the smallest inner depth, then i, then j, then k
   unfoldable pub witness : Witness
   witness = firstOf (n - 1) 1 witnessAt
+
+-- ---- what a witness says
+
+-- at the inner depth t, words i, j, k of the table are (a,c), (a,d), (b,c), and (b,d) is missing
+pub record Refuted (n : ℕ) (table : List Word) (t i j k : ℕ) : Type 0 where
+  pub inner : (0 < t) × (t < n)
+  pub words : (i < length table) × (j < length table) × (k < length table)
+  pub begins : beginning n t (wordAt table i) ≡ beginning n t (wordAt table j)
+  pub ends : ending n t (wordAt table i) ≡ ending n t (wordAt table k)
+  pub missing : joined n t (wordAt table k) (wordAt table j) ∈ table → ⊥
+
+-- the first of these: the smallest depth, then i, then j, then k
+pub record FirstRefuted (n : ℕ) (table : List Word) (t i j k : ℕ) : Type 0 where
+  pub refuted : Refuted n table t i j k
+  pub depth : (t′ i′ j′ k′ : ℕ) → Refuted n table t′ i′ j′ k′ → t ≤ t′
+  pub firstI : (i′ j′ k′ : ℕ) → Refuted n table t i′ j′ k′ → i ≤ i′
+  pub firstJ : (j′ k′ : ℕ) → Refuted n table t i j′ k′ → j ≤ j′
+  pub firstK : (k′ : ℕ) → Refuted n table t i j k′ → k ≤ k′

@@ -1,0 +1,259 @@
+-- Ascending lists: putting the elements of a list in order, each once, keeps just the elements; and an element of an ascending list of numbers
+-- stands at its rank. Each follows along the list, for any strict order in which every two elements can be compared.
+use mathlib.Core.Path.{_≡_, refl, sym, ap, subst, _∙_}
+use mathlib.Core.Bool.{Bool, true, false, _&&_, _||_}
+use mathlib.Core.Logic.{_⊎_, inl, inr}
+use mathlib.Core.List.{List, [], _∷_, List·Memᴰ, List·Memᴰ·head, List·Memᴰ·tail, List·Memᴰ·not-nil, List·Memᴰ·cases-cons, Memᴰ·cast}
+use Prim.Native.Nat.{ℕ, zero, suc, _+_, _≤_, _<_}
+use native.Mathlib.Omega.{arith}
+use native.Mathlib.Nat.{zero-add}
+use native.Mathlib.Decide.{ℕ-discrete, decLt}
+use lib.ListN.{length, getD}
+use lib.Dec.{T, ltb, eqb, eqb→eq, eqb-refl, ltb→lt, lt→ltb}
+use Rattle.trellis.specs.Lists.{_∈_, Once, one-if, rank, placed, insert, ascending, Lower, byFirst, bySecond, byThird, lower, alike}
+use Rattle.trellis.proofs.Bools.{holds, fails, is-true, is-false, both, join, either, or-left, or-right}
+use Rattle.trellis.proofs.Lists.{in-place}
+
+-- a strict order by a test, in which every two elements can be compared
+pub record Orders {A : Type 0} (less : A → A → Bool) : Type 0 where
+  pub never : (x : A) → T (less x x) → ⊥
+  pub chain : (x y z : A) → T (less x y) → T (less y z) → T (less x z)
+  pub compare : (x y : A) → (T (less x y) → ⊥) → (T (less y x) → ⊥) → x ≡ y
+
+-- each element is less than all behind it
+abbrev pub Ascends : {A : Type 0} → (A → A → Bool) → List A → Type 0
+Ascends less [] = Unit {0}
+Ascends {A} less (x ∷ l) = ((y : A) → y ∈ l → T (less x y)) × Ascends less l
+
+module _ {A : Type 0} (less : A → A → Bool) (O : Orders less) where
+  pub once-of : (l : List A) → Ascends less l → Once l
+  once-of [] a = tt
+  once-of (x ∷ l) a = (λ m. O .never x (a .0 x m), once-of l (a .1))
+
+  -- ---- one element put in its place
+
+  module _ (x : A) where
+    pub in-insert : (z : A) (l : List A) → (z ≡ x) ⊎ (z ∈ l) → z ∈ insert less x l
+    unfolding insert
+    in-insert z [] (inl e) = List·Memᴰ·head e
+    in-insert z [] (inr m) = absurd (List·Memᴰ·not-nil m)
+    in-insert z (y ∷ l) h = go (less x y) (less y x) refl refl (in-insert z l) h
+      where
+        rest : (z ≡ x) ⊎ (z ∈ y ∷ l) → (z ≡ y) ⊎ ((z ≡ x) ⊎ (z ∈ l))
+        rest (inl e) = inr (inl e)
+        rest (inr m) = elim (List·Memᴰ·cases-cons m) [ inl e ↦ inl e | inr u ↦ inr (inr u) ]
+
+        go : (a b : Bool) → less x y ≡ a → less y x ≡ b → ((z ≡ x) ⊎ (z ∈ l) → z ∈ insert less x l) → (z ≡ x) ⊎ (z ∈ y ∷ l)
+            → z ∈ placed a b x y l (insert less x l)
+        go true b p q r (inl e) = List·Memᴰ·head e
+        go true b p q r (inr m) = List·Memᴰ·tail m
+        go false true p q r s = elim (rest s) [ inl e ↦ List·Memᴰ·head e | inr u ↦ List·Memᴰ·tail (r u) ]
+        go false false p q r (inl e) = List·Memᴰ·head (e ∙ O .compare x y (fails p) (fails q))
+        go false false p q r (inr m) = m
+
+    pub of-insert : (z : A) (l : List A) → z ∈ insert less x l → (z ≡ x) ⊎ (z ∈ l)
+    unfolding insert
+    of-insert z [] m = elim (List·Memᴰ·cases-cons m) [ inl e ↦ inl e | inr u ↦ inr u ]
+    of-insert z (y ∷ l) m = go (less x y) (less y x) (of-insert z l) m
+      where
+        later : (z ≡ x) ⊎ (z ∈ l) → (z ≡ x) ⊎ (z ∈ y ∷ l)
+        later (inl e) = inl e
+        later (inr u) = inr (List·Memᴰ·tail u)
+
+        go : (a b : Bool) → (z ∈ insert less x l → (z ≡ x) ⊎ (z ∈ l)) → z ∈ placed a b x y l (insert less x l) → (z ≡ x) ⊎ (z ∈ y ∷ l)
+        go true b r m = elim (List·Memᴰ·cases-cons m) [ inl e ↦ inl e | inr u ↦ inr u ]
+        go false true r m = elim (List·Memᴰ·cases-cons m) [ inl e ↦ inr (List·Memᴰ·head e) | inr u ↦ later (r u) ]
+        go false false r m = inr m
+
+    pub insert-ascends : (l : List A) → Ascends less l → Ascends less (insert less x l)
+    unfolding insert
+    insert-ascends [] a = (λ y m. absurd (List·Memᴰ·not-nil m), tt)
+    insert-ascends (y ∷ l) a = go (less x y) (less y x) refl refl (insert-ascends l (a .1))
+      where
+        front : T (less x y) → (z : A) → z ∈ y ∷ l → T (less x z)
+        front h z m = elim (List·Memᴰ·cases-cons m)
+            [ inl e ↦ subst (λ w. T (less x w)) (sym e) h | inr u ↦ O .chain x y z h (a .0 z u) ]
+
+        behind : T (less y x) → (z : A) → z ∈ insert less x l → T (less y z)
+        behind h z m = elim (of-insert z l m)
+            [ inl e ↦ subst (λ w. T (less y w)) (sym e) h | inr u ↦ a .0 z u ]
+
+        go : (p q : Bool) → less x y ≡ p → less y x ≡ q → Ascends less (insert less x l) → Ascends less (placed p q x y l (insert less x l))
+        go true q e f r = (front (holds e), a)
+        go false true e f r = (behind (holds f), r)
+        go false false e f r = a
+
+  -- ---- all elements put in order
+
+  pub in-ascending : (z : A) (l : List A) → z ∈ l → z ∈ ascending less l
+  unfolding ascending
+  in-ascending z [] m = m
+  in-ascending z (x ∷ l) m = go (in-ascending z l) (List·Memᴰ·cases-cons m)
+    where
+      go : (z ∈ l → z ∈ ascending less l) → (z ≡ x) ⊎ (z ∈ l) → z ∈ insert less x (ascending less l)
+      go r (inl e) = in-insert x z (ascending less l) (inl e)
+      go r (inr u) = in-insert x z (ascending less l) (inr (r u))
+
+  pub of-ascending : (z : A) (l : List A) → z ∈ ascending less l → z ∈ l
+  unfolding ascending
+  of-ascending z [] m = m
+  of-ascending z (x ∷ l) m = go (of-ascending z l) (of-insert x z (ascending less l) m)
+    where
+      go : (z ∈ ascending less l → z ∈ l) → (z ≡ x) ⊎ (z ∈ ascending less l) → z ∈ x ∷ l
+      go r (inl e) = List·Memᴰ·head e
+      go r (inr u) = List·Memᴰ·tail (r u)
+
+  pub ascends : (l : List A) → Ascends less (ascending less l)
+  unfolding ascending
+  ascends [] = tt
+  ascends (x ∷ l) = insert-ascends x (ascending less l) (ascends l)
+
+-- ---- numbers
+
+pub numbers : Orders ltb
+numbers = record {
+  never = λ x t. let h = ltb→lt x x t in omega arith;
+  chain = λ x y z s t. let h = ltb→lt x y s in let k = ltb→lt y z t in lt→ltb x z (omega arith);
+  compare = λ x y p q. numbers-compare x y (decLt x y) (decLt y x) p q;
+}
+  where
+    numbers-compare : (x y : ℕ) → Dec (x < y) → Dec (y < x) → (T (ltb x y) → ⊥) → (T (ltb y x) → ⊥) → x ≡ y
+    numbers-compare x y (yes h) b p q = absurd (p (lt→ltb x y h))
+    numbers-compare x y (no h) (yes k) p q = absurd (q (lt→ltb y x k))
+    numbers-compare x y (no h) (no k) p q = omega arith
+
+-- a number that is below the whole list has rank 0 there
+rank-none : (s : ℕ) (l : List ℕ) → ((y : ℕ) → y ∈ l → s ≤ y) → rank s l ≡ 0
+unfolding rank
+rank-none s [] h = refl
+rank-none s (x ∷ l) h = go (ltb x s) refl (rank-none s l (λ y m. h y (List·Memᴰ·tail m)))
+  where
+    go : (b : Bool) → ltb x s ≡ b → rank s l ≡ 0 → one-if b + rank s l ≡ 0
+    go true e r = let k = h x (List·Memᴰ·head refl) in let j = ltb→lt x s (holds e) in omega arith
+    go false e r = omega arith
+
+-- an element of an ascending list stands at its rank
+pub record Ranked (l : List ℕ) (s : ℕ) : Type 0 where
+  pub below : rank s l < length l
+  pub is : getD l (rank s l) 0 ≡ s
+
+pub ranked : (l : List ℕ) (s : ℕ) → Ascends ltb l → s ∈ l → Ranked l s
+unfolding rank
+ranked [] s a m = absurd (List·Memᴰ·not-nil m)
+ranked (x ∷ l) s a m = go (λ u. ranked l s (a .1) u) (List·Memᴰ·cases-cons m)
+  where
+    after : (y : ℕ) → y ∈ l → x < y
+    after y u = ltb→lt x y (a .0 y u)
+
+    here : s ≡ x → (b : Bool) → ltb x s ≡ b → rank s l ≡ 0 → (one-if b + rank s l < suc (length l)) × (getD (x ∷ l) (one-if b + rank s l) 0 ≡ s)
+    here e true f r = let k = ltb→lt x s (holds f) in absurd (omega arith)
+    here e false f r = let z : 0 + rank s l ≡ 0 = omega arith in (omega arith, rw z (sym e))
+
+    there : x < s → Ranked l s → (b : Bool) → ltb x s ≡ b → (one-if b + rank s l < suc (length l)) × (getD (x ∷ l) (one-if b + rank s l) 0 ≡ s)
+    there h r true f = let z : 1 + rank s l ≡ suc (rank s l) = omega arith in let k = r .below in (omega arith, rw z (r .is))
+    there h r false f = absurd (fails f (lt→ltb x s h))
+
+    go : (s ∈ l → Ranked l s) → (s ≡ x) ⊎ (s ∈ l) → Ranked (x ∷ l) s
+    go r (inl e) =
+        let p = here e (ltb x s) refl (rank-none s l (λ y u. let k = after y u in omega arith)) in
+        record { below = p .0; is = p .1 }
+    go r (inr u) =
+        let p = there (after s u) (r u) (ltb x s) refl in
+        record { below = p .0; is = p .1 }
+
+-- so equal ranks are of equal elements
+pub rank-same : (l : List ℕ) (s z : ℕ) → Ascends ltb l → s ∈ l → z ∈ l → rank s l ≡ rank z l → s ≡ z
+rank-same l s z a m k e = sym (ranked l s a m .is) ∙ ap (λ r. getD l r 0) e ∙ ranked l z a k .is
+
+-- and place v has the element of rank v
+pub rank-at : (l : List ℕ) (v : ℕ) → Ascends ltb l → v < length l → rank (getD l v 0) l ≡ v
+unfolding rank
+rank-at [] v a h = absurd (omega arith)
+rank-at (x ∷ l) zero a h = rank-none x (x ∷ l) (λ y m. go y (List·Memᴰ·cases-cons m))
+  where
+    go : (y : ℕ) → (y ≡ x) ⊎ (y ∈ l) → x ≤ y
+    go y (inl e) = omega arith
+    go y (inr u) = let k = ltb→lt x y (a .0 y u) in omega arith
+rank-at (x ∷ l) (suc v) a h = go (ltb x (getD l v 0)) refl (rank-at l v (a .1) (omega arith))
+  where
+    go : (b : Bool) → ltb x (getD l v 0) ≡ b → rank (getD l v 0) l ≡ v → one-if b + rank (getD l v 0) l ≡ suc v
+    go true e r = omega arith
+    go false e r = absurd (fails e (a .0 (getD l v 0) (in-at l v (omega arith))))
+      where
+        in-at : (k : List ℕ) (i : ℕ) → i < length k → getD k i 0 ∈ k
+        in-at k i q = in-place 0 k i q
+
+-- ---- three numbers
+
+module _ (a b c x y z : ℕ) where
+  pub lower-yes : T (lower a b c x y z) → Lower a b c x y z
+  unfolding lower
+  lower-yes t = elim (either (ltb a x) (eqb a x && (ltb b y || (eqb b y && ltb c z))) t)
+      [ inl h ↦ byFirst (ltb→lt a x h) | inr h ↦ second (both (eqb a x) (ltb b y || (eqb b y && ltb c z)) h) ]
+    where
+      third : a ≡ x → T (eqb b y) × T (ltb c z) → Lower a b c x y z
+      third e p = byThird e (eqb→eq b y (p .0)) (ltb→lt c z (p .1))
+
+      second : T (eqb a x) × T (ltb b y || (eqb b y && ltb c z)) → Lower a b c x y z
+      second p = elim (either (ltb b y) (eqb b y && ltb c z) (p .1))
+          [ inl h ↦ bySecond (eqb→eq a x (p .0)) (ltb→lt b y h) | inr h ↦ third (eqb→eq a x (p .0)) (both (eqb b y) (ltb c z) h) ]
+
+  pub lower-of : Lower a b c x y z → T (lower a b c x y z)
+  unfolding lower
+  lower-of (byFirst h) = or-left (ltb a x) _ (lt→ltb a x h)
+  lower-of (bySecond e h) = or-right (ltb a x) _ (join (eqb a x) _ (same e) (or-left (ltb b y) _ (lt→ltb b y h)))
+    where
+      same : a ≡ x → T (eqb a x)
+      same e = subst (λ k. T (eqb a k)) e (eqb-refl a)
+  lower-of (byThird e f h) = or-right (ltb a x) _ (join (eqb a x) _ (same e) (or-right (ltb b y) _ (join (eqb b y) _ (subst (λ k. T (eqb b k)) f (eqb-refl b)) (lt→ltb c z h))))
+    where
+      same : a ≡ x → T (eqb a x)
+      same e = subst (λ k. T (eqb a k)) e (eqb-refl a)
+
+pub lower-never : (a b c : ℕ) → Lower a b c a b c → ⊥
+lower-never a b c (byFirst h) = omega arith
+lower-never a b c (bySecond e h) = omega arith
+lower-never a b c (byThird e f h) = omega arith
+
+pub lower-chain : {a b c x y z u v w : ℕ} → Lower a b c x y z → Lower x y z u v w → Lower a b c u v w
+lower-chain (byFirst p) (byFirst q) = byFirst (omega arith)
+lower-chain (byFirst p) (bySecond q r) = byFirst (omega arith)
+lower-chain (byFirst p) (byThird q r s) = byFirst (omega arith)
+lower-chain (bySecond p i) (byFirst q) = byFirst (omega arith)
+lower-chain (bySecond p i) (bySecond q r) = bySecond (omega arith) (omega arith)
+lower-chain (bySecond p i) (byThird q r s) = bySecond (omega arith) (omega arith)
+lower-chain (byThird p i j) (byFirst q) = byFirst (omega arith)
+lower-chain (byThird p i j) (bySecond q r) = bySecond (omega arith) (omega arith)
+lower-chain (byThird p i j) (byThird q r s) = byThird (omega arith) (omega arith) (omega arith)
+
+-- equal in all three
+pub record Equal (a b c x y z : ℕ) : Type 0 where
+  pub firsts : a ≡ x
+  pub seconds : b ≡ y
+  pub thirds : c ≡ z
+
+pub lower-compare : (a b c x y z : ℕ) → (Lower a b c x y z → ⊥) → (Lower x y z a b c → ⊥) → Equal a b c x y z
+lower-compare a b c x y z p q =
+    let e : a ≡ x = equal a x (λ h. p (byFirst h)) (λ h. q (byFirst h)) in
+    let f : b ≡ y = equal b y (λ h. p (bySecond e h)) (λ h. q (bySecond (sym e) h)) in
+    record { firsts = e; seconds = f; thirds = equal c z (λ h. p (byThird e f h)) (λ h. q (byThird (sym e) (sym f) h)) }
+  where
+    equal : (i j : ℕ) → (i < j → ⊥) → (j < i → ⊥) → i ≡ j
+    equal i j r s = go (decLt i j) (decLt j i)
+      where
+        go : Dec (i < j) → Dec (j < i) → i ≡ j
+        go (yes h) d = absurd (r h)
+        go (no h) (yes k) = absurd (s k)
+        go (no h) (no k) = omega arith
+
+module _ (a b c x y z : ℕ) where
+  pub alike-yes : T (alike a b c x y z) → Equal a b c x y z
+  unfolding alike
+  alike-yes t =
+      let p = both (eqb a x) (eqb b y && eqb c z) t in
+      let q = both (eqb b y) (eqb c z) (p .1) in
+      record { firsts = eqb→eq a x (p .0); seconds = eqb→eq b y (q .0); thirds = eqb→eq c z (q .1) }
+
+pub alike-self : (a b c : ℕ) → T (alike a b c a b c)
+unfolding alike
+alike-self a b c = join (eqb a a) (eqb b b && eqb c c) (eqb-refl a) (join (eqb b b) (eqb c c) (eqb-refl b) (eqb-refl c))

@@ -1,0 +1,158 @@
+-- Laws of lists: what stands in a run of values, what `first` finds, what `isIn` tells.
+-- All by induction along the list or the run.
+use mathlib.Core.Path.{_≡_, refl, sym, ap, ap₂, subst, _∙_}
+use mathlib.Core.Bool.{Bool, true, false, not, _||_}
+use mathlib.Core.Logic.{_⊎_, inl, inr}
+use mathlib.Core.List.{List, [], _∷_, List·Memᴰ, List·Memᴰ·head, List·Memᴰ·tail, List·Memᴰ·not-nil, List·Memᴰ·cases-cons}
+use Prim.Native.Nat.{ℕ, zero, suc, _+_, _-_, _≤_, _<_}
+use native.Mathlib.Omega.{arith}
+use native.Mathlib.Nat.{not-suc-le-zero, add-zero, add-suc, suc-add, zero-add, le-antisymm, le-of-eq}
+use native.Mathlib.Decide.{ℕ-discrete, decLt}
+use lib.ListN.{length, getD}
+use lib.Dec.{T, ltb, eqb, eqb→eq, eqb-refl, ltb→lt, nltb→le}
+use Rattle.trellis.specs.Lists.{_∈_, run, each, sum, sooner, first, isIn, one-if}
+use Rattle.trellis.proofs.Bools.{holds, fails}
+
+-- ---- runs
+
+pub length-run : {A : Type 0} (f : ℕ → A) (at count : ℕ) → length (run f at count) ≡ count
+unfolding run
+length-run f at zero = refl
+length-run f at (suc count) = ap suc (length-run f (suc at) count)
+
+pub run-at : {A : Type 0} (f : ℕ → A) (at count k : ℕ) (d : A) → k < count → getD (run f at count) k d ≡ f (at + k)
+unfolding run
+run-at f at zero k d h = absurd (not-suc-le-zero h)
+run-at f at (suc count) zero d h = ap f (sym (add-zero at))
+run-at f at (suc count) (suc k) d h = run-at f (suc at) count k d (omega arith) ∙ ap f (rw (suc-add at k, add-suc at k))
+
+pub each-at : {A : Type 0} (f : ℕ → A) (count k : ℕ) (d : A) → k < count → getD (each f count) k d ≡ f k
+each-at f count k d h = run-at f 0 count k d h ∙ ap f (zero-add k)
+
+-- a value of f below a count
+pub record From {A : Type 0} (f : ℕ → A) (count : ℕ) (x : A) : Type 0 where
+  pub at : ℕ
+  pub below : at < count
+  pub is : x ≡ f at
+
+pub in-run : {A : Type 0} (f : ℕ → A) (at count k : ℕ) (x : A) → k < count → x ≡ f (at + k) → x ∈ run f at count
+unfolding run
+in-run f at zero k x h e = absurd (not-suc-le-zero h)
+in-run f at (suc count) zero x h e = List·Memᴰ·head (e ∙ ap f (add-zero at))
+in-run f at (suc count) (suc k) x h e = List·Memᴰ·tail (in-run f (suc at) count k x (omega arith) (e ∙ ap f (rw (suc-add at k, add-suc at k))))
+
+pub in-each : {A : Type 0} (f : ℕ → A) (count k : ℕ) (x : A) → k < count → x ≡ f k → x ∈ each f count
+in-each f count k x h e = in-run f 0 count k x h (e ∙ ap f (sym (zero-add k)))
+
+pub of-run : {A : Type 0} (f : ℕ → A) (at count : ℕ) (x : A) → x ∈ run f at count → From (λ k. f (at + k)) count x
+unfolding run
+of-run f at zero x m = absurd (List·Memᴰ·not-nil m)
+of-run {A} f at (suc count) x m = go (of-run f (suc at) count x) (List·Memᴰ·cases-cons m)
+  where
+    go : (x ∈ run f (suc at) count → From (λ k. f (suc at + k)) count x) → (x ≡ f at) ⊎ (x ∈ run f (suc at) count) → From (λ k. f (at + k)) (suc count) x
+    go r (inl e) = record { at = 0; below = omega arith; is = e ∙ ap f (sym (add-zero at)) }
+    go r (inr u) = let w = r u in record { at = suc (w .at); below = omega arith; is = w .is ∙ ap f (rw (suc-add at (w .at), add-suc at (w .at))) }
+
+pub of-each : {A : Type 0} (f : ℕ → A) (count : ℕ) (x : A) → x ∈ each f count → From f count x
+of-each f count x m = let w = of-run f 0 count x m in record { at = w .at; below = w .below; is = w .is ∙ ap f (zero-add (w .at)) }
+
+-- ---- places
+
+-- an element's place in its list
+pub record Place {A : Type 0} (d : A) (l : List A) (x : A) : Type 0 where
+  pub at : ℕ
+  pub below : at < length l
+  pub is : getD l at d ≡ x
+
+pub in-place : {A : Type 0} (d : A) (l : List A) (i : ℕ) → i < length l → getD l i d ∈ l
+in-place d [] i h = absurd (not-suc-le-zero h)
+in-place d (x ∷ l) zero h = List·Memᴰ·head refl
+in-place d (x ∷ l) (suc i) h = List·Memᴰ·tail (in-place d l i (omega arith))
+
+pub place-of : {A : Type 0} (d : A) (l : List A) (x : A) → x ∈ l → Place d l x
+place-of d [] x m = absurd (List·Memᴰ·not-nil m)
+place-of {A} d (y ∷ l) x m = go (place-of d l x) (List·Memᴰ·cases-cons m)
+  where
+    go : (x ∈ l → Place d l x) → (x ≡ y) ⊎ (x ∈ l) → Place d (y ∷ l) x
+    go r (inl e) = record { at = 0; below = omega arith; is = sym e }
+    go r (inr u) = let w = r u in record { at = suc (w .at); below = omega arith; is = w .is }
+
+-- ---- membership by a test
+
+module _ {A : Type 0} (eq : A → A → Bool) (ok : (x y : A) → T (eq x y) → x ≡ y) (rf : (x : A) → T (eq x x)) where
+  pub in-yes : (x : A) (l : List A) → T (isIn eq x l) → x ∈ l
+  unfolding isIn
+  in-yes x [] t = absurd t
+  in-yes x (y ∷ l) t = go (eq x y) (ok x y) (in-yes x l) t
+    where
+      go : (b : Bool) → (T b → x ≡ y) → (T (isIn eq x l) → x ∈ l) → T (b || isIn eq x l) → x ∈ y ∷ l
+      go true h r u = List·Memᴰ·head (h tt)
+      go false h r u = List·Memᴰ·tail (r u)
+
+  pub in-of : (x : A) (l : List A) → x ∈ l → T (isIn eq x l)
+  unfolding isIn
+  in-of x [] m = absurd (List·Memᴰ·not-nil m)
+  in-of x (y ∷ l) m = go (eq x y) (λ e. subst (λ z. T (eq x z)) e (rf x)) (in-of x l) (List·Memᴰ·cases-cons m)
+    where
+      go : (b : Bool) → (x ≡ y → T b) → (x ∈ l → T (isIn eq x l)) → (x ≡ y) ⊎ (x ∈ l) → T (b || isIn eq x l)
+      go true h r u = tt
+      go false h r (inl e) = absurd (h e)
+      go false h r (inr u) = r u
+
+-- ---- the first number that passes a test
+
+-- k is the first number below m that passes, or m where none does
+pub record First (test : ℕ → Bool) (m k : ℕ) : Type 0 where
+  pub most : k ≤ m
+  pub hit : k < m → T (test k)
+  pub miss : (j : ℕ) → j < k → T (test j) → ⊥
+
+pub first-ok : (test : ℕ → Bool) (m : ℕ) → First test m (first test m)
+unfolding first
+first-ok p zero = record { most = omega arith; hit = λ h. absurd (not-suc-le-zero h); miss = λ j h t. not-suc-le-zero h }
+first-ok p (suc m) = go (ltb (first p m) m) (p m) refl refl (first-ok p m)
+  where
+    split : (j : ℕ) → First p m (first p m) → m ≤ first p m → p m ≡ false → j < suc m → Dec (j ≡ m) → T (p j) → ⊥
+    split j r l f h (yes q) t = fails f (subst (λ z. T (p z)) q t)
+    split j r l f h (no q) t = r .miss j (omega arith) t
+
+    go : (a b : Bool) → ltb (first p m) m ≡ a → p m ≡ b → First p m (first p m) → First p (suc m) (sooner a b m (first p m))
+    go true b e f r = let h = ltb→lt (first p m) m (holds e) in record { most = omega arith; hit = λ z. r .hit h; miss = r .miss }
+    go false true e f r =
+        let h = nltb→le (first p m) m (subst (λ z. T (not z)) (sym e) tt) in
+        record { most = omega arith; hit = λ z. holds f; miss = λ j z t. r .miss j (omega arith) t }
+    go false false e f r =
+        let h = nltb→le (first p m) m (subst (λ z. T (not z)) (sym e) tt) in
+        record { most = omega arith; hit = λ z. absurd (omega arith); miss = λ j z t. split j r h f z (ℕ-discrete j m) t }
+
+-- there is only one such number
+pub first-is : (test : ℕ → Bool) (m k : ℕ) → First test m k → first test m ≡ k
+first-is p m k s = go (first p m) (first-ok p m) (decLt (first p m) k) (decLt k (first p m))
+  where
+    go : (j : ℕ) → First p m j → Dec (j < k) → Dec (k < j) → j ≡ k
+    go j r (yes a) b = absurd (s .miss j a (r .hit (omega (arith, s .most))))
+    go j r (no a) (yes b) = absurd (r .miss k b (s .hit (omega (arith, r .most))))
+    go j r (no a) (no b) = omega arith
+
+-- ---- sums
+
+pub sum-add : (f g : ℕ → ℕ) (t k : ℕ) → sum (λ u. f u + g u) t k ≡ sum f t k + sum g t k
+unfolding sum
+sum-add f g t zero = refl
+sum-add f g t (suc k) = let h = sum-add f g (suc t) k in omega arith
+
+pub sum-le : (f g : ℕ → ℕ) (t k : ℕ) → ((u : ℕ) → t ≤ u → u < t + k → f u ≤ g u) → sum f t k ≤ sum g t k
+unfolding sum
+sum-le f g t zero h = omega arith
+sum-le f g t (suc k) h =
+    let r : sum f (suc t) k ≤ sum g (suc t) k = sum-le f g (suc t) k (λ u a b. h u (omega arith) (omega arith)) in
+    let e = h t (omega arith) (omega arith) in
+    omega arith
+
+pub sum-eq : (f g : ℕ → ℕ) (t k : ℕ) → ((u : ℕ) → t ≤ u → u < t + k → f u ≡ g u) → sum f t k ≡ sum g t k
+sum-eq f g t k h = le-antisymm (sum-le f g t k (λ u a b. le-of-eq (h u a b))) (sum-le g f t k (λ u a b. le-of-eq (sym (h u a b))))
+
+pub sum-suc : (f : ℕ → ℕ) (t k : ℕ) → sum (λ u. f (suc u)) t k ≡ sum f (suc t) k
+unfolding sum
+sum-suc f t zero = refl
+sum-suc f t (suc k) = let h = sum-suc f (suc t) k in omega arith
