@@ -1,0 +1,5 @@
+pub mod Takers
+pub mod InTakers
+pub mod Pieces
+pub mod InPieces
+pub mod InSteps
