@@ -1,0 +1,2 @@
+pub mod OuterRows
+pub mod SectionParts
