@@ -1,2 +1,3 @@
 pub mod OuterRows
 pub mod SectionParts
+pub mod Whole
