@@ -35,6 +35,9 @@ before-none test w = record { le = omega arith; none = λ x h. absurd (omega ari
 pub before-more : {test : ℕ → ℕ → ℕ → Bool} {w i : ℕ} → NoneBefore test w i → i < w → NoneFrom test w i → NoneBefore test w (i + 1)
 before-more {test} {w} {i} c h n = record { le = omega arith; none = upto-next (NoneFrom test w) i (c .none) n }
 
+pub next-start : {test : ℕ → ℕ → ℕ → Bool} {w i : ℕ} → NoneBefore test w i → Next test w i i
+next-start c = record { from = omega arith; before = c }
+
 pub next-none : {test : ℕ → ℕ → ℕ → Bool} {w low i : ℕ} → Next test w low i → i < w → NoneFrom test w i → Next test w low (i + 1)
 next-none {test} {w} {low} {i} c h n = record { from = omega (arith, c .from); before = before-more (c .before) h n }
 
