@@ -25,13 +25,7 @@ fn in_run(starts: &[u16; 1024], w: usize, a: u16, l: usize) -> bool
 }
 
 // Whether the run of k has the ending of j.
-fn has_ending(
-    starts: &[u16; 1024],
-    firsts: &[u16; 1024],
-    w: usize,
-    k: usize,
-    j: usize,
-) -> bool
+fn has_ending(starts: &[u16; 1024], firsts: &[u16; 1024], w: usize, k: usize, j: usize) -> bool
     requires { ⌜ SearchRows w (now starts) (now firsts) × (k < w) × (j < w) ⌝ }
     ensures { λ r. ⌜ r ≡ hasEnding (now (starts .entry)) (now (firsts .entry)) w k j ⌝ }
 {
@@ -77,13 +71,7 @@ fn more_if_equal(j: usize, x: u16, y: u16) -> usize
 }
 
 // True only if each ending of i's run is in k's. Endings ascend along a run, so one walk along both runs tells.
-fn run_within(
-    starts: &[u16; 1024],
-    firsts: &[u16; 1024],
-    w: usize,
-    i: usize,
-    k: usize,
-) -> bool
+fn run_within(starts: &[u16; 1024], firsts: &[u16; 1024], w: usize, i: usize, k: usize) -> bool
     requires { ⌜ SearchRows w (now starts) (now firsts) × (i < w) × (k < w) ⌝ }
     ensures { λ r. ⌜ (r ≡ true → Within (now (starts .entry)) (now (firsts .entry)) w i k) ⌝ }
 {
@@ -104,13 +92,7 @@ fn run_within(
 }
 
 // True only if k has another ending than i, or each ending of i's run is in k's.
-fn within_if_alike(
-    starts: &[u16; 1024],
-    firsts: &[u16; 1024],
-    w: usize,
-    i: usize,
-    k: usize,
-) -> bool
+fn within_if_alike(starts: &[u16; 1024], firsts: &[u16; 1024], w: usize, i: usize, k: usize) -> bool
     requires { ⌜ SearchRows w (now starts) (now firsts) × (i < w) × (k < w) ⌝ }
     ensures { λ r. ⌜ (r ≡ true → at (now (firsts .entry)) i ≡ at (now (firsts .entry)) k → Within (now (starts .entry)) (now (firsts .entry)) w i k) ⌝ }
 {

@@ -1,53 +1,59 @@
+-- `witness::find_witness` meets its contract. The loop keeps that the row tells the endings at depth u apart; at depth t the rows' first triple is the witness.
+use native.Mathlib.Omega.{arith}
+use borrow.Author.Needs.{needs}
+use Rattle.depths.proofs.Goals.{goal-row}
+use Rattle.witness.proofs.Words.{InRows, rows-none, rows-small, rows-more, rows-are, rows-witness}
 use Rattle.witness.proofs.find_witness.Statement.{statement}
 use Rattle.witness.proofs.find_witness.Tie as tie
-use Rattle.witness.proofs.find_witness.Reads as reads
-use Rattle.witness.proofs.find_witness.Lts as lts
-use Rattle.depths.proofs.put_firsts.Reads as put-firsts-reads
-use Rattle.depths.proofs.put_goals.Reads as put-goals-reads
-use Rattle.depths.proofs.put_starts.Reads as put-starts-reads
-use Rattle.witness.proofs.first_witness.Reads as first-witness-reads
 
 abbrev Inv-loop : tie.InvT-loop
-Inv-loop roots labels goals n t starts row₀ u₀ row u = ?
+Inv-loop roots labels goals n t starts row₀ u₀ row u = InRows n t roots labels goals row u
 
 abbrev μ-loop : tie.MeasureT-loop
-μ-loop roots labels goals n t starts row₀ u₀ row u = ?
+μ-loop roots labels goals n t starts row₀ u₀ row u = u
 
--- src/lib.rt:190:5
 put-starts-requires : tie.Need-put-starts-requires Inv-loop μ-loop
-put-starts-requires c κs = ?
+put-starts-requires c κs = search needs
 
--- src/lib.rt:192:5
 put-goals-requires : tie.Need-put-goals-requires Inv-loop μ-loop
-put-goals-requires c κs = ?
+put-goals-requires c κs = search needs
 
--- src/lib.rt:194:5
 loop-holds : tie.Need-loop-holds Inv-loop μ-loop
-loop-holds c = ?
+loop-holds c =
+    let entry = c .before .before .before .before .before .before .before in
+    rows-none (entry .pre) (goal-row (entry .pre .held) (c .put-goals .ensures))
 
--- src/lib.rt:195:9
 sub-u : tie.Need-sub-u Inv-loop μ-loop
-sub-u c = ?
+sub-u c = search needs
 
--- src/lib.rt:196:9
 put-firsts-requires : tie.Need-put-firsts-requires Inv-loop μ-loop
-put-firsts-requires c κs = ?
+put-firsts-requires c κs =
+    let turn = c .before .before in
+    let entry = turn .before .before .before .before .before .before .before .before in
+    (omega (arith, entry .pre .held .few, entry .pre .held .labelled), rows-small (entry .pre) (turn .loop .inv))
 
--- src/lib.rt:194:5
 loop-less : tie.Need-loop-less Inv-loop μ-loop
-loop-less c = ?
+loop-less c = search needs
 
--- src/lib.rt:194:5
 loop-again : tie.Need-loop-again Inv-loop μ-loop
-loop-again c = ?
+loop-again c =
+    let turn = c .before .before .before in
+    let entry = turn .before .before .before .before .before .before .before .before in
+    rows-more (entry .pre) (turn .loop .inv) (c .put-firsts .ensures) (search needs)
 
--- src/lib.rt:198:5
 first-witness-requires : tie.Need-first-witness-requires Inv-loop μ-loop
-first-witness-requires c κs = ?
+first-witness-requires c κs =
+    let turn = c .before .before .before in
+    let at-starts = turn .before .before .before in
+    let entry = at-starts .before .before .before .before .before in
+    rows-are (entry .pre) (at-starts .put-starts .ensures) (turn .loop .inv) (search needs)
 
--- src/lib.rt:185:1
 returns : tie.Need-returns Inv-loop μ-loop
-returns c = ?
+returns c =
+    let turn = c .before .before .before .before in
+    let at-starts = turn .before .before .before in
+    let entry = at-starts .before .before .before .before .before in
+    rows-witness (entry .pre) (at-starts .put-starts .ensures) (turn .loop .inv) (search needs) (c .first-witness .result) (c .first-witness .ensures)
 
 pub find-witness-spec : {M : Type 1} → statement M
 find-witness-spec =
