@@ -75,6 +75,9 @@ ending-no starts firsts w k j h = any-none (λ l. eqb (at starts l) (at starts k
     let p = both (eqb (at starts l) (at starts k)) (eqb (at firsts l) (at firsts j)) u in
     h l b (eqb→eq (at starts l) (at starts k) (p .0)) (eqb→eq (at firsts l) (at firsts j) (p .1))))
 
+pub ending-own : (starts firsts : List ℕ) (w k j : ℕ) → j < w → at starts j ≡ at starts k → true ≡ hasEnding starts firsts w k j
+ending-own starts firsts w k j h e = sym (ending-yes (record { place = j; below = h; begins = e; ends = refl }))
+
 -- ---- words of a run
 
 pub run-yes : (starts : List ℕ) (w a l : ℕ) → inRun starts w a l ≡ true → (l < w) × (at starts l ≡ a)

@@ -90,12 +90,14 @@ pub record InAlike (starts firsts : List ℕ) (w i k : ℕ) : Type 0 where
   pub kLe : k ≤ w
   pub soFar : (x : ℕ) → x < k → at firsts i ≡ at firsts x → Within starts firsts w i x
 
--- where i is the first word with its ending, none before has it
-pub alike-none : {starts firsts : List ℕ} {w i first : ℕ} → SearchRows w starts firsts → i < w → first ≡ at firsts i → i ≤ first → InAlike starts firsts w i i
+-- where i is the first word with its ending, none before has it; and i's run has its own endings
+pub alike-none : {starts firsts : List ℕ} {w i first : ℕ} → SearchRows w starts firsts → i < w → first ≡ at firsts i → i ≤ first → InAlike starts firsts w i (i + 1)
 alike-none {starts} {firsts} {w} {i} {first} R h e f = record {
   from = omega arith;
   kLe = omega arith;
-  soFar = λ x p q. absurd (omega (arith, R .firstLe x (omega arith)));
+  soFar = upto-next (λ x. at firsts i ≡ at firsts x → Within starts firsts w i x) i
+      (λ x p q. absurd (omega (arith, R .firstLe x (omega arith))))
+      (λ q j p s. ending-yes (record { place = j; below = p; begins = s; ends = refl }));
 }
 
 pub alike-more : {starts firsts : List ℕ} {w i k : ℕ} → InAlike starts firsts w i k → (at firsts i ≡ at firsts k → Within starts firsts w i k) → k < w

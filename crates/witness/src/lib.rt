@@ -24,12 +24,15 @@ fn in_run(starts: &[u16; 1024], w: usize, a: u16, l: usize) -> bool
     l < w && starts[l] == a
 }
 
-// Whether the run of k has the ending of j.
+// Whether the run of k has the ending of j. If j is of that run, it has.
 fn has_ending(starts: &[u16; 1024], firsts: &[u16; 1024], w: usize, k: usize, j: usize) -> bool
     requires { ⌜ SearchRows w (now starts) (now firsts) × (k < w) × (j < w) ⌝ }
     ensures { λ r. ⌜ r ≡ hasEnding (now (starts .entry)) (now (firsts .entry)) w k j ⌝ }
 {
     let a = starts[k];
+    if starts[j] == a {
+        return true;
+    }
     let x = firsts[j];
     let mut l = depths::wide(a);
     while in_run(starts, w, a, l) {
@@ -112,7 +115,7 @@ fn begins_none(starts: &[u16; 1024], firsts: &[u16; 1024], w: usize, i: usize) -
     if first < i {
         return run_within(starts, firsts, w, i, first);
     }
-    let mut k = i;
+    let mut k = i + 1;
     while k < w {
         if !within_if_alike(starts, firsts, w, i, k) {
             return false;

@@ -31,6 +31,9 @@ returns c =
     let entry = at-wide .before .before in
     λ e B. earlier-none (entry .pre .0) (entry .pre .1) (at-wide .wide .ensures) (c .before .if1 .taken) (c .run-within .ensures e) B
 
+add-k : tie.Need-add-k Inv-loop μ-loop
+add-k c = search needs
+
 loop-holds : tie.Need-loop-holds Inv-loop μ-loop
 loop-holds c =
     let at-wide = c .before in
@@ -43,8 +46,8 @@ within-if-alike-requires c κs = search needs
 returns-2 : tie.Need-returns-2 Inv-loop μ-loop
 returns-2 c = λ e B. no-claim e
 
-add-k : tie.Need-add-k Inv-loop μ-loop
-add-k c = search needs
+add-k-2 : tie.Need-add-k-2 Inv-loop μ-loop
+add-k-2 c = search needs
 
 loop-less : tie.Need-loop-less Inv-loop μ-loop
 loop-less c = search needs
@@ -66,10 +69,11 @@ begins-none-spec =
     wide-requires
     run-within-requires
     returns
+    add-k
     loop-holds
     within-if-alike-requires
     returns-2
-    add-k
+    add-k-2
     loop-less
     loop-again
     returns-3)
