@@ -1,6 +1,6 @@
 -- A table cut at depth t, in numbers. The number of a beginning is the root followed by t symbols, so numbers are equal exactly if beginnings are, by one division
 -- with remainder; endings alike. The order of words is that of their beginnings and then of their endings. So what is said of the numbers is said of the words.
-use mathlib.Core.Path.{_≡_, refl, sym, ap, ap₂, subst, _∙_}
+use mathlib.Core.Path.{_≡_, sym, ap, ap₂, subst, _∙_}
 use mathlib.Core.List.{List, [], _∷_}
 use Prim.Native.Nat.{ℕ, zero, suc, _+_, _-_, _*_, _/_, _%_, _^_, _≤_, _<_}
 use native.Mathlib.Omega.{arith}

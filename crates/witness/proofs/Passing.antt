@@ -1,6 +1,6 @@
 -- Why a word i may be passed over. No witness begins with i if the run of every word with i's ending has all endings of i's run. That is so too where it is so of
 -- the first word with i's ending, and its run has all endings of i's run: then i's endings are endings of that word's run, which the other runs have.
-use mathlib.Core.Path.{_≡_, refl, sym, ap, subst, _∙_}
+use mathlib.Core.Path.{_≡_, refl, sym, ap, _∙_}
 use mathlib.Core.Bool.{Bool, true, false, not}
 use mathlib.Core.List.{List}
 use Prim.Native.Nat.{ℕ, _+_, _≤_, _<_}
@@ -11,10 +11,10 @@ use borrow.Author.Tests.{eq-eqb, ne-eqb}
 use Rattle.trellis.specs.Lists.{one-if}
 use Rattle.depths.specs.Rows.{at}
 use Rattle.depths.proofs.Places.{upto-next}
-use Rattle.witness.specs.Search.{NoneAt, NoneFrom, NoneBefore}
+use Rattle.witness.specs.Search.{NoneFrom, NoneBefore}
 use Rattle.witness.specs.Rows.{SearchRows, inRun, hasEnding, refutesIn, Within}
 use Rattle.witness.proofs.Search.{InJ, InK}
-use Rattle.witness.proofs.Endings.{Ends, ending-yes, ending-of, run-yes, run-no, refutes-begin, refutes-end, refutes-last}
+use Rattle.witness.proofs.Endings.{ending-yes, ending-of, run-yes, run-no, refutes-begin, refutes-end, refutes-last}
 
 pub no-claim : {A : Type 0} → false ≡ true → A
 no-claim e = absurd (let z : _≡_ {A = ℕ} 0 1 = cc in omega arith)

@@ -1,6 +1,6 @@
 -- The nested search over i, j, k. Each loop keeps that no triple before the present one passes. A first triple that passes is what the nested searches of the
 -- definition find: each search over a range gives the first place where there is something, and so its triple.
-use mathlib.Core.Path.{_≡_, refl, sym, ap, subst, _∙_}
+use mathlib.Core.Path.{_≡_, refl, sym, ap, _∙_}
 use mathlib.Core.Bool.{Bool, true, false}
 use mathlib.Core.List.{List}
 use Prim.Native.Nat.{ℕ, zero, suc, _+_, _≤_, _<_}
@@ -11,7 +11,7 @@ use Rattle.trellis.specs.Word.{Word}
 use Rattle.trellis.specs.Witness.{found, nothing, refutes, orElse, when, firstOf, overK, overJ, witnessAt}
 use Rattle.trellis.specs.Witness as trellis
 use Rattle.depths.proofs.Places.{upto-next}
-use Rattle.witness.specs.Search.{asWitness, NoneAt, NoneFrom, NoneBefore, FirstAt, FirstIn, Next}
+use Rattle.witness.specs.Search.{asWitness, NoneAt, NoneFrom, NoneBefore, FirstIn, Next}
 use Rattle.witness.specs.declared.Witness.{Witness}
 use Rattle.witness.specs.declared.Witness.the-variants.{At, Nothing}
 

@@ -1,13 +1,12 @@
 -- What the rows say of the words. Words have one run start exactly if they begin alike, and one number in the row of first words exactly if they end alike; and the
 -- run of k has the ending of j exactly if the joined word is in the table. So the rows' test is the definition's.
-use mathlib.Core.Path.{_≡_, refl, sym, ap, ap₂, subst, _∙_}
-use mathlib.Core.Bool.{Bool, true, false, _&&_, not}
+use mathlib.Core.Path.{_≡_, sym, ap, ap₂, subst, _∙_}
+use mathlib.Core.Bool.{_&&_, not}
 use mathlib.Core.Logic.{_↔_}
 use mathlib.Core.List.{List}
-use Prim.Native.Nat.{ℕ, suc, _+_, _-_, _≤_, _<_}
+use Prim.Native.Nat.{ℕ, suc, _-_, _≤_, _<_}
 use native.Mathlib.Omega.{arith}
 use lib.ListN.{length}
-use lib.Dec.{eqb}
 use Rattle.trellis.specs.Lists.{isIn}
 use Rattle.trellis.specs.Word.{Word, wordAt, sameWord, Table, joined}
 use Rattle.trellis.specs.Witness.{refutes, witnessAt}
@@ -19,7 +18,7 @@ use Rattle.runs.specs.Cuts.{beginningAt, endingAt, stepKey}
 use Rattle.runs.proofs.FirstLike.{test-eq, eqb-iff, like-le, like-is, like-eq, like-twice}
 use Rattle.runs.proofs.Runs.{start-mono}
 use Rattle.runs.proofs.Cuts.{cut, begins-eq, ends-eq, shared-joined, joined-shared}
-use Rattle.depths.specs.Words.{words, Held}
+use Rattle.depths.specs.Words.{words}
 use Rattle.depths.specs.Rows.{at, Row, Small, joins, runStart, rowKey}
 use Rattle.depths.specs.Merge.{EndingRow}
 use Rattle.depths.proofs.Words.{held-length}
@@ -29,7 +28,7 @@ use Rattle.witness.specs.Search.{asWitness, FirstIn}
 use Rattle.witness.specs.Rows.{Asked, SearchRows, hasEnding, refutesIn}
 use Rattle.witness.specs.declared.Witness.{Witness}
 use Rattle.witness.proofs.Search.{first-cong, first-is}
-use Rattle.witness.proofs.Endings.{Ends, ending-yes, ending-of}
+use Rattle.witness.proofs.Endings.{ending-yes, ending-of}
 
 -- ---- the rows' test is the definition's
 

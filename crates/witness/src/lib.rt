@@ -2,7 +2,7 @@
 // Promised: the answer is the witness of the definition, by i, then j, then k.
 ghost use mathlib.Core.Path.{_≡_};
 ghost use mathlib.Core.Bool.{true};
-ghost use Prim.Native.Nat.{ℕ, _+_, _<_, _≤_};
+ghost use Prim.Native.Nat.{_+_, _<_, _≤_};
 ghost use lib.Dec.{eqb};
 ghost use Rattle.trellis.specs.Lists.{one-if};
 ghost use Rattle.trellis.specs.Witness.{witnessAt};
