@@ -25,6 +25,11 @@ left o map section = record { answer = o; map = map; section = section }
 abbrev pub over : List ℕ → List ℕ → List ℕ
 over vs buffer = vs ++ drop (length vs) buffer
 
+-- refusal 6, as a witness gives it
+abbrev pub refusalOf : Witness → Outcome
+refusalOf (found t i j k) = notRectangular t i j k
+refusalOf nothing = notRectangular 0 0 0 0
+
 -- document 01's map: at place t·W + i the vertex of word i at depth t
 unfoldable pub mapOf : ℕ → List Word → List ℕ
 mapOf n table = joinedUp (λ t. each (vertexOf n table t) (length table)) (suc n)
