@@ -2,7 +2,7 @@
 -- Everything here computes.
 use mathlib.Core.Bool.{Bool, true, false, cond}
 use mathlib.Core.List.{List, _++_}
-use Prim.Native.Nat.{ℕ, suc, _*_}
+use Prim.Native.Nat.{ℕ, suc, _+_, _*_}
 use lib.ListN.{length, drop, replicate}
 use lib.Dec.{ltb}
 use Rattle.trellis.specs.Lists.{each}
@@ -36,7 +36,7 @@ mapOf n table = joinedUp (λ t. each (vertexOf n table t) (length table)) (suc n
 
 -- W·(n+1)
 abbrev pub mapLength : ℕ → List Word → ℕ
-mapLength n table = length table * suc n
+mapLength n table = length table * (n + 1)
 
 module _ (q n states : ℕ) (table : List Word) (map section : List ℕ) where
   -- 7, or success

@@ -5,6 +5,7 @@ ghost use mathlib.Core.List.{List};
 ghost use Prim.Native.Nat.{ℕ, suc, _+_, _*_, _<_, _≤_};
 ghost use lib.ListN.{length, getD};
 ghost use Rattle.trellis.specs.Witness.{witness};
+ghost use Rattle.table.specs.File.{accepted, tableFile, fileWords};
 ghost use Rattle.depths.specs.Words.{words};
 ghost use Rattle.merge.specs.Answer.{outcomeOf};
 ghost use Rattle.merge.specs.Merging.{refusalOf, merging, mergedTable, merged, written};
@@ -76,7 +77,7 @@ fn refuse(
     map: &mut [u16],
 ) -> Merged
     requires { ⌜ Refused n t (now roots) (now labels) (now goals) (now map) ⌝ }
-    ensures { λ r. ⌜ (outcomeOf r ≡ refusalOf (witness n (words (now (roots .entry)) (now (labels .entry)) (now (goals .entry))))) × (now (map .exit) ≡ cleared (length (now (roots .entry)) * suc n) (now (map .entry))) ⌝ }
+    ensures { λ r. ⌜ (outcomeOf r ≡ refusalOf (witness n (words (now (roots .entry)) (now (labels .entry)) (now (goals .entry))))) × (now (map .exit) ≡ cleared (length (now (roots .entry)) * (n + 1)) (now (map .entry))) ⌝ }
 {
     clear(map, roots.len() * (n + 1));
     match witness::find_witness(roots, labels, goals, n, t) {
@@ -106,4 +107,83 @@ fn merge_words(
         return refuse(n, depth, roots, labels, goals, map);
     }
     finish(q, n, states, roots, labels, goals, counts, map, section)
+}
+
+// The words of a file, in three arrays: merging goes over them many times, and a word's bytes lie apart in the file.
+struct Lists {
+    roots: [u8; 1024],
+    labels: [u16; 1024],
+    goals: [u8; 1024],
+}
+
+fn copy_words(file: &[u8], count: u16) -> Lists
+    requires { ⌜ count ≤ 1024 ⌝ }
+    ensures { λ r. ⌜ Copied (now (file .entry)) count (r .roots) (r .labels) (r .goals) ⌝ }
+{
+    let mut roots = [0u8; 1024];
+    let mut labels = [0u16; 1024];
+    let mut goals = [0u8; 1024];
+    let mut i: u16 = 0;
+    while i < count {
+        let at = wide(i);
+        roots[at] = table::root_at(file, i);
+        labels[at] = table::label_at(file, i);
+        goals[at] = table::goal_at(file, i);
+        i += 1;
+    }
+    Lists {
+        roots,
+        labels,
+        goals,
+    }
+}
+
+// A file that checks 1 to 4 accept: refusal 5, or what its words come to.
+fn merge_table(
+    file: &[u8],
+    q: u8,
+    n: u8,
+    states: u8,
+    count: u16,
+    map: &mut [u16],
+    section: &mut [u16],
+) -> Merged
+    requires { ⌜ (tableFile (now file) ≡ accepted q n states (fileWords (now file))) × (count ≡ length (fileWords (now file))) ⌝ }
+    ensures { λ r. ⌜ Ends (mergedTable q n states (fileWords (now (file .entry))) (now (map .entry)) (now (section .entry))) r (now (map .exit)) (now (section .exit)) ⌝ }
+{
+    let w = wide(count);
+    let steps = n as usize;
+    let needed = w * (steps + 1);
+    if map.len() < needed {
+        return Merged::ShortMap(needed);
+    }
+    let lists = copy_words(file, count);
+    let roots = lists.roots;
+    let labels = lists.labels;
+    let goals = lists.goals;
+    merge_words(
+        q as u16,
+        steps,
+        states as u16,
+        &roots[..w],
+        &labels[..w],
+        &goals[..w],
+        map,
+        section,
+    )
+}
+
+// Merges the table in `file`: the vertex of each word at each depth into `map`, the section into `section`.
+pub fn merge(file: &[u8], map: &mut [u16], section: &mut [u16]) -> Merged
+    ensures { λ r. ⌜ Ends (merging (now (file .entry)) (now (map .entry)) (now (section .entry))) r (now (map .exit)) (now (section .exit)) ⌝ }
+{
+    match table::check(file) {
+        table::Checked::Table { q, n, states, words } => {
+            merge_table(file, q, n, states, words, map, section)
+        }
+        table::Checked::Length(length) => Merged::Length(length),
+        table::Checked::Size(place) => Merged::Size(place),
+        table::Checked::Word(index) => Merged::Word(index),
+        table::Checked::Order(index) => Merged::Order(index),
+    }
 }
