@@ -110,7 +110,6 @@ module _ (n : ℕ) (table : List Word) where
                     pick (yes l) = absurd (clash (sym (H .before t (F .from) l) ∙ e))
                     pick (no l) = omega arith
 
-
 -- ---- the refusal that the search gives
 
 module _ {n t : ℕ} {table : List Word} {r : Found} (F : FirstRefused n table 1 t) (e : asWitness t r ≡ witnessAt n table t) where

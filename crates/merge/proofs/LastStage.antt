@@ -108,8 +108,11 @@ module _ {n : ℕ} {roots labels goals map0 map1 inner rootMarks goalMarks count
     some-edges : 0 < length (joinedUp (stepTakers map1 labels n) n)
     unfolding stepTakers
     some-edges =
-        omega (arith, joined-rise (stepTakers map1 labels n) 0 n (H .table .some),
-        takers-some (stepEdge map1 labels n 0) (length labels) (omega (arith, I .asked .some, H .labelled)))
+        omega (
+          arith,
+          joined-rise (stepTakers map1 labels n) 0 n (H .table .some),
+          takers-some (stepEdge map1 labels n 0) (length labels) (omega (arith, I .asked .some, H .labelled)),
+        )
 
     map-whole : map1 ≡ over (mapOf n table) map0
     map-whole = map-is n table map0 map1 (omega (arith, size, I .asked .some)) (rw size (I .asked .room)) (P .placed .len)

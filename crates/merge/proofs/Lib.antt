@@ -2,3 +2,5 @@ pub mod MapRows
 pub mod LastStage
 pub mod FirstDepth
 pub mod InnerStage
+pub mod FileStage
+pub mod Answered

@@ -2,3 +2,4 @@ pub mod Answer
 pub mod Merging
 pub mod Stages
 pub mod InClear
+pub mod InCopy

@@ -68,14 +68,7 @@ fn finish(
 }
 
 // Refusal 6 at the first inner depth that is not rectangular: its witness, and a map of zeros.
-fn refuse(
-    n: usize,
-    t: usize,
-    roots: &[u8],
-    labels: &[u16],
-    goals: &[u8],
-    map: &mut [u16],
-) -> Merged
+fn refuse(n: usize, t: usize, roots: &[u8], labels: &[u16], goals: &[u8], map: &mut [u16]) -> Merged
     requires { ⌜ Refused n t (now roots) (now labels) (now goals) (now map) ⌝ }
     ensures { λ r. ⌜ (outcomeOf r ≡ refusalOf (witness n (words (now (roots .entry)) (now (labels .entry)) (now (goals .entry))))) × (now (map .exit) ≡ cleared (length (now (roots .entry)) * (n + 1)) (now (map .entry))) ⌝ }
 {
@@ -178,9 +171,12 @@ pub fn merge(file: &[u8], map: &mut [u16], section: &mut [u16]) -> Merged
     ensures { λ r. ⌜ Ends (merging (now (file .entry)) (now (map .entry)) (now (section .entry))) r (now (map .exit)) (now (section .exit)) ⌝ }
 {
     match table::check(file) {
-        table::Checked::Table { q, n, states, words } => {
-            merge_table(file, q, n, states, words, map, section)
-        }
+        table::Checked::Table {
+            q,
+            n,
+            states,
+            words,
+        } => { merge_table(file, q, n, states, words, map, section) }
         table::Checked::Length(length) => Merged::Length(length),
         table::Checked::Size(place) => Merged::Size(place),
         table::Checked::Word(index) => Merged::Word(index),
