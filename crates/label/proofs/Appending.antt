@@ -1,15 +1,15 @@
--- A label shifted up by two bits has two zeros there, which `|` fills with the symbol: that is label * 4 + s. What the width cannot hold falls off in
--- the shift as it does in the remainder. Of a label that has room nothing falls off, so the symbol is the last one and the label is in front of it.
-use mathlib.Core.Path.{_≡_, refl, sym, _∙_, ap₂}
-use Prim.Native.Nat.{ℕ, zero, suc, _+_, _-_, _*_, _/_, _%_, _^_, _<_, _≤_}
+-- A label shifted up by two bits has two zeros there, which `|` fills with the symbol: that is label * 4 + s. What the width cannot hold is lost in
+-- the shift as it is in the remainder. Of a label of fewer than eight symbols nothing is lost, so s is the last symbol and the label stands in front.
+use mathlib.Core.Path.{_≡_, sym, _∙_, ap₂}
+use Prim.Native.Nat.{ℕ, suc, _+_, _-_, _*_, _/_, _%_, _^_, _<_, _≤_}
 use native.Mathlib.Omega.{arith}
-use native.Mathlib.Nat.{pow-suc, pow-le-pow-right, mod-eq-of-lt, sub-self, suc-sub-suc, lt-of-lt-of-le}
+use native.Mathlib.Nat.{pow-suc, pow-le-pow-right, mod-eq-of-lt, lt-of-lt-of-le}
 use lib.Arith.{mod-mul, digits-div, digits-mod}
 use lib.Bits.{bitAnd, bitOr, or-shifted}
 use lib.Dec.{lit<}
 use Rattle.trellis.specs.Label.{symbol, front}
 use Rattle.label.specs.Labels.{appended}
-use Rattle.label.proofs.Digits.{symbol-last}
+use Rattle.label.proofs.Digits.{symbol-last, symbol-drop}
 use Rattle.label.proofs.Shifts.{mask-one}
 
 cut : (label d : ℕ) → d < 4 → label % 4 ^ 7 * 4 + d ≡ (label * 4 + d) % 4 ^ 8
@@ -40,6 +40,11 @@ module _ (n label s : ℕ) (short : label < 4 ^ n) (room : n < 8) (small : s < 4
 
   pub appended-last : symbol (suc n) n (appended label s) ≡ s
   appended-last = symbol-last n (appended label s) ∙ rw appended-is (omega arith)
+
+  pub appended-before : (t : ℕ) → t < n → symbol (suc n) t (appended label s) ≡ symbol n t label
+  appended-before t l =
+      let e : (label * 4 + s) / 4 ≡ label = omega arith in
+      symbol-drop n t (appended label s) l ∙ rw (appended-is, e)
 
   pub appended-front : front (suc n) n (appended label s) ≡ label
   unfolding front

@@ -1,33 +1,33 @@
 -- Two labels differ in a symbol exactly if `^` leaves something of it, and `^` works symbol by symbol, so the distance of x and y is that of x ^ y from
--- 0, which is the sum of what the distances of its two bytes from 0 are. Where both labels are used up, further symbols are zeros and do not differ.
+-- 0, which is the sum of the distances of its two bytes from 0. Where both labels are used up, further symbols are zeros and do not differ.
 -- The distance counts from the last symbol up; counted from the first one down it is the same sum.
 use mathlib.Core.Path.{_≡_, refl, sym, _∙_, ap, ap₂}
 use mathlib.Core.Bool.{Bool, true, false, not}
-use Prim.Native.Nat.{ℕ, zero, suc, _+_, _-_, _*_, _/_, _%_, _^_, _<_, _≤_}
+use Prim.Native.Nat.{ℕ, zero, suc, _+_, _*_, _/_, _%_, _^_, _<_, _≤_}
 use native.Mathlib.Omega.{arith}
-use native.Mathlib.Nat.{zero-add, add-zero, add-comm, add-assoc, suc-add, add-suc, add-le-add, pow-suc, pow-succ', div-one, div-div-eq-div-mul, not-suc-le-zero, mod-lt}
+use native.Mathlib.Nat.{zero-add, add-zero, add-assoc, suc-add, add-suc, pow-suc, pow-succ', div-one, div-div-eq-div-mul, not-suc-le-zero, mod-lt}
 use native.Mathlib.Decide.{ℕ-discrete}
 use lib.Arith.{mod-mul, digits-div, digits-mod}
 use lib.Bits.{bitAnd, bitXor, xor-self, xor-shr, xor-mod, xor-add-and, and-le-l, and-le-r, and-mask}
 use lib.Dec.{lit<, eqb}
-use borrow.Author.Tests.{eqb-true, eq-eqb, ne-eqb}
+use borrow.Author.Tests.{eq-eqb, ne-eqb}
 use Rattle.trellis.specs.Lists.{one-if, sum}
 use Rattle.trellis.specs.Label.{symbol, distance}
 use Rattle.label.proofs.Digits.{four-pos, drop-short, symbol-last, symbol-drop}
 
 -- 1 where two symbols differ
-abbrev pub unlike : ℕ → ℕ → ℕ
+abbrev unlike : ℕ → ℕ → ℕ
 unlike a b = one-if (not (eqb a b))
 
-unlike-le : (b : Bool) → one-if b ≤ 1
-unlike-le true = lit< tt
-unlike-le false = omega arith
+one-if-le : (b : Bool) → one-if b ≤ 1
+one-if-le true = lit< tt
+one-if-le false = omega arith
 
 pub distance-le : (n x y : ℕ) → distance n x y ≤ n
 unfolding distance
 distance-le zero x y = omega arith
 distance-le (suc n) x y =
-    omega (arith, unlike-le (not (eqb (x % 4) (y % 4))), distance-le n (x / 4) (y / 4))
+    omega (arith, one-if-le (not (eqb (x % 4) (y % 4))), distance-le n (x / 4) (y / 4))
 
 pub distance-same : (n x : ℕ) → distance n x x ≡ 0
 unfolding distance
@@ -96,7 +96,7 @@ distance-parts zero n x y = rw (zero-add n, div-one x, div-one y) (sym (zero-add
 distance-parts (suc m) n x y =
     let e : x / 4 ^ suc m ≡ x / 4 / 4 ^ m = rw (pow-succ') (sym (div-div-eq-div-mul x 4 (4 ^ m))) in
     let f : y / 4 ^ suc m ≡ y / 4 / 4 ^ m = rw (pow-succ') (sym (div-div-eq-div-mul y 4 (4 ^ m))) in
-    rw (suc-add m n, e, f, distance-parts m n (x / 4) (y / 4)) (sym (add-assoc (unlike (x % 4) (y % 4)) (distance m (x / 4) (y / 4)) (distance n (x / 4 / 4 ^ m) (y / 4 / 4 ^ m))))
+    rw (suc-add m n, e, f, distance-parts m n (x / 4) (y / 4)) (sym (add-assoc (unlike (x % 4) (y % 4)) _ _))
 
 -- the symbols in front of the last n do not count
 module _ (n x : ℕ) where
@@ -117,14 +117,13 @@ distance-low (suc n) x y =
     (ap₂ unlike (low-last n x) (low-last n y))
     (ap₂ (distance n) (low-front n x) (low-front n y) ∙ distance-low n (x / 4) (y / 4))
 
--- the distance from what the two bytes of x ^ y give
-pub distance-bytes : (x y high low : ℕ) → high ≡ distance 4 (bitXor x y / 2 ^ 8) 0 → low ≡ distance 4 (bitAnd (bitXor x y) 255) 0
-    → high + low ≡ distance 8 x y
-distance-bytes x y high low p q =
-    let d = bitXor x y in
-    let e : low ≡ distance 4 d 0 = q ∙ ap (λ k. distance 4 k 0) (and-mask d 8) ∙ distance-low 4 d 0 in
-    let f : distance 8 d 0 ≡ distance 4 d 0 + distance 4 (d / 2 ^ 8) 0 = distance-parts 4 4 d 0 in
-    omega (arith, distance-xor 8 x y)
+pub distance-byte : (x : ℕ) → distance 4 (bitAnd x 255) 0 ≡ distance 4 x 0
+distance-byte x = ap (λ k. distance 4 k 0) (and-mask x 8) ∙ distance-low 4 x 0
 
+-- what is found of two bytes fits one, and is the distance if they are those of x ^ y
 pub bytes-le : (x y : ℕ) {high low : ℕ} → high ≡ distance 4 x 0 → low ≡ distance 4 y 0 → high + low ≤ 8
-bytes-le x y p q = omega (arith, distance-le 4 x 0, distance-le 4 y 0)
+bytes-le x y a b = omega (arith, distance-le 4 x 0, distance-le 4 y 0)
+
+pub distance-bytes : (x y : ℕ) {high low : ℕ} → high ≡ distance 4 (bitXor x y / 2 ^ 8) 0 → low ≡ distance 4 (bitXor x y) 0
+    → high + low ≡ distance 8 x y
+distance-bytes x y a b = omega (arith, distance-xor 8 x y, distance-parts 4 4 (bitXor x y) 0)

@@ -1,7 +1,7 @@
 -- A label of n + 1 symbols x is the label x / 4 of n symbols with the symbol x % 4 behind it: symbol t < n of x is symbol t of x / 4, since dividing
 -- by 4 and then by 4 ^ k is dividing by 4 ^ (k + 1), and symbol n of x is x % 4. So whatever holds of labels is shown by dropping the last symbol.
-use mathlib.Core.Path.{_≡_, refl, sym, _∙_, ap}
-use Prim.Native.Nat.{ℕ, zero, suc, _+_, _-_, _*_, _/_, _%_, _^_, _<_, _≤_}
+use mathlib.Core.Path.{_≡_, sym, _∙_}
+use Prim.Native.Nat.{ℕ, zero, suc, _-_, _/_, _%_, _^_, _<_}
 use native.Mathlib.Omega.{arith}
 use native.Mathlib.Nat.{sub-self, pow-suc, pow-succ', mod-lt, div-one, div-lt-iff-lt-mul, div-div-eq-div-mul}
 use lib.Dec.{lit<}

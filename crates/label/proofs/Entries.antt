@@ -1,6 +1,6 @@
 -- A list made by a rule has at each place what the rule gives there. So one comparison of a constant table with the list that the rule makes, which
 -- antt computes, gives the rule at every entry.
-use mathlib.Core.Path.{_≡_, refl, sym, _∙_}
+use mathlib.Core.Path.{_≡_, _∙_}
 use Prim.Native.Nat.{ℕ, zero, suc, _+_, _<_}
 use native.Mathlib.Nat.{add-zero, zero-add, add-suc, suc-add, le-of-suc-le-suc, not-suc-le-zero}
 use lib.ListN.{getD}

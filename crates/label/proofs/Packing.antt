@@ -1,15 +1,15 @@
 -- Whether x is a label of n + 1 symbols below q is whether its last symbol is below q and x / 4 is a label of n such symbols. From this step, by
 -- induction: the test says what it ought to of every symbol; and asking for more symbols than x has changes nothing, because those are zeros, and
 -- a zero is below q whenever the last symbol is.
-use mathlib.Core.Path.{_≡_, refl, sym, _∙_, ap, ap₂}
+use mathlib.Core.Path.{_≡_, refl, sym, _∙_, ap}
 use mathlib.Core.Bool.{Bool, true, false, _&&_}
 use mathlib.Core.Logic.{_↔_}
-use Prim.Native.Nat.{ℕ, zero, suc, _+_, _-_, _*_, _/_, _%_, _^_, _<_, _≤_, min}
+use Prim.Native.Nat.{ℕ, zero, suc, _-_, _/_, _%_, _^_, _<_, _≤_, min}
 use native.Mathlib.Omega.{arith}
-use native.Mathlib.Decide.{ℕ-discrete, decLt, decLe}
+use native.Mathlib.Decide.{ℕ-discrete, decLt}
 use native.Mathlib.Nat.{not-suc-le-zero}
 use lib.Bits.{bitAnd}
-use lib.Dec.{ltb}
+use lib.Dec.{ltb, eqb, eqb·suc-zero}
 use borrow.Author.Tests.{ltb-true, lt-ltb, le-ltb}
 use Rattle.trellis.specs.Label.{symbol, symbolsBelow, isLabel}
 use Rattle.label.specs.Labels.{Packed}
@@ -140,6 +140,10 @@ module _ (q : ℕ) where
       let e : suc k - 1 ≡ k = omega arith in
       label-step k x ∙ rw (lt-ltb (x % 4) q (rw mask-one at l), e)
 
-  pub none-left : (k x : ℕ) → k ≤ 0 → ltb x 1 ≡ isLabel q k x
-  none-left zero x h = sym (label-none x)
-  none-left (suc k) x h = absurd (not-suc-le-zero h)
+  pub turn-ends : (k x : ℕ) → k ≤ 0 → eqb x 0 ≡ isLabel q k x
+  turn-ends zero x h = none x ∙ sym (label-none x)
+    where
+      none : (x : ℕ) → eqb x 0 ≡ ltb x 1
+      none zero = refl
+      none (suc x) = eqb·suc-zero x ∙ sym (le-ltb (suc x) 1 (omega arith))
+  turn-ends (suc k) x h = absurd (not-suc-le-zero h)

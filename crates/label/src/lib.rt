@@ -5,265 +5,9 @@ ghost use Prim.Native.Nat.{_-_, _/_, _%_, _^_, min};
 ghost use Rattle.trellis.specs.Label.{symbol, front, back, isLabel, distance};
 ghost use Rattle.label.specs.Labels.{appended, InOrder};
 
-// How many of the four two-bit digits of an index are not zero.
-const UNLIKE_ZERO: [u8; 256] = [
-    0,
-    1,
-    1,
-    1,
-    1,
-    2,
-    2,
-    2,
-    1,
-    2,
-    2,
-    2,
-    1,
-    2,
-    2,
-    2,
-    1,
-    2,
-    2,
-    2,
-    2,
-    3,
-    3,
-    3,
-    2,
-    3,
-    3,
-    3,
-    2,
-    3,
-    3,
-    3,
-    1,
-    2,
-    2,
-    2,
-    2,
-    3,
-    3,
-    3,
-    2,
-    3,
-    3,
-    3,
-    2,
-    3,
-    3,
-    3,
-    1,
-    2,
-    2,
-    2,
-    2,
-    3,
-    3,
-    3,
-    2,
-    3,
-    3,
-    3,
-    2,
-    3,
-    3,
-    3,
-    1,
-    2,
-    2,
-    2,
-    2,
-    3,
-    3,
-    3,
-    2,
-    3,
-    3,
-    3,
-    2,
-    3,
-    3,
-    3,
-    2,
-    3,
-    3,
-    3,
-    3,
-    4,
-    4,
-    4,
-    3,
-    4,
-    4,
-    4,
-    3,
-    4,
-    4,
-    4,
-    2,
-    3,
-    3,
-    3,
-    3,
-    4,
-    4,
-    4,
-    3,
-    4,
-    4,
-    4,
-    3,
-    4,
-    4,
-    4,
-    2,
-    3,
-    3,
-    3,
-    3,
-    4,
-    4,
-    4,
-    3,
-    4,
-    4,
-    4,
-    3,
-    4,
-    4,
-    4,
-    1,
-    2,
-    2,
-    2,
-    2,
-    3,
-    3,
-    3,
-    2,
-    3,
-    3,
-    3,
-    2,
-    3,
-    3,
-    3,
-    2,
-    3,
-    3,
-    3,
-    3,
-    4,
-    4,
-    4,
-    3,
-    4,
-    4,
-    4,
-    3,
-    4,
-    4,
-    4,
-    2,
-    3,
-    3,
-    3,
-    3,
-    4,
-    4,
-    4,
-    3,
-    4,
-    4,
-    4,
-    3,
-    4,
-    4,
-    4,
-    2,
-    3,
-    3,
-    3,
-    3,
-    4,
-    4,
-    4,
-    3,
-    4,
-    4,
-    4,
-    3,
-    4,
-    4,
-    4,
-    1,
-    2,
-    2,
-    2,
-    2,
-    3,
-    3,
-    3,
-    2,
-    3,
-    3,
-    3,
-    2,
-    3,
-    3,
-    3,
-    2,
-    3,
-    3,
-    3,
-    3,
-    4,
-    4,
-    4,
-    3,
-    4,
-    4,
-    4,
-    3,
-    4,
-    4,
-    4,
-    2,
-    3,
-    3,
-    3,
-    3,
-    4,
-    4,
-    4,
-    3,
-    4,
-    4,
-    4,
-    3,
-    4,
-    4,
-    4,
-    2,
-    3,
-    3,
-    3,
-    3,
-    4,
-    4,
-    4,
-    3,
-    4,
-    4,
-    4,
-    3,
-    4,
-    4,
-    4,
-];
+mod counts;
+
+use counts::NOT_ZERO;
 
 // How many symbols stand behind depth t.
 fn behind(n: usize, t: usize) -> usize
@@ -311,48 +55,49 @@ pub fn back(label: u16, n: usize, t: usize) -> u16
     only_last(label, behind(n, t))
 }
 
-// The symbol s behind the label.
+// The label with the symbol s behind it.
 pub fn append(label: u16, s: u16) -> u16
     ensures { λ r. ⌜ r ≡ appended label s ⌝ }
 {
     (label << 2) | (s & 3)
 }
 
-// As many symbols of n as a label can have.
+// n, but at most the eight symbols that two bytes hold.
 fn held(n: usize) -> usize
     ensures { λ r. ⌜ r ≡ min n 8 ⌝ }
 {
     if n < 8 { n } else { 8 }
 }
 
-// Whether the label is one of n symbols below q.
+// Whether the label is one of n symbols below q. It is enough to look at eight symbols: those in front of them are zeros, and a zero is below q if
+// the last symbol is.
 pub fn is_label(label: u16, q: u16, n: usize) -> bool
     ensures { λ r. ⌜ r ≡ isLabel q n label ⌝ }
 {
     let mut rest = label;
     let mut left = held(n);
     while left > 0 {
-        if rest & 3 >= q {
+        if (rest & 3) >= q {
             return false;
         }
         rest = rest >> 2;
         left -= 1;
     }
-    rest < 1
+    rest == 0
 }
 
-// Whether x comes before y.
+// Whether the label x comes before the label y. Symbols are compared from the first one on, as the digits of numbers are.
 pub fn precedes(x: u16, y: u16) -> bool
     ensures { λ r. ⌜ InOrder x y r ⌝ }
 {
     x < y
 }
 
-// How many of the four two-bit digits of a byte are not zero.
-fn unlike_zero(byte: u8) -> u8
-    ensures { λ r. ⌜ r ≡ distance 4 byte 0 ⌝ }
+// How many of the last four symbols of x are not zero.
+fn not_zero(x: u16) -> u8
+    ensures { λ r. ⌜ r ≡ distance 4 x 0 ⌝ }
 {
-    UNLIKE_ZERO[byte as usize]
+    NOT_ZERO[(x & 255) as usize]
 }
 
 // In how many symbols x and y differ.
@@ -360,5 +105,5 @@ pub fn distance(x: u16, y: u16) -> u32
     ensures { λ r. ⌜ r ≡ distance 8 x y ⌝ }
 {
     let unlike = x ^ y;
-    (unlike_zero((unlike >> 8) as u8) + unlike_zero((unlike & 255) as u8)) as u32
+    (not_zero(unlike >> 8) + not_zero(unlike)) as u32
 }

@@ -1,10 +1,10 @@
--- `label::is_label` meets its contract. The loop's invariant: the answer is whether `rest` is a label of `left` symbols, since each turn takes one off both.
--- The measure is `left`.
+-- `label::is_label` meets its contract. The loop's invariant: the answer is whether `rest` is a label of `left` symbols, since each turn takes one
+-- symbol off both. The measure is `left`.
 use mathlib.Core.Path.{_≡_, sym, _∙_}
 use native.Mathlib.Omega.{arith}
 use borrow.Author.Needs.{needs}
 use Rattle.trellis.specs.Label.{isLabel}
-use Rattle.label.proofs.Packing.{label-held, turn-refuses, turn-goes-on, none-left}
+use Rattle.label.proofs.Packing.{label-held, turn-refuses, turn-goes-on, turn-ends}
 use Rattle.label.proofs.is_label.Statement.{statement}
 use Rattle.label.proofs.is_label.Tie as tie
 
@@ -35,7 +35,7 @@ loop-again c =
     c .before .before .loop .inv ∙ turn-goes-on _ _ _ (c .before .loop-test .taken) (c .if1 .left)
 
 returns-2 : tie.Need-returns-2 Inv-loop μ-loop
-returns-2 c = none-left _ _ _ (c .loop-test .left) ∙ sym (c .before .loop .inv)
+returns-2 c = turn-ends _ _ _ (c .loop-test .left) ∙ sym (c .before .loop .inv)
 
 pub is-label-spec : {M : Type 1} → statement M
 is-label-spec =
