@@ -8,3 +8,8 @@ pub mod Trace
 pub mod Sections
 pub mod Ascent
 pub mod Words
+pub mod Chain
+pub mod Winner
+pub mod Block
+pub mod Blocks
+pub mod Cases

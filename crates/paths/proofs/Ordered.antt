@@ -3,7 +3,7 @@
 use mathlib.Core.Path.{_≡_, refl, sym, ap, ap₂, subst, _∙_}
 use mathlib.Core.Bool.{Bool, true, false, cond}
 use mathlib.Core.Logic.{_⊎_, inl, inr, ⊎-elim}
-use mathlib.Core.List.{List, [], _∷_, _++_, map, flatMap, List·Memᴰ, List·Memᴰ·head, List·Memᴰ·tail, List·Memᴰ·not-nil, List·Memᴰ·cases-cons, List·Memᴰ·append-cases, Memᴰ·of-map}
+use mathlib.Core.List.{List, [], _∷_, _++_, map, flatMap, List·Memᴰ, List·Memᴰ·head, List·Memᴰ·tail, List·Memᴰ·not-nil, List·Memᴰ·cases-cons, List·Memᴰ·append-cases, Memᴰ·append-left, Memᴰ·append-right, Memᴰ·of-map}
 use Prim.Native.Nat.{ℕ, _≤_}
 use native.Mathlib.Omega.{arith}
 use lib.Dec.{T}
@@ -47,7 +47,25 @@ of-keep {A} test (x ∷ xs) y m = go (test x) refl (of-keep test xs y) m
     go true e r k = ⊎-elim (λ p. record { listed = List·Memᴰ·head p; passes = subst T (sym (ap test p ∙ e)) tt }) (λ l. further (r l)) (List·Memᴰ·cases-cons k)
     go false e r k = further (r k)
 
+pub in-flatMap : {A B : Type 0} (g : A → List B) (xs : List A) (b : B) (x : A) → x ∈ xs → b ∈ g x → b ∈ flatMap g xs
+unfolding flatMap
+in-flatMap g [] b x m k = absurd (List·Memᴰ·not-nil m)
+in-flatMap g (y ∷ xs) b x m k =
+    ⊎-elim (λ e. Memᴰ·append-left (flatMap g xs) (subst (λ z. b ∈ g z) e k)) (λ l. Memᴰ·append-right (g y) (in-flatMap g xs b x l k)) (List·Memᴰ·cases-cons m)
+
 module _ {A : Type 0} (test : A → Bool) where
+  pub in-keep : (xs : List A) (x : A) → x ∈ xs → test x ≡ true → x ∈ keep test xs
+  unfolding keep
+  in-keep [] x m e = absurd (List·Memᴰ·not-nil m)
+  in-keep (y ∷ xs) x m e = ⊎-elim here (λ l. there (test y) (in-keep xs x l e)) (List·Memᴰ·cases-cons m)
+    where
+      here : x ≡ y → x ∈ cond (test y) (y ∷ keep test xs) (keep test xs)
+      here k = subst (λ b. x ∈ cond b (y ∷ keep test xs) (keep test xs)) (sym (sym (ap test k) ∙ e)) (List·Memᴰ·head k)
+
+      there : (b : Bool) → x ∈ keep test xs → x ∈ cond b (y ∷ keep test xs) (keep test xs)
+      there true l = List·Memᴰ·tail l
+      there false l = l
+
   pub keep-append : (xs ys : List A) → keep test (xs ++ ys) ≡ keep test xs ++ keep test ys
   unfolding keep
   keep-append [] ys = refl
