@@ -21,14 +21,14 @@ unfoldable pub minAll : {A : Type 0} → ℕ → (A → ℕ) → List A → ℕ
 minAll top f [] = top
 minAll top f (x ∷ xs) = min (f x) (minAll top f xs)
 
+unfoldable pub orStop : {E P : Type 0} → P → (E → P) → Option E → P
+orStop p f nothing = p
+orStop p f (just e) = f e
+
 -- the first member that passes a test
 unfoldable pub firstWith : {A : Type 0} → (A → Bool) → List A → Option A
 firstWith test [] = nothing
 firstWith test (x ∷ xs) = cond (test x) (just x) (firstWith test xs)
-
-unfoldable pub orStop : {E P : Type 0} → P → (E → P) → Option E → P
-orStop p f nothing = p
-orStop p f (just e) = f e
 
 -- `cost t e` is what the edge e costs at step t, `final v` what it costs to end in v
 module _ {E P : Type 0} (G : Graph E P) (cost : ℕ → E → ℕ) (top : ℕ) (final : ℕ → ℕ) where

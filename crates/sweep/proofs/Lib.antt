@@ -1,0 +1,2 @@
+-- Laws of the loops over a section, lowest first.
+pub mod Edges
