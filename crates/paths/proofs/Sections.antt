@@ -17,7 +17,7 @@ use Rattle.paths.proofs.Choose.{choose-none, extend-extend}
 use Rattle.paths.proofs.Ordered.{of-keep}
 use Rattle.paths.proofs.Walk.{Prices, ahead, ahead-best}
 use Rattle.paths.proofs.Capped.{capped-keep, least-ahead}
-use Rattle.paths.proofs.Trace.{trace-best, extended, Reached, reached}
+use Rattle.paths.proofs.Trace.{Least, least-found, trace-best, extended, Reached, reached}
 
 -- the edges that leave a vertex are listed, and start there
 pub from-of : (v : ℕ) (es : List Edge) (e : Edge) → e ∈ leaving v es → e .from ≡ v
@@ -84,11 +84,20 @@ module _ (edges : ℕ → List Edge) (cost : ℕ → ℕ → ℕ) (top : ℕ) (n
   unfolding sectionLeast least
   least-last t v = refl
 
+  pub trace-last : (t v : ℕ) → sectionTrace edges cost top number zero t v ≡ stop v
+  unfolding sectionTrace trace
+  trace-last t v = refl
+
   pub least-step : (k t v : ℕ) → sectionLeast edges cost top number (suc k) t v ≡ minAll top (across k t) (leaving v (edges t))
   unfolding sectionLeast least
   least-step k t v = refl
 
-  -- where there is a path, the next edge is found, it leaves v, and there is a path behind it
+  -- where there is a path, some edge that leaves v gives its cost
+  pub some-edge : (k t v : ℕ) → sectionLeast edges cost top number (suc k) t v < top → Least top (across k t) (leaving v (edges t))
+  unfolding sectionLeast least
+  some-edge k t v h = least-found top (across k t) (leaving v (edges t)) h
+
+  -- the first that does leads on: there is a path behind it
   pub record Taken (k t v : ℕ) (e : Edge) : Type 0 where
     pub listed : e ∈ leaving v (edges t)
     pub reaches : sectionLeast edges cost top number k (suc t) (e .to) < top

@@ -1,16 +1,19 @@
 -- Edges by their numbers: those of a step lie between what the steps before it have and what it has with them, and each is read from its places.
-use mathlib.Core.Path.{_≡_, refl, sym, ap, ap₂, _∙_}
-use mathlib.Core.List.{List}
+use mathlib.Core.Path.{_≡_, refl, sym, ap, ap₂, subst, _∙_}
+use mathlib.Core.List.{List, [], _∷_}
 use Prim.Native.Nat.{ℕ, zero, suc, _+_, _-_, _*_, _≤_, _<_}
 use native.Mathlib.Nat.{add-zero, add-suc, suc-add, zero-add, le-refl}
 use native.Mathlib.Numerals.{add-one}
 use native.Mathlib.Omega.{arith}
 use lib.ListN.{length, getD}
-use Rattle.trellis.specs.Lists.{run, sum}
+use Rattle.trellis.specs.Lists.{_∈_, run, sum}
 use Rattle.trellis.specs.Own.{Edge}
+use Rattle.trellis.specs.Section.{leaving}
+use Rattle.trellis.proofs.Lists.{of-run}
+use Rattle.paths.proofs.Sections.{from-of, listed-of}
 use Rattle.trellis.specs.Layout.{nOf, vertexCountOf, edgeCountOf, edgesBefore, allEdges, rootsPlace, goalsPlace, pairsPlace, symbolsPlace, edgeNumber, stepEdges}
 use Rattle.sweep.specs.Rows.{Fits, Placed}
-use Rattle.sweep.specs.Loops.{between, InStep, EdgeAt, InTotal}
+use Rattle.sweep.specs.Loops.{between, InStep, Reads, EdgeAt, InTotal}
 
 sum-last : (f : ℕ → ℕ) (at k : ℕ) → sum f at (suc k) ≡ sum f at k + f (at + k)
 unfolding sum
@@ -77,34 +80,65 @@ placed {l} {n} F e t r g p s =
 
 -- ---- one edge, read
 
-pub step-in : {l : List ℕ} {n roots goals pairs symbols edges t lo hi : ℕ} → Fits l → Placed l n roots goals pairs symbols edges → t < n
-    → lo ≡ edgesBefore l t → hi ≡ edgesBefore l (suc t) → InStep l t lo hi pairs symbols
+pub reads-at : {l : List ℕ} {n roots goals pairs symbols edges : ℕ} → Fits l → Placed l n roots goals pairs symbols edges → Reads l pairs symbols
 unfolding symbolsPlace
-step-in {l} {t = t} F P h p q =
-    let e = P .nIs in
-    let m = before-le l (suc t) (nOf l) (omega arith) in
-    let k = before-le l t (suc t) (omega arith) in
-    let x = P .edgesIs in
-    let y = P .pairsIs in
-    let z = P .symbolsIs in
-    let w = P .near in
-    let pin = F .pairsIn in
-    let sin = F .symbolsIn in
-    record {
-      inside = omega arith; from = omega arith; lo-le = omega arith; hi-is = q; pairsIs = y; symbolsIs = z;
-      hi-near = omega arith; pairs-near = omega arith; pairs-in = omega arith; symbols-in = omega arith;
-    }
+reads-at F P =
+    let a = P .pairsIs in
+    let b = P .symbolsIs in
+    let c = P .edgesIs in
+    let d = P .near in
+    let e = F .pairsIn in
+    let f = F .symbolsIn in
+    record { fits = F; pairsIs = a; symbolsIs = b; near = omega arith; pairs-near = omega arith; pairs-in = omega arith; symbols-in = omega arith }
 
-pub edge-at : {l : List ℕ} {t lo hi pairs symbols i from symbol to : ℕ} → Fits l → InStep l t lo hi pairs symbols → lo ≤ i → i < hi
-    → from ≡ getD l (pairs + 2 * i) 0 → symbol ≡ getD l (symbols + i) 0 → to ≡ getD l (pairs + 2 * i + 1) 0 → EdgeAt l t i from symbol to
+pub step-in : {l : List ℕ} {t lo hi : ℕ} → t < nOf l → lo ≡ edgesBefore l t → hi ≡ edgesBefore l (suc t) → InStep l t lo hi
+step-in {l} {t} h p q =
+    let m = before-le l (suc t) (nOf l) h in
+    let k = before-le l t (suc t) (omega arith) in
+    record { inside = h; from = omega arith; lo-le = omega arith; hi-is = q; hi-le = omega arith }
+
+pub edge-at : {l : List ℕ} {pairs symbols i from symbol to : ℕ} → Reads l pairs symbols → i < allEdges l
+    → from ≡ getD l (pairs + 2 * i) 0 → symbol ≡ getD l (symbols + i) 0 → to ≡ getD l (pairs + 2 * i + 1) 0 → EdgeAt l i from symbol to
 unfolding edgeNumber
-edge-at {l} {t} {lo} {hi} {pairs} {symbols} {i} F S h k p q r =
-    let a = p ∙ ap (λ x. getD l (x + 2 * i) 0) (S .pairsIs) in
-    let b = q ∙ ap (λ x. getD l (x + i) 0) (S .symbolsIs) in
-    let c = r ∙ ap (λ x. getD l (x + 2 * i + 1) 0) (S .pairsIs) in
-    let f = F .fromBelow t i (S .inside) (omega (arith, S .from)) (omega (arith, S .hi-is)) in
-    let g = F .symbolBelow t i (S .inside) (omega (arith, S .from)) (omega (arith, S .hi-is)) in
-    let o = F .toBelow t i (S .inside) (omega (arith, S .from)) (omega (arith, S .hi-is)) in
-    let u = F .verticesTo t (omega (arith, S .inside)) in
-    let w = F .verticesTo (suc t) (S .inside) in
-    record { from-is = a; symbol-is = b; to-is = c; from-in = omega arith; to-in = omega arith; from-lt = omega arith; symbol-lt = omega arith; to-lt = omega arith }
+edge-at {l} {i = i} R h p q r =
+    let a = p ∙ ap (λ x. getD l (x + 2 * i) 0) (R .pairsIs) in
+    let b = q ∙ ap (λ x. getD l (x + i) 0) (R .symbolsIs) in
+    let c = r ∙ ap (λ x. getD l (x + 2 * i + 1) 0) (R .pairsIs) in
+    let f = R .fits .fromSmall i h in
+    let g = R .fits .symbolSmall i h in
+    let o = R .fits .toSmall i h in
+    record { from-is = a; symbol-is = b; to-is = c; from-lt = omega arith; symbol-lt = omega arith; to-lt = omega arith }
+
+-- the edges from i on begin with edge i
+pub between-more : (l : List ℕ) {i hi : ℕ} → i < hi → between l i hi ≡ edgeNumber l i ∷ between l (i + 1) hi
+unfolding run
+between-more l {i} {hi} h = let e : hi - i ≡ suc (hi - (i + 1)) = omega arith in rw (e, add-one i)
+
+pub between-none : (l : List ℕ) {i hi : ℕ} → hi ≤ i → between l i hi ≡ []
+unfolding run
+between-none l {i} {hi} h = let e : hi - i ≡ 0 = omega arith in rw e
+
+-- what is known of an edge that leaves a vertex at step t
+pub record Known (l : List ℕ) (t v : ℕ) (e : Edge) : Type 0 where
+  pub from-is : e .from ≡ v
+  pub from-in : e .from < vertexCountOf l t
+  pub to-in : e .to < vertexCountOf l (suc t)
+  pub symbol-lt : e .symbol < 4
+
+pub known : {l : List ℕ} {t v : ℕ} → Fits l → t < nOf l → (e : Edge) → e ∈ leaving v (stepEdges l t) → Known l t v e
+unfolding stepEdges
+known {l} {t} {v} F h e m =
+    let w = of-run (edgeNumber l) (edgesBefore l t) (edgeCountOf l t) e (listed-of v (stepEdges l t) e m) in
+    let b = before-more l t in
+    let i = edgesBefore l t + w .at in
+    let k = w .below in
+    let a = before-le l (suc t) (nOf l) h in
+    let x = F .fromBelow t i h (omega arith) (omega arith) in
+    let y = F .toBelow t i h (omega arith) (omega arith) in
+    let z = F .symbolSmall i (omega arith) in
+    record {
+      from-is = from-of v (stepEdges l t) e m;
+      from-in = subst (λ f. f .from < vertexCountOf l t) (sym (w .is)) x;
+      to-in = subst (λ f. f .to < vertexCountOf l (suc t)) (sym (w .is)) y;
+      symbol-lt = subst (λ f. f .symbol < 4) (sym (w .is)) z;
+    }

@@ -1,10 +1,10 @@
 -- What the loops over a section keep, over raw lists and numbers.
 use mathlib.Core.Path.{_≡_}
 use mathlib.Core.List.{List}
-use mathlib.Core.Bool.{Bool, _&&_}
-use mathlib.Core.Option.{Option}
-use Prim.Native.Nat.{ℕ, suc, _+_, _-_, _*_, _≤_, _<_, min}
-use lib.Dec.{eqb}
+use mathlib.Core.Bool.{Bool, cond, _&&_}
+use mathlib.Core.Option.{Option, none as nothing, some as just}
+use Prim.Native.Nat.{ℕ, suc, _+_, _-_, _*_, _^_, _≤_, _<_, min}
+use lib.Dec.{eqb, ltb}
 use lib.ListN.{length, getD}
 use Rattle.trellis.specs.Lists.{run}
 use Rattle.trellis.specs.Own.{Edge}
@@ -20,26 +20,29 @@ use Rattle.sweep.specs.Rows.{top, Fits, Priced, Rows}
 abbrev pub between : List ℕ → ℕ → ℕ → List Edge
 between l lo hi = run (edgeNumber l) lo (hi - lo)
 
--- the edges lo to hi are all or the last edges of step t
-pub record InStep (l : List ℕ) (t lo hi pairs symbols : ℕ) : Type 0 where
+-- the edges lo to hi are those of step t, or its last ones
+pub record InStep (l : List ℕ) (t lo hi : ℕ) : Type 0 where
   pub inside : t < nOf l
   pub from : edgesBefore l t ≤ lo
   pub lo-le : lo ≤ hi
   pub hi-is : hi ≡ edgesBefore l (suc t)
+  pub hi-le : hi ≤ allEdges l
+
+-- where edges are read
+pub record Reads (l : List ℕ) (pairs symbols : ℕ) : Type 0 where
+  pub fits : Fits l
   pub pairsIs : pairs ≡ pairsPlace l
   pub symbolsIs : symbols ≡ symbolsPlace l
-  pub hi-near : symbols + hi ≤ 100000
-  pub pairs-near : pairs + 2 * hi ≤ 100000
-  pub pairs-in : pairs + 2 * hi ≤ length l
-  pub symbols-in : symbols + hi ≤ length l
+  pub near : symbols + allEdges l ≤ 100000
+  pub pairs-near : pairs + 2 * allEdges l ≤ 100000
+  pub pairs-in : pairs + 2 * allEdges l ≤ length l
+  pub symbols-in : symbols + allEdges l ≤ length l
 
--- edge i, of step t
-pub record EdgeAt (l : List ℕ) (t i from symbol to : ℕ) : Type 0 where
+-- edge i
+pub record EdgeAt (l : List ℕ) (i from symbol to : ℕ) : Type 0 where
   pub from-is : from ≡ edgeNumber l i .from
   pub symbol-is : symbol ≡ edgeNumber l i .symbol
   pub to-is : to ≡ edgeNumber l i .to
-  pub from-in : from < vertexCountOf l t
-  pub to-in : to < vertexCountOf l (suc t)
   pub from-lt : from < 1024
   pub symbol-lt : symbol < 4
   pub to-lt : to < 1024
@@ -62,6 +65,11 @@ pub record InClear (t count : ℕ) (old rows : List ℕ) (v : ℕ) : Type 0 wher
   pub long : length rows ≡ 9216
   pub cleared : (u : ℕ) → u < v → getD rows (1024 * t + u) 0 ≡ top
   pub kept : (j : ℕ) → 1024 * suc t ≤ j → getD rows j 0 ≡ getD old j 0
+
+-- row t has no path so far
+pub record Clear (l : List ℕ) (t : ℕ) (rows : List ℕ) : Type 0 where
+  pub long : length rows ≡ 9216
+  pub cleared : (v : ℕ) → v < vertexCountOf l t → getD rows (1024 * t + v) 0 ≡ top
 
 -- row t still has to be lowered by the edges from i on
 pub record InLower (l prices : List ℕ) (t lo hi : ℕ) (old rows : List ℕ) (i : ℕ) : Type 0 where
@@ -96,6 +104,18 @@ hitAt from v here total = eqb from v && eqb here total
 abbrev pub firstEdge : List ℕ → List ℕ → List ℕ → ℕ → ℕ → ℕ → ℕ → ℕ → Option Edge
 firstEdge l prices rows t lo hi v total = firstWith (λ e. eqb (through prices rows t e) total) (leaving v (between l lo hi))
 
+-- edge r leaves v, and no edge before it does; r is hi where none does
+pub record SkipTo (l : List ℕ) (lo hi v r : ℕ) : Type 0 where
+  pub lo-le : lo ≤ r
+  pub r-le : r ≤ hi
+  pub same : leaving v (between l lo hi) ≡ leaving v (between l r hi)
+
+-- edge r is the first that leaves v and gives the total; r is hi where none does
+pub record NextAt (l prices rows : List ℕ) (t lo hi v total r : ℕ) : Type 0 where
+  pub lo-le : lo ≤ r
+  pub r-le : r ≤ hi
+  pub found : firstEdge l prices rows t lo hi v total ≡ cond (ltb r hi) (just (edgeNumber l r)) nothing
+
 -- the first edge that leaves v and gives the total is one of those from i on
 pub record InNext (l prices rows : List ℕ) (t lo hi v total i : ℕ) : Type 0 where
   pub lo-le : lo ≤ i
@@ -108,6 +128,7 @@ pub record InName (l prices rows : List ℕ) (root n t lo v label : ℕ) : Type 
   pub lo-is : lo ≡ edgesBefore l t
   pub inside : v < vertexCountOf l t
   pub below : getD rows (1024 * t + v) 0 < top
+  pub short : label < 4 ^ t
   pub labelTo : (cost : ℕ → ℕ → ℕ) (number : ℕ → ℕ) → Priced l prices cost → Rows l cost number 0 rows
       → packOnto 0 (sectionTrace (stepEdges l) cost top number n 0 root .symbols) ≡ packOnto label (sectionTrace (stepEdges l) cost top number (n - t) t v .symbols)
   pub endTo : (cost : ℕ → ℕ → ℕ) (number : ℕ → ℕ) → Priced l prices cost → Rows l cost number 0 rows

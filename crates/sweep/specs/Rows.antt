@@ -24,8 +24,10 @@ pub record Fits (l : List ℕ) : Type 0 where
   pub pairsIn : pairsPlace l + 2 * allEdges l ≤ length l
   pub symbolsIn : symbolsPlace l + allEdges l ≤ length l
   pub fromBelow : (t i : ℕ) → t < nOf l → edgesBefore l t ≤ i → i < edgesBefore l (suc t) → edgeNumber l i .from < vertexCountOf l t
-  pub symbolBelow : (t i : ℕ) → t < nOf l → edgesBefore l t ≤ i → i < edgesBefore l (suc t) → edgeNumber l i .symbol < 4
   pub toBelow : (t i : ℕ) → t < nOf l → edgesBefore l t ≤ i → i < edgesBefore l (suc t) → edgeNumber l i .to < vertexCountOf l (suc t)
+  pub fromSmall : (i : ℕ) → i < allEdges l → edgeNumber l i .from < 1024
+  pub symbolSmall : (i : ℕ) → i < allEdges l → edgeNumber l i .symbol < 4
+  pub toSmall : (i : ℕ) → i < allEdges l → edgeNumber l i .to < 1024
 
 -- where the parts of the section stand
 pub record Placed (l : List ℕ) (n roots goals pairs symbols edges : ℕ) : Type 0 where
@@ -51,7 +53,7 @@ pub record Swept (l prices old new : List ℕ) : Type 0 where
   pub long : length new ≡ 9216
   pub rows : (cost : ℕ → ℕ → ℕ) (number : ℕ → ℕ) → Priced l prices cost → Rows l cost number (nOf l) old → Rows l cost number 0 new
 
--- from vertex v of depth t on the rows name a path: there is one
+-- all rows are done, and from vertex v of depth 0 there is a path
 pub record Open (l prices rows : List ℕ) (v : ℕ) : Type 0 where
   pub cost : ℕ → ℕ → ℕ
   pub number : ℕ → ℕ
@@ -60,7 +62,7 @@ pub record Open (l prices rows : List ℕ) (v : ℕ) : Type 0 where
   pub inside : v < vertexCountOf l 0
   pub below : getD rows v 0 < top
 
--- the first path of least cost from vertex v, its symbols packed to a label
+-- the first path of least cost from vertex v of depth 0, its symbols packed to a label
 pub record Named (l prices rows : List ℕ) (v label end : ℕ) : Type 0 where
   pub endIn : end < vertexCountOf l (nOf l)
   pub labelIs : (cost : ℕ → ℕ → ℕ) (number : ℕ → ℕ) → Priced l prices cost → Rows l cost number 0 rows
