@@ -142,3 +142,9 @@ known {l} {t} {v} F h e m =
       to-in = subst (λ f. f .to < vertexCountOf l (suc t)) (sym (w .is)) y;
       symbol-lt = subst (λ f. f .symbol < 4) (sym (w .is)) z;
     }
+
+-- ---- counts as they are read
+
+pub vertices-to : {l : List ℕ} {t : ℕ} → Fits l → t ≤ nOf l → getD l (3 + t) 0 ≤ 1024
+unfolding vertexCountOf
+vertices-to {l} {t} F h = F .verticesTo t h

@@ -105,6 +105,13 @@ name-start {l} {prices} {rows} {n} {root = root} P O = record {
   endTo = λ cost number a R. rw sub-zero;
 }
 
+pub name-small : {l prices rows : List ℕ} {root n t lo v label : ℕ} → Fits l → n ≡ nOf l → InName l prices rows root n t lo v label → v < 1024
+name-small {t = t} F e I = let a = F .verticesTo t (omega (arith, I .t-le)) in omega (arith, I .inside)
+
+pub name-near : {l prices rows : List ℕ} {root n roots goals pairs symbols edges t lo v label : ℕ} → Placed l n roots goals pairs symbols edges
+    → InName l prices rows root n t lo v label → lo ≤ 100000
+name-near {l} {t = t} P I = let a = before-le l t (nOf l) (omega (arith, I .t-le, P .nIs)) in omega (arith, I .lo-is, P .edgesIs, P .near)
+
 -- the edges of step t
 pub name-step : {l prices rows : List ℕ} {root n t lo v label hi count : ℕ} → n ≡ nOf l → InName l prices rows root n t lo v label → t < n
     → count ≡ getD l (4 + n + t) 0 → hi ≡ lo + count → InStep l t lo hi

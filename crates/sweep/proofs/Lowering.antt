@@ -59,7 +59,8 @@ clear-more {t} {count} {v} {old} {rows} I a b h = record { v-le = omega arith; l
 pub clear-end : {t count v : ℕ} {old rows : List ℕ} → InClear t count old rows v → count ≤ v → InClear t count old rows count
 clear-end {t} {count} {v} {old} {rows} I h = let e : v ≡ count = omega (arith, I .v-le) in subst (InClear t count old rows) e I
 
-pub is-clear : {l : List ℕ} {t count : ℕ} {old rows : List ℕ} → InClear t count old rows count → count ≡ vertexCountOf l t → Clear l t rows
+pub is-clear : {l : List ℕ} {t count : ℕ} {old rows : List ℕ} → InClear t count old rows count → count ≡ getD l (3 + t) 0 → Clear l t rows
+unfolding vertexCountOf
 is-clear I e = record { long = I .long; cleared = λ v h. I .cleared v (omega arith) }
 
 -- ---- lowered
