@@ -4,3 +4,4 @@ pub mod Reading
 pub mod Marking
 pub mod Steps
 pub mod Usable
+pub mod Words
