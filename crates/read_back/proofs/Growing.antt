@@ -23,6 +23,15 @@ use Rattle.read_back.specs.Levels.{code, rootOf, vertexOf, labelOf, furt
 use Rattle.read_back.specs.Growing.{Made, StepIn, BeginsAt, Starts, FirstLevel, RootCodes}
 use Rattle.read_back.proofs.Lists.{run-cons, run-none, leaving-yes, leaving-no, leaving-none}
 
+-- ---- one beginning further along one edge
+
+pub further-is : (c symbol vertex : ℕ) {w x y z : ℕ} → (w ≡ vertex) × (w < 65536) → x ≡ labelOf c → y ≡ appended x symbol → (z ≡ y) × (z < 65536)
+    → (c / 67108864 * 1024 + w) * 65536 + z ≡ furtherCode c (edge 0 symbol vertex)
+further-is c symbol vertex p q r t = ap₂ (λ v a. (c / 67108864 * 1024 + v) * 65536 + a) (p .0) (t .0 ∙ r ∙ ap (λ a. appended a symbol) q)
+
+pub further-at : (c : ℕ) {r x y a b : ℕ} → r ≡ furtherCode c (edge 0 x y) → x ≡ a → y ≡ b → r ≡ furtherCode c (edge 0 a b)
+further-at c p q t = p ∙ ap₂ (λ a b. furtherCode c (edge 0 a b)) q t
+
 -- ---- where the edges of a vertex begin
 
 -- the edges from k on are noted
@@ -101,6 +110,10 @@ noted-all {e} {count} {starts} {k} n h = record {
   };
 }
 
+pub begins-of : {e : ℕ → Edge} {count : ℕ} {starts : List ℕ} (c : ℕ) {v r : ℕ} → Starts e count starts → v ≡ vertexOf c → (r ≡ getD starts v 0) × (r < 65536) → BeginsAt e count (vertexOf c) r
+begins-of {e} {count} {starts} c {v} {r} s q w =
+    subst (BeginsAt e count (vertexOf c)) (sym (w .0 ∙ ap (λ u. getD starts u 0) q)) (s .at (vertexOf c) (omega arith))
+
 -- ---- one beginning
 
 -- what is left of the edges that leave v still has to be put behind what is filled
@@ -133,8 +146,8 @@ module _ {f : Edge → ℕ} {e : ℕ → Edge} {count v : ℕ} {old : List ℕ} 
     leaving-here : e k .from ≡ v → leaving v (run e k (count - k)) ≡ e k ∷ leaving v (run e (suc k) (count - suc k))
     leaving-here q = ap (leaving v) (run-cons e k count h) ∙ leaving-yes v (e k) (run e (suc k) (count - suc k)) (eq-eqb (e k .from) v q)
 
-    pub putting-next : e k .from ≡ v → filled < 1024 → ((j k : ℕ) → j ≤ k → k < count → e j .from ≤ e k .from) → Putting f e count v old made (set new filled (f (e k))) (filled + 1) (k + 1)
-    putting-next q r rise = record {
+    pub putting-next : {r : ℕ} → e k .from ≡ v → filled < 1024 → r ≡ f (e k) → ((j k : ℕ) → j ≤ k → k < count → e j .from ≤ e k .from) → Putting f e count v old made (set new filled r) (filled + 1) (k + 1)
+    putting-next {r} q low is rise = subst (λ x. Putting f e count v old made (set new filled x) (filled + 1) (k + 1)) (sym is) (record {
       inside = omega arith;
       room = omega arith;
       long = length-set new filled (f (e k)) ∙ p .long;
@@ -146,7 +159,7 @@ module _ {f : Edge → ℕ} {e : ℕ → Edge} {count v : ℕ} {old : List ℕ} 
           ∙ ap (λ es. take filled new ++ map f es) (sym u) ∙ p .left;
       size = let u : leaving v (run e k (count - k)) ≡ e k ∷ leaving v (run e (k + 1) (count - (k + 1))) = rw (add-one k) (leaving-here q) in omega (arith, p .size, ap length u);
       above = λ g. omega (arith, rise k (k + 1) (omega arith) g);
-    }
+    })
 
     pub putting-over : e k .from ≡ v → 1024 ≤ filled → Made (map f (leaving v (run e 0 count))) old made new 1025
     putting-over q r = record {

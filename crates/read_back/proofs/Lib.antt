@@ -3,3 +3,6 @@ pub mod Lists
 pub mod Levels
 pub mod Growing
 pub mod Writing
+pub mod Sections
+pub mod Depths
+pub mod Outcomes

@@ -14,6 +14,7 @@ use Rattle.trellis.specs.Write.{Wrote}
 use Rattle.trellis.proofs.Lists.{flatMap-append}
 use Rattle.trellis.proofs.Write.{wrote-none, wrote-then, wrote-front, wrote-length}
 use Rattle.read_back.specs.TableBytes.{bytesOf}
+use Rattle.read_back.specs.Levels.{rootOf, vertexOf, labelOf}
 use Rattle.read_back.specs.Growing.{byteOf, pairOfCode, labelOfCode, fileOfCodes}
 
 -- ---- two bytes for each number
@@ -47,6 +48,24 @@ module _ {f : ℕ → List ℕ} {old : List ℕ} {start : ℕ} {codes : List ℕ
   pub pieces-all : {new : List ℕ} {at i : ℕ} → Pieces f old start codes count new at i → count ≤ i → Wrote old start (flatMap f (take count codes)) new at
   pieces-all {new} {at} {i} p h = let e : i ≡ count = omega (arith, p .inside) in subst (λ k. Wrote old start (flatMap f (take k codes)) new at) e (p .so-far)
 
+pub pair-is : (s : List ℕ) (goals c : ℕ) {r a v x w b : ℕ} → r ≡ rootOf c → a ≡ byteOf r → v ≡ vertexOf c → x ≡ getD s (goals + v) 0 → (w ≡ x) × (w < 65536) → b ≡ byteOf w
+    → pairOfCode s goals c ≡ a ∷ b ∷ []
+pair-is s goals c p q r t u d = sym (ap₂ (λ a b. a ∷ b ∷ []) (q ∙ ap byteOf p) (d ∙ ap byteOf (u .0 ∙ t ∙ ap (λ v. getD s (goals + v) 0) r)))
+
+pub label-is : (c : ℕ) {x w a b : ℕ} → x ≡ labelOf c → (w ≡ x) × (w < 65536) → a ≡ byteOf w → b ≡ byteOf (w / 256) → labelOfCode c ≡ a ∷ b ∷ []
+label-is c {x} {w} p u q d =
+    let e : w ≡ labelOf c = u .0 ∙ p in
+    let small : byteOf (w / 256) ≡ w / 256 = mod-eq-of-lt (omega (arith, u .1)) in
+    sym (ap₂ (λ a b. a ∷ b ∷ []) (q ∙ ap byteOf e) (d ∙ small ∙ ap (λ y. y / 256) e))
+
+pub sizes-put : (l : List ℕ) (s : List ℕ) (count : ℕ) {x y z u v w a b d e f : ℕ} → x ≡ getD s 0 0 → (u ≡ x) × (u < 65536) → a ≡ byteOf u → y ≡ getD s 1 0 → (v ≡ y) × (v < 65536) → b ≡ byteOf v
+    → z ≡ getD s 2 0 → (w ≡ z) × (w < 65536) → d ≡ byteOf w → e ≡ byteOf count → f ≡ byteOf (count / 256)
+    → Wrote l 0 (byteOf (getD s 0 0) ∷ byteOf (getD s 1 0) ∷ byteOf (getD s 2 0) ∷ byteOf count ∷ byteOf (count / 256) ∷ []) (set (set (set (set (set l 0 a) 1 b) 2 d) 3 e) 4 f) 5
+sizes-put l s count p1 p2 p3 q1 q2 q3 r1 r2 r3 t1 t2 = record {
+  new-is = rw (p3 ∙ ap byteOf (p2 .0 ∙ p1), q3 ∙ ap byteOf (q2 .0 ∙ q1), r3 ∙ ap byteOf (r2 .0 ∙ r1), t1, t2);
+  end-is = refl;
+}
+
 -- ---- the whole file
 
 length-two : (f : ℕ → List ℕ) (codes : List ℕ) → ((c : ℕ) → length (f c) ≡ 2) → length (flatMap f codes) ≡ 2 * length codes
@@ -69,6 +88,10 @@ module _ (s : List ℕ) (goals : ℕ) (codes : List ℕ) (count : ℕ) (room : c
 
   pub pairs-end : {a b : List ℕ} {e : ℕ} → Wrote a 5 (flatMap (pairOfCode s goals) (take count codes)) b e → e ≡ 5 + 2 * count
   pairs-end w = w .end-is ∙ ap (λ k. 5 + k) pairs-length
+
+  -- there is room for the labels behind the pairs
+  pub labels-room : {a b c us : List ℕ} {m : ℕ} → 5 + 4 * count ≤ length a → Wrote a 0 us b 5 → Wrote b 5 (flatMap (pairOfCode s goals) (take count codes)) c m → m + 2 * count ≤ length c
+  labels-room h p q = omega (arith, pairs-end q, wrote-length p, wrote-length q)
 
   pub file-put : {a b c d : List ℕ} {m e : ℕ} → 5 + 4 * count ≤ length a → count ≤ 1024
       → Wrote a 0 (byteOf (getD s 0 0) ∷ byteOf (getD s 1 0) ∷ byteOf (getD s 2 0) ∷ byteOf count ∷ byteOf (count / 256) ∷ []) b 5

@@ -7,7 +7,6 @@ use lib.ListN.{length, getD, take}
 use Rattle.trellis.specs.Lists.{run, each}
 use Rattle.trellis.specs.Own.{Edge}
 use Rattle.trellis.specs.Section.{leaving}
-
 use Rattle.trellis.specs.Layout.{goalsPlace, pairsPlace, symbolsPlace}
 use Rattle.section_file.specs.Answer.{edgeAt}
 use Rattle.read_back.specs.TableBytes.{bytesOf}

@@ -16,7 +16,8 @@ ghost use Rattle.read_back.specs.ReadingBack.{readBackOutcome, leaves, i
 ghost use Rattle.read_back.specs.Levels.{code, rootOf, vertexOf, labelOf, furtherCode, grownCodes};
 ghost use Rattle.read_back.specs.Growing.{Made, StepIn, BeginsAt, Starts, PlacesOf, Gathered, FirstLevel, RootCodes, byteOf, pairOfCode, labelOfCode, fileOfCodes};
 use label::append;
-use section_file::{Part, usable_at};
+use section_file::Part;
+use section_file::usable_at;
 
 pub enum ReadBack {
     File(usize),
@@ -98,7 +99,16 @@ fn starts_of(s: &[u16], pairs: usize, symbols: usize, count: usize) -> [u16; 102
 }
 
 // Puts the beginning c, one step further along each edge that leaves its vertex, behind the first `made` numbers.
-fn grow_one(s: &[u16], pairs: usize, symbols: usize, count: usize, start: usize, c: u32, made: usize, codes: &mut [u32; 1024]) -> usize
+fn grow_one(
+    s: &[u16],
+    pairs: usize,
+    symbols: usize,
+    count: usize,
+    start: usize,
+    c: u32,
+    made: usize,
+    codes: &mut [u32; 1024],
+) -> usize
     requires { ⌜ StepIn (now s) pairs symbols count × BeginsAt (edgeAt (now s) pairs symbols) count (vertexOf c) start × (made ≤ 1024) × (length (now codes) ≡ 1024) ⌝ }
     ensures { λ r. ⌜ Made (grownCodes (run (edgeAt (now (s .entry)) pairs symbols) 0 count) c) (now (codes .entry)) made (now (codes .exit)) r ⌝ }
 {
@@ -120,7 +130,15 @@ fn grow_one(s: &[u16], pairs: usize, symbols: usize, count: usize, start: usize,
 }
 
 // Puts the first `have` beginnings of `old` one step further.
-fn grow(s: &[u16], pairs: usize, symbols: usize, count: usize, old: &[u32; 1024], have: usize, codes: &mut [u32; 1024]) -> usize
+fn grow(
+    s: &[u16],
+    pairs: usize,
+    symbols: usize,
+    count: usize,
+    old: &[u32; 1024],
+    have: usize,
+    codes: &mut [u32; 1024],
+) -> usize
     requires { ⌜ StepIn (now s) pairs symbols count × (have ≤ 1024) × (length (now old) ≡ 1024) × (length (now codes) ≡ 1024) ⌝ }
     ensures { λ r. ⌜ Made (flatMap (grownCodes (run (edgeAt (now (s .entry)) pairs symbols) 0 count)) (take have (now (old .entry)))) (now (codes .entry)) 0 (now (codes .exit)) r ⌝ }
 {
@@ -178,7 +196,15 @@ fn gather(s: &[u16], n: usize, pairs: usize, symbols: usize, codes: &mut [u32; 1
     while t < n {
         let old = *codes;
         let count = wide(number(s, 4 + n + t));
-        have = grow(s, pairs + 2 * before, symbols + before, count, &old, have, codes);
+        have = grow(
+            s,
+            pairs + 2 * before,
+            symbols + before,
+            count,
+            &old,
+            have,
+            codes,
+        );
         if have > 1024 {
             return have;
         }

@@ -24,18 +24,19 @@ use Rattle.section_file.proofs.Reading.{sum-last, counted-edges}
 
 -- ---- one step
 
-edges-are : {l : List ℕ} {n t pairs symbols : ℕ} → StepAt l n t pairs symbols → edgeAt l pairs symbols ≡ stepEdge l t
+-- the edges that the code reads are those of the step
+pub edges-at : (l : List ℕ) (t : ℕ) {pairs symbols : ℕ} → pairs ≡ pairsPlace l + 2 * edgesBefore l t → symbols ≡ symbolsPlace l + edgesBefore l t → edgeAt l pairs symbols ≡ stepEdge l t
 unfolding stepEdge edgeNumber
-edges-are {l} {n} {t} {pairs} {symbols} s = λ i k. own.edge (getD l (first k i) 0) (getD l (second k i) 0) (getD l (third k i) 0)
+edges-at l t {pairs} {symbols} p q = λ i k. own.edge (getD l (first k i) 0) (getD l (second k i) 0) (getD l (third k i) 0)
   where
     first : (k : ℕ) → pairs + 2 * k ≡ pairsPlace l + 2 * (edgesBefore l t + k)
-    first k = omega (arith, s .pairsIs)
+    first k = omega arith
 
     second : (k : ℕ) → symbols + k ≡ symbolsPlace l + (edgesBefore l t + k)
-    second k = omega (arith, s .symbolsIs)
+    second k = omega arith
 
     third : (k : ℕ) → pairs + 1 + 2 * k ≡ pairsPlace l + 2 * (edgesBefore l t + k) + 1
-    third k = omega (arith, s .pairsIs)
+    third k = omega arith
 
 edges-read : {l : List ℕ} {n : ℕ} (t : ℕ) {x : ℕ} → Counted l n → x ≡ getD l (4 + n + t) 0 → x ≡ edgeCountOf l t
 unfolding edgeCountOf
@@ -74,7 +75,7 @@ module _ {l : List ℕ} {n t pairs symbols count q froms tos : ℕ} (r : StepRea
 
   right-is : good ≡ stepRight l t
   unfolding stepRight
-  right-is = simp (edges-are (r .at), r .countIs, r .qIs, r .fromsIs, r .tosIs, r .at .counted .nIs)
+  right-is = simp (edges-at l t (r .at .pairsIs) (r .at .symbolsIs), r .countIs, r .qIs, r .fromsIs, r .tosIs, r .at .counted .nIs)
 
   module _ {a : Bool} (a-is : a ≡ all (inside (edgeAt l pairs symbols) q froms tos) count) where
     pub inside-wrong : not a ≡ true → false ≡ stepRight l t

@@ -1,71 +1,58 @@
+use native.Mathlib.Omega.{arith}
+use Prim.Native.Nat.{_-_}
+use Rattle.read_back.proofs.Growing.{Rooted, rooted-start, rooted-next, rooted-all}
+use borrow.Author.Needs.{needs}
 use Rattle.read_back.proofs.first_level.Statement.{statement}
 use Rattle.read_back.proofs.first_level.Tie as tie
-use Rattle.read_back.proofs.first_level.Reads as reads
-use Rattle.read_back.proofs.first_level.Lts as lts
-use Rattle.read_back.proofs.number.Reads as number-reads
-use Rattle.read_back.proofs.wider.Reads as wider-reads
 
 abbrev Inv-loop : tie.InvT-loop
-Inv-loop s roots count codes₀ v₀ codes v = ?
+Inv-loop s roots count codes₀ v₀ codes v = Rooted s roots count codes v
 
 abbrev μ-loop : tie.MeasureT-loop
-μ-loop s roots count codes₀ v₀ codes v = ?
+μ-loop s roots count codes₀ v₀ codes v = count - v
 
--- src/lib.rt:148:5
 loop-holds : tie.Need-loop-holds Inv-loop μ-loop
-loop-holds c = ?
+loop-holds c = rooted-start _ _ _ (c .before .pre .1)
 
--- src/lib.rt:149:37
 add-number : tie.Need-add-number Inv-loop μ-loop
-add-number c = ?
+add-number c = search needs
 
--- src/lib.rt:149:27
 number-requires : tie.Need-number-requires Inv-loop μ-loop
-number-requires c κs = ?
+number-requires c κs = search needs
 
--- src/lib.rt:149:21
 wider-requires : tie.Need-wider-requires Inv-loop μ-loop
-wider-requires c κs = ?
+wider-requires c κs = search needs
 
--- src/lib.rt:149:21
 mul-codes : tie.Need-mul-codes Inv-loop μ-loop
-mul-codes c = ?
+mul-codes c = search needs
 
--- src/lib.rt:149:59
 cast-codes : tie.Need-cast-codes Inv-loop μ-loop
-cast-codes c = ?
+cast-codes c = search needs
 
--- src/lib.rt:149:21
 add-codes : tie.Need-add-codes Inv-loop μ-loop
-add-codes c = ?
+add-codes c = search needs
 
--- src/lib.rt:149:20
 mul-codes-2 : tie.Need-mul-codes-2 Inv-loop μ-loop
-mul-codes-2 c = ?
+mul-codes-2 c = let h = c .before .before in let p = h .before .before .before .pre in
+    record { fits = omega (arith, p .0 .small (h .before .loop .v) (h .loop-test .taken), p .0 .few, c .before .number .ensures, c .wider .ensures .0) }
 
--- src/lib.rt:149:9
 mul-codes-3 : tie.Need-mul-codes-3 Inv-loop μ-loop
-mul-codes-3 c = ?
+mul-codes-3 c = search needs
 
--- src/lib.rt:149:9
 element-write-codes : tie.Need-element-write-codes Inv-loop μ-loop
-element-write-codes c = ?
+element-write-codes c = search needs
 
--- src/lib.rt:150:9
 add-v : tie.Need-add-v Inv-loop μ-loop
-add-v c = ?
+add-v c = search needs
 
--- src/lib.rt:148:5
 loop-less : tie.Need-loop-less Inv-loop μ-loop
-loop-less c = ?
+loop-less c = search needs
 
--- src/lib.rt:148:5
 loop-again : tie.Need-loop-again Inv-loop μ-loop
-loop-again c = ?
+loop-again c = let h = c .before .before in rooted-next (h .before .loop .inv) (h .before .before .before .pre .0) (h .loop-test .taken) (c .before .number .ensures) (c .wider .ensures)
 
--- src/lib.rt:143:1
 returns : tie.Need-returns Inv-loop μ-loop
-returns c = ?
+returns c = rooted-all (c .before .loop .inv) (search needs)
 
 pub first-level-spec : {M : Type 1} → statement M
 first-level-spec =

@@ -1,105 +1,89 @@
+use mathlib.Core.Path.{sym, _∙_}
+use native.Mathlib.Omega.{arith}
+use Prim.Native.Nat.{_-_}
+use Rattle.section_file.specs.Answer.{edgeAt}
+use Rattle.read_back.specs.Levels.{vertexOf, furtherCode}
+use Rattle.read_back.proofs.Growing.{further-at, Putting, putting-start, putting-next, putting-over, putting-done, putting-stops}
+use borrow.Author.Needs.{needs}
 use Rattle.read_back.proofs.grow_one.Statement.{statement}
 use Rattle.read_back.proofs.grow_one.Tie as tie
-use Rattle.read_back.proofs.grow_one.Reads as reads
-use Rattle.read_back.proofs.grow_one.Lts as lts
-use Rattle.read_back.proofs.further.Reads as further-reads
-use Rattle.read_back.proofs.number.Reads as number-reads
-use Rattle.read_back.proofs.vertex_of.Reads as vertex-of-reads
-use Rattle.read_back.proofs.wide.Reads as wide-reads
 
 abbrev Inv-loop : tie.InvT-loop
-Inv-loop s pairs symbols count start c made codes₀ vertex filled₀ k₀ codes filled k = ?
+Inv-loop s pairs symbols count start c made codes₀ vertex filled₀ k₀ codes filled k = Putting (furtherCode c) (edgeAt s pairs symbols) count (vertexOf c) codes₀ made codes filled k
 
 abbrev μ-loop : tie.MeasureT-loop
-μ-loop s pairs symbols count start c made codes₀ vertex filled₀ k₀ codes filled k = ?
+μ-loop s pairs symbols count start c made codes₀ vertex filled₀ k₀ codes filled k = count - k
 
--- src/lib.rt:105:9
 vertex-of-requires : tie.Need-vertex-of-requires Inv-loop μ-loop
-vertex-of-requires c κs = ?
+vertex-of-requires c κs = search needs
 
--- src/lib.rt:108:5
 loop-holds : tie.Need-loop-holds Inv-loop μ-loop
-loop-holds c = ?
+loop-holds c = let p = c .before .before .pre in putting-start (p .1) (p .2) (p .3)
 
--- src/lib.rt:109:35
 mul-number : tie.Need-mul-number Inv-loop μ-loop
-mul-number c = ?
+mul-number c = search needs
 
--- src/lib.rt:109:27
 add-number : tie.Need-add-number Inv-loop μ-loop
-add-number c = ?
+add-number c = search needs
 
--- src/lib.rt:109:17
 number-requires : tie.Need-number-requires Inv-loop μ-loop
-number-requires c κs = ?
+number-requires c κs = search needs
 
--- src/lib.rt:109:12
 wide-requires : tie.Need-wide-requires Inv-loop μ-loop
-wide-requires c κs = ?
+wide-requires c κs = search needs
 
--- src/lib.rt:110:13
 returns : tie.Need-returns Inv-loop μ-loop
-returns c = ?
+returns c = let w = c .before in let n = w .before in let h = n .before in let u = h .before .before in
+    putting-stops (h .before .loop .inv) (h .loop-test .taken) (λ q. c .if1 .taken (w .wide .ensures .0 ∙ n .number .ensures ∙ q ∙ sym (u .vertex-of .ensures))) (u .before .before .pre .0 .fromsRise)
 
--- src/lib.rt:113:13
 returns-2 : tie.Need-returns-2 Inv-loop μ-loop
-returns-2 c = ?
+returns-2 c = let e1 = c .before in let w = e1 .before in let n = w .before in let h = n .before in let u = h .before .before in
+    putting-over (h .before .loop .inv) (h .loop-test .taken) (sym (n .number .ensures) ∙ sym (w .wide .ensures .0) ∙ e1 .if1 .left ∙ u .vertex-of .ensures) (c .if2 .taken)
 
--- src/lib.rt:115:46
 add-number-2 : tie.Need-add-number-2 Inv-loop μ-loop
-add-number-2 c = ?
+add-number-2 c = search needs
 
--- src/lib.rt:115:36
 number-requires-2 : tie.Need-number-requires-2 Inv-loop μ-loop
-number-requires-2 c κs = ?
+number-requires-2 c κs = search needs
 
--- src/lib.rt:115:70
 add-number-3 : tie.Need-add-number-3 Inv-loop μ-loop
-add-number-3 c = ?
+add-number-3 c = search needs
 
--- src/lib.rt:115:82
 mul-number-2 : tie.Need-mul-number-2 Inv-loop μ-loop
-mul-number-2 c = ?
+mul-number-2 c = search needs
 
--- src/lib.rt:115:70
 add-number-4 : tie.Need-add-number-4 Inv-loop μ-loop
-add-number-4 c = ?
+add-number-4 c = search needs
 
--- src/lib.rt:115:60
 number-requires-3 : tie.Need-number-requires-3 Inv-loop μ-loop
-number-requires-3 c κs = ?
+number-requires-3 c κs = search needs
 
--- src/lib.rt:115:25
 further-requires : tie.Need-further-requires Inv-loop μ-loop
-further-requires c κs = ?
+further-requires c κs = let h = c .before .before .before .before .before .before in
+    omega (arith, h .before .before .before .before .pre .0 .toSmall (h .before .loop .k) (h .loop-test .taken), c .number3 .ensures)
 
--- src/lib.rt:115:9
 mul-codes : tie.Need-mul-codes Inv-loop μ-loop
-mul-codes c = ?
+mul-codes c = search needs
 
--- src/lib.rt:115:9
 element-write-codes : tie.Need-element-write-codes Inv-loop μ-loop
-element-write-codes c = ?
+element-write-codes c = search needs
 
--- src/lib.rt:116:9
 add-filled : tie.Need-add-filled Inv-loop μ-loop
-add-filled c = ?
+add-filled c = search needs
 
--- src/lib.rt:117:9
 add-k : tie.Need-add-k Inv-loop μ-loop
-add-k c = ?
+add-k c = search needs
 
--- src/lib.rt:108:5
 loop-less : tie.Need-loop-less Inv-loop μ-loop
-loop-less c = ?
+loop-less c = search needs
 
--- src/lib.rt:108:5
 loop-again : tie.Need-loop-again Inv-loop μ-loop
-loop-again c = ?
+loop-again c = let n3 = c .before in let n2 = n3 .before in let e2 = n2 .before in let e1 = e2 .before in let w = e1 .before in let n = w .before in let h = n .before in let u = h .before .before in
+    putting-next (h .before .loop .inv) (h .loop-test .taken) (sym (n .number .ensures) ∙ sym (w .wide .ensures .0) ∙ e1 .if1 .left ∙ u .vertex-of .ensures) (e2 .if2 .left)
+    (further-at (u .before .before .args .c) (c .further .ensures) (n2 .number2 .ensures) (n3 .number3 .ensures)) (u .before .before .pre .0 .fromsRise)
 
--- src/lib.rt:101:1
 returns-3 : tie.Need-returns-3 Inv-loop μ-loop
-returns-3 c = ?
+returns-3 c = putting-done (c .before .loop .inv) (search needs)
 
 pub grow-one-spec : {M : Type 1} → statement M
 grow-one-spec =

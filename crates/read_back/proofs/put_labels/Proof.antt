@@ -1,80 +1,66 @@
+use native.Mathlib.Omega.{arith}
+use Prim.Native.Nat.{_-_}
+use lib.ListN.{length-set}
+use Rattle.read_back.specs.Growing.{labelOfCode}
+use Rattle.read_back.proofs.Writing.{Pieces, pieces-start, label-is, pieces-next, pieces-all}
+use borrow.Author.Needs.{needs}
 use Rattle.read_back.proofs.put_labels.Statement.{statement}
 use Rattle.read_back.proofs.put_labels.Tie as tie
-use Rattle.read_back.proofs.put_labels.Reads as reads
-use Rattle.read_back.proofs.put_labels.Lts as lts
-use Rattle.read_back.proofs.byte.Reads as byte-reads
-use Rattle.read_back.proofs.label_of.Reads as label-of-reads
-use Rattle.read_back.proofs.wide.Reads as wide-reads
 
 abbrev Inv-loop : tie.InvT-loop
-Inv-loop codes count start file₀ at₀ i₀ file at i = ?
+Inv-loop codes count start file₀ at₀ i₀ file at i = Pieces labelOfCode file₀ start codes count file at i
 
 abbrev μ-loop : tie.MeasureT-loop
-μ-loop codes count start file₀ at₀ i₀ file at i = ?
+μ-loop codes count start file₀ at₀ i₀ file at i = count - i
 
--- src/lib.rt:224:5
 loop-holds : tie.Need-loop-holds Inv-loop μ-loop
-loop-holds c = ?
+loop-holds c = pieces-start
 
--- src/lib.rt:225:35
 mul-label-of : tie.Need-mul-label-of Inv-loop μ-loop
-mul-label-of c = ?
+mul-label-of c = search needs
 
--- src/lib.rt:225:35
 element-copy-out-label-of : tie.Need-element-copy-out-label-of Inv-loop μ-loop
-element-copy-out-label-of c = ?
+element-copy-out-label-of c = search needs
 
--- src/lib.rt:225:26
 label-of-requires : tie.Need-label-of-requires Inv-loop μ-loop
-label-of-requires c κs = ?
+label-of-requires c κs = search needs
 
--- src/lib.rt:225:13
 wide-requires : tie.Need-wide-requires Inv-loop μ-loop
-wide-requires c κs = ?
+wide-requires c κs = search needs
 
--- src/lib.rt:226:20
 byte-requires : tie.Need-byte-requires Inv-loop μ-loop
-byte-requires c κs = ?
+byte-requires c κs = search needs
 
--- src/lib.rt:226:9
 slice-write-file : tie.Need-slice-write-file Inv-loop μ-loop
-slice-write-file c = ?
+slice-write-file c = search needs
 
--- src/lib.rt:227:24
 byte-requires-2 : tie.Need-byte-requires-2 Inv-loop μ-loop
-byte-requires-2 c κs = ?
+byte-requires-2 c κs = search needs
 
--- src/lib.rt:227:14
 add-file : tie.Need-add-file Inv-loop μ-loop
-add-file c = ?
+add-file c = search needs
 
--- src/lib.rt:227:9
 slice-write-file-2 : tie.Need-slice-write-file-2 Inv-loop μ-loop
-slice-write-file-2 c = ?
+slice-write-file-2 c = simp length-set (omega arith)
 
--- src/lib.rt:228:9
 add-at : tie.Need-add-at Inv-loop μ-loop
-add-at c = ?
+add-at c = search needs
 
--- src/lib.rt:229:9
 add-i : tie.Need-add-i Inv-loop μ-loop
-add-i c = ?
+add-i c = search needs
 
--- src/lib.rt:224:5
 loop-less : tie.Need-loop-less Inv-loop μ-loop
-loop-less c = ?
+loop-less c = search needs
 
--- src/lib.rt:224:5
 loop-again : tie.Need-loop-again Inv-loop μ-loop
-loop-again c = ?
+loop-again c = let b = c .before in let w = b .before in let l = w .before in let h = l .before .before in
+    pieces-next (h .before .loop .inv) (h .loop-test .taken) (search needs) (label-is _ (l .label-of .ensures) (w .wide .ensures) (b .byte .ensures) (c .byte2 .ensures))
 
--- src/lib.rt:218:1
 same-length : tie.Need-same-length Inv-loop μ-loop
-same-length c = ?
+same-length c = c .before .loop .inv .len
 
--- src/lib.rt:218:1
 returns : tie.Need-returns Inv-loop μ-loop
-returns c = ?
+returns c = pieces-all (c .before .loop .inv) (search needs)
 
 pub put-labels-spec : {M : Type 1} → statement M
 put-labels-spec =

@@ -1,94 +1,75 @@
+use native.Mathlib.Omega.{arith}
+use Prim.Native.Nat.{_-_}
+use lib.ListN.{length-set}
+use Rattle.read_back.specs.Growing.{pairOfCode}
+use Rattle.read_back.proofs.Writing.{Pieces, pieces-start, pair-is, pieces-next, pieces-all}
+use borrow.Author.Needs.{needs}
 use Rattle.read_back.proofs.put_pairs.Statement.{statement}
 use Rattle.read_back.proofs.put_pairs.Tie as tie
-use Rattle.read_back.proofs.put_pairs.Reads as reads
-use Rattle.read_back.proofs.put_pairs.Lts as lts
-use Rattle.read_back.proofs.byte.Reads as byte-reads
-use Rattle.read_back.proofs.number.Reads as number-reads
-use Rattle.read_back.proofs.root_of.Reads as root-of-reads
-use Rattle.read_back.proofs.vertex_of.Reads as vertex-of-reads
-use Rattle.read_back.proofs.wide.Reads as wide-reads
 
 abbrev Inv-loop : tie.InvT-loop
-Inv-loop s goals codes count file₀ at₀ i₀ file at i = ?
+Inv-loop s goals codes count file₀ at₀ i₀ file at i = Pieces (pairOfCode s goals) file₀ 5 codes count file at i
 
 abbrev μ-loop : tie.MeasureT-loop
-μ-loop s goals codes count file₀ at₀ i₀ file at i = ?
+μ-loop s goals codes count file₀ at₀ i₀ file at i = count - i
 
--- src/lib.rt:208:5
 loop-holds : tie.Need-loop-holds Inv-loop μ-loop
-loop-holds c = ?
+loop-holds c = pieces-start
 
--- src/lib.rt:209:17
 mul-c : tie.Need-mul-c Inv-loop μ-loop
-mul-c c = ?
+mul-c c = search needs
 
--- src/lib.rt:209:17
 element-copy-out-c : tie.Need-element-copy-out-c Inv-loop μ-loop
-element-copy-out-c c = ?
+element-copy-out-c c = search needs
 
--- src/lib.rt:210:25
 root-of-requires : tie.Need-root-of-requires Inv-loop μ-loop
-root-of-requires c κs = ?
+root-of-requires c κs = search needs
 
--- src/lib.rt:210:20
 byte-requires : tie.Need-byte-requires Inv-loop μ-loop
-byte-requires c κs = ?
+byte-requires c κs = search needs
 
--- src/lib.rt:210:9
 slice-write-file : tie.Need-slice-write-file Inv-loop μ-loop
-slice-write-file c = ?
+slice-write-file c = search needs
 
--- src/lib.rt:211:52
 vertex-of-requires : tie.Need-vertex-of-requires Inv-loop μ-loop
-vertex-of-requires c κs = ?
+vertex-of-requires c κs = search needs
 
--- src/lib.rt:211:44
 add-number : tie.Need-add-number Inv-loop μ-loop
-add-number c = ?
+add-number c = search needs
 
--- src/lib.rt:211:34
 number-requires : tie.Need-number-requires Inv-loop μ-loop
-number-requires c κs = ?
+number-requires c κs = search needs
 
--- src/lib.rt:211:29
 wide-requires : tie.Need-wide-requires Inv-loop μ-loop
-wide-requires c κs = ?
+wide-requires c κs = search needs
 
--- src/lib.rt:211:24
 byte-requires-2 : tie.Need-byte-requires-2 Inv-loop μ-loop
-byte-requires-2 c κs = ?
+byte-requires-2 c κs = search needs
 
--- src/lib.rt:211:14
 add-file : tie.Need-add-file Inv-loop μ-loop
-add-file c = ?
+add-file c = search needs
 
--- src/lib.rt:211:9
 slice-write-file-2 : tie.Need-slice-write-file-2 Inv-loop μ-loop
-slice-write-file-2 c = ?
+slice-write-file-2 c = simp length-set (omega arith)
 
--- src/lib.rt:212:9
 add-at : tie.Need-add-at Inv-loop μ-loop
-add-at c = ?
+add-at c = search needs
 
--- src/lib.rt:213:9
 add-i : tie.Need-add-i Inv-loop μ-loop
-add-i c = ?
+add-i c = search needs
 
--- src/lib.rt:208:5
 loop-less : tie.Need-loop-less Inv-loop μ-loop
-loop-less c = ?
+loop-less c = search needs
 
--- src/lib.rt:208:5
 loop-again : tie.Need-loop-again Inv-loop μ-loop
-loop-again c = ?
+loop-again c = let w = c .before in let n = w .before in let v = n .before in let b = v .before in let r = b .before in let h = r .before .before in let a = h .before .before .before .before .args in
+    pieces-next (h .before .loop .inv) (h .loop-test .taken) (search needs) (pair-is (a .s .now) (a .goals) _ (r .root-of .ensures) (b .byte .ensures) (v .vertex-of .ensures) (n .number .ensures) (w .wide .ensures) (c .byte2 .ensures))
 
--- src/lib.rt:202:1
 same-length : tie.Need-same-length Inv-loop μ-loop
-same-length c = ?
+same-length c = c .before .loop .inv .len
 
--- src/lib.rt:202:1
 returns : tie.Need-returns Inv-loop μ-loop
-returns c = ?
+returns c = pieces-all (c .before .loop .inv) (search needs)
 
 pub put-pairs-spec : {M : Type 1} → statement M
 put-pairs-spec =

@@ -1,67 +1,58 @@
+use mathlib.Core.Path.{refl}
+use native.Mathlib.Omega.{arith}
+use Prim.Native.Nat.{_-_, _<_}
+use Rattle.section_file.specs.Answer.{edgeAt}
+use Rattle.read_back.proofs.Growing.{Noted, noted-start, noted-next, noted-all}
+use borrow.Author.Needs.{needs}
 use Rattle.read_back.proofs.starts_of.Statement.{statement}
 use Rattle.read_back.proofs.starts_of.Tie as tie
-use Rattle.read_back.proofs.starts_of.Reads as reads
-use Rattle.read_back.proofs.starts_of.Lts as lts
-use Rattle.read_back.proofs.number.Reads as number-reads
-use Rattle.read_back.proofs.wide.Reads as wide-reads
 
 abbrev Inv-loop : tie.InvT-loop
-Inv-loop s pairs symbols count starts₀ k₀ starts k = ?
+Inv-loop s pairs symbols count starts₀ k₀ starts k = Noted (edgeAt s pairs symbols) count starts k
 
 abbrev μ-loop : tie.MeasureT-loop
-μ-loop s pairs symbols count starts₀ k₀ starts k = ?
+μ-loop s pairs symbols count starts₀ k₀ starts k = k
 
--- src/lib.rt:90:23
 cast-starts : tie.Need-cast-starts Inv-loop μ-loop
-cast-starts c = ?
+cast-starts c = search needs
 
--- src/lib.rt:92:5
 loop-holds : tie.Need-loop-holds Inv-loop μ-loop
-loop-holds c = ?
+loop-holds c = noted-start _ _ refl
 
--- src/lib.rt:93:9
 sub-k : tie.Need-sub-k Inv-loop μ-loop
-sub-k c = ?
+sub-k c = search needs
 
--- src/lib.rt:94:40
 mul-number : tie.Need-mul-number Inv-loop μ-loop
-mul-number c = ?
+mul-number c = search needs
 
--- src/lib.rt:94:32
 add-number : tie.Need-add-number Inv-loop μ-loop
-add-number c = ?
+add-number c = search needs
 
--- src/lib.rt:94:22
 number-requires : tie.Need-number-requires Inv-loop μ-loop
-number-requires c κs = ?
+number-requires c κs = search needs
 
--- src/lib.rt:94:13
 wide-requires : tie.Need-wide-requires Inv-loop μ-loop
-wide-requires c κs = ?
+wide-requires c κs = search needs
 
--- src/lib.rt:95:21
 cast-starts-2 : tie.Need-cast-starts-2 Inv-loop μ-loop
-cast-starts-2 c = ?
+cast-starts-2 c = search needs
 
--- src/lib.rt:95:9
 mul-starts : tie.Need-mul-starts Inv-loop μ-loop
-mul-starts c = ?
+mul-starts c = search needs
 
--- src/lib.rt:95:9
 array-write-starts : tie.Need-array-write-starts Inv-loop μ-loop
-array-write-starts c = ?
+array-write-starts c = let h = c .before .before in let a = h .before .loop in
+    omega (arith, h .before .before .before .pre .fromSmall (a .k - 1) (omega (arith, a .inv .inside, h .loop-test .taken)), c .before .number .ensures, c .wide .ensures .0)
 
--- src/lib.rt:92:5
 loop-less : tie.Need-loop-less Inv-loop μ-loop
-loop-less c = ?
+loop-less c = search needs
 
--- src/lib.rt:92:5
 loop-again : tie.Need-loop-again Inv-loop μ-loop
-loop-again c = ?
+loop-again c = let h = c .before .before in let a = h .before .loop in
+    noted-next (a .inv) (h .loop-test .taken) (c .before .number .ensures) (c .wide .ensures) (h .before .before .before .pre .fromSmall (a .k - 1) (omega (arith, a .inv .inside, h .loop-test .taken)))
 
--- src/lib.rt:86:1
 returns : tie.Need-returns Inv-loop μ-loop
-returns c = ?
+returns c = noted-all (c .before .loop .inv) (search needs)
 
 pub starts-of-spec : {M : Type 1} → statement M
 starts-of-spec =
