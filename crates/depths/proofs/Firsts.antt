@@ -24,7 +24,7 @@ use Rattle.depths.proofs.Words.{held-length, word-label}
 use Rattle.depths.proofs.Places.{at-set, upto-next, row-none, row-more}
 
 -- word y stands before i and has the key x
-pub record Owner (key : ℕ → ℕ) (i x y : ℕ) : Type 0 where
+pub record HasKey (key : ℕ → ℕ) (i x y : ℕ) : Type 0 where
   pub earlier : y < i
   pub has : key y ≡ x
 
@@ -36,7 +36,7 @@ pub record InFirsts (labels : List ℕ) (n t : ℕ) (old row seen : List ℕ) (i
   pub done : Row i (firstLike (rowKey labels n t old)) row
   pub rest : (j : ℕ) → i ≤ j → at row j ≡ at old j
   pub noted : (j : ℕ) → j < i → at seen (rowKey labels n t old j) ≡ firstLike (rowKey labels n t old) j
-  pub owned : (x : ℕ) → x < 4096 → (at seen x ≡ 1024) ⊎ Owner (rowKey labels n t old) i x (at seen x)
+  pub known : (x : ℕ) → x < 4096 → (at seen x ≡ 1024) ⊎ HasKey (rowKey labels n t old) i x (at seen x)
 
 key-lt : (labels : List ℕ) (n t : ℕ) (row : List ℕ) (W i : ℕ) → Small W row → i < W → rowKey labels n t row i < 4096
 unfolding rowKey
@@ -44,7 +44,7 @@ key-lt labels n t row W i S h = omega (arith, S .lt i h, symbol-lt n t (at label
 
 -- what is noted for the key of i, or i if nothing is, is the first word with that key
 noted-first : (key : ℕ → ℕ) (i found : ℕ) → i < 1024 → ((j : ℕ) → j < i → key j ≡ key i → found ≡ firstLike key j)
-    → (found ≡ 1024) ⊎ Owner key i (key i) found → cond (eqb found 1024) i found ≡ firstLike key i
+    → (found ≡ 1024) ⊎ HasKey key i (key i) found → cond (eqb found 1024) i found ≡ firstLike key i
 noted-first key i found h f (inl e) = rw (eq-eqb found 1024 e) (go (decLt (firstLike key i) i))
   where
     go : Dec (firstLike key i < i) → i ≡ firstLike key i
@@ -72,7 +72,7 @@ module _ {labels : List ℕ} {n t : ℕ} {old row seen : List ℕ} {i : ℕ} (c 
   first-is first x e f h =
       f ∙ ap (λ y. cond (eqb (at seen y) 1024) i (at seen y)) e
       ∙ noted-first keys i (at seen (keys i)) (omega (arith, c .few)) (λ j l q. ap (at seen) (sym q) ∙ c .noted j l)
-      (c .owned (keys i) (key-lt labels n t old (length labels) i (c .small) h))
+      (c .known (keys i) (key-lt labels n t old (length labels) i (c .small) h))
 
   pub firsts-more : {first x : ℕ} → x ≡ keys i → first ≡ cond (eqb (at seen x) 1024) i (at seen x) → i < length labels
       → InFirsts labels n t old (set row i first) (set seen x first) (i + 1)
@@ -85,7 +85,7 @@ module _ {labels : List ℕ} {n t : ℕ} {old row seen : List ℕ} {i : ℕ} (c 
     rest = λ j l. at-set row i j first (λ q. omega arith) ∙ c .rest j (omega arith);
     noted = upto-next (λ j. at (set seen x first) (keys j) ≡ firstLike keys j) i
         (λ j l. note j (ℕ-discrete (keys j) x) (c .noted j l)) (ap (at (set seen x first)) (sym e) ∙ hit);
-    owned = λ y l. own y (ℕ-discrete y x) (c .owned y l);
+    known = λ y l. own y (ℕ-discrete y x) (c .known y l);
   }
     where
       is : first ≡ firstLike keys i
@@ -101,12 +101,12 @@ module _ {labels : List ℕ} {n t : ℕ} {old row seen : List ℕ} {i : ℕ} (c 
       note j (yes q) r = ap (at (set seen x first)) q ∙ hit ∙ like-eq keys i j (sym e ∙ sym q)
       note j (no q) r = at-set seen x (keys j) first q ∙ r
 
-      own : (y : ℕ) → Dec (y ≡ x) → (at seen y ≡ 1024) ⊎ Owner keys i y (at seen y)
-          → (at (set seen x first) y ≡ 1024) ⊎ Owner keys (i + 1) y (at (set seen x first) y)
-      own y (yes q) r = inr (subst (λ z. Owner keys (i + 1) y z) (sym (ap (at (set seen x first)) q ∙ hit))
+      own : (y : ℕ) → Dec (y ≡ x) → (at seen y ≡ 1024) ⊎ HasKey keys i y (at seen y)
+          → (at (set seen x first) y ≡ 1024) ⊎ HasKey keys (i + 1) y (at (set seen x first) y)
+      own y (yes q) r = inr (subst (λ z. HasKey keys (i + 1) y z) (sym (ap (at (set seen x first)) q ∙ hit))
           (record { earlier = omega (arith, like-le keys i); has = like-is keys i ∙ sym e ∙ sym q }))
       own y (no q) (inl r) = inl (at-set seen x y first q ∙ r)
-      own y (no q) (inr o) = inr (subst (λ z. Owner keys (i + 1) y z) (sym (at-set seen x y first q)) (record { earlier = omega (arith, o .earlier); has = o .has }))
+      own y (no q) (inr o) = inr (subst (λ z. HasKey keys (i + 1) y z) (sym (at-set seen x y first q)) (record { earlier = omega (arith, o .earlier); has = o .has }))
 
   pub firsts-end : length labels ≤ i → Row (length labels) (firstLike keys) row
   firsts-end h = let e : i ≡ length labels = omega (arith, c .iLe) in subst (λ k. Row k (firstLike keys) row) e (c .done)
@@ -121,7 +121,7 @@ firsts-none labels n t old h s = record {
   done = row-none _ old (s .len);
   rest = λ j q. refl;
   noted = λ j q. absurd (omega arith);
-  owned = λ x q. inl (getD-replicate {A = ℕ} 4096 x 1024 0 q);
+  known = λ x q. inl (getD-replicate {A = ℕ} 4096 x 1024 0 q);
 }
 
 -- ---- the row, said of the words

@@ -1,5 +1,5 @@
 -- The goals as a row. They are bytes, so they fit; and at depth n an ending is a goal, so they tell the endings there apart.
-use mathlib.Core.Path.{_≡_, sym, ap, subst, _∙_}
+use mathlib.Core.Path.{_≡_, sym, subst, _∙_}
 use mathlib.Core.List.{List}
 use Prim.Native.Nat.{ℕ, _+_, _≤_, _<_}
 use native.Mathlib.Omega.{arith}

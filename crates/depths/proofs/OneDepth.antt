@@ -4,7 +4,7 @@ use mathlib.Core.Path.{_≡_, refl, sym, ap, subst, _∙_}
 use mathlib.Core.Bool.{true, false}
 use mathlib.Core.Logic.{_↔_}
 use mathlib.Core.List.{List}
-use Prim.Native.Nat.{ℕ, suc, _+_, _*_, _≤_, _<_}
+use Prim.Native.Nat.{ℕ, _*_, _≤_, _<_}
 use native.Mathlib.Omega.{arith}
 use lib.ListN.{length}
 use lib.Dec.{eqb}
@@ -18,10 +18,9 @@ use Rattle.runs.proofs.Agreement.{first-le, first-start, first-twice}
 use Rattle.runs.proofs.Cuts.{cut, rectangle-of}
 use Rattle.runs.proofs.Keys.{tells-step}
 use Rattle.runs.proofs.Vertices.{rectangular-iff, vertex-is, count-is}
-use Rattle.depths.specs.Words.{words, Held}
+use Rattle.depths.specs.Words.{words}
 use Rattle.depths.specs.Rows.{at, Row, RowAt, joins, runStart, rowKey, firstWordIn, agreesTest, runsAgreeTest, Backward, ToNumber, Numbered}
 use Rattle.depths.specs.Merge.{Merging, DepthDone}
-use Rattle.depths.specs.declared.Depth.{Depth}
 use Rattle.depths.specs.declared.Depth.the-variants.{Merged, Refused}
 use Rattle.depths.proofs.Words.{held-length}
 use Rattle.depths.proofs.Starts.{starts-are}

@@ -7,16 +7,14 @@ use Prim.Native.Nat.{ℕ, zero, suc, _+_, _-_, _≤_, _<_}
 use native.Mathlib.Omega.{arith}
 use native.Mathlib.Decide.{ℕ-discrete, decLt}
 use lib.ListN.{length, set}
-use lib.Dec.{T, eqb, eqb→eq}
+use lib.Dec.{eqb}
 use borrow.Author.Tests.{eq-eqb, ne-eqb}
 use Rattle.trellis.specs.Label.{front}
-use Rattle.trellis.specs.Word.{Word, wordAt, Table}
-use Rattle.trellis.specs.Witness.{sameBeginning}
-use Rattle.trellis.proofs.Witness.{begins-yes, begins-of}
+use Rattle.trellis.specs.Word.{Word}
 use Rattle.runs.specs.Runs.{firstLike}
 use Rattle.runs.specs.Cuts.{beginningAt}
-use Rattle.runs.proofs.FirstLike.{equal-yes, test-eq, like-le, like-is, like-eq}
-use Rattle.runs.proofs.Cuts.{cut, same-beginning, beginning-number}
+use Rattle.runs.proofs.FirstLike.{like-le, like-is, like-eq}
+use Rattle.runs.proofs.Cuts.{cut, begins-eq}
 use Rattle.depths.specs.Words.{words, Held}
 use Rattle.depths.specs.Rows.{at, Row, beginAlike, joins, startBy, runStart}
 use Rattle.depths.proofs.Words.{held-length, word-root, word-label}
@@ -74,12 +72,6 @@ run-start-is W f joined rises next (suc i) h = go (ℕ-discrete (f i) (f (suc i)
 
 -- ---- the row, said of the words
 
-begins-eq : (n t : ℕ) {table : List Word} → Table n table → t ≤ n → (i j : ℕ) → i < length table → j < length table
-    → sameBeginning n t (wordAt table i) (wordAt table j) ≡ eqb (beginningAt n table t i) (beginningAt n table t j)
-begins-eq n t {table} G le i j a b = test-eq (sameBeginning n t (wordAt table i) (wordAt table j)) (eqb (beginningAt n table t i) (beginningAt n table t j))
-    (λ u. equal-yes (beginning-number n t (wordAt table i) (wordAt table j) (begins-yes n t (wordAt table i) (wordAt table j) u)))
-    (λ u. begins-of n t (wordAt table i) (wordAt table j) (same-beginning G t le i j a b (eqb→eq (beginningAt n table t i) (beginningAt n table t j) u)))
-
 module _ {n : ℕ} {roots labels goals starts : List ℕ} (H : Held n roots labels goals) (t : ℕ) (le : t ≤ n)
     (A : Row (length roots) (runStart (joins roots labels n t)) starts) where
   abbrev table : List Word
@@ -91,7 +83,7 @@ module _ {n : ℕ} {roots labels goals starts : List ℕ} (H : Held n roots labe
       ap₂ (λ x y. x && y)
       (ap₂ eqb (sym (word-root roots labels goals i a)) (sym (word-root roots labels goals j b)))
       (ap₂ (λ x y. eqb (front n t x) (front n t y)) (sym (word-label roots labels goals i a)) (sym (word-label roots labels goals j b)))
-      ∙ begins-eq n t (H .table) le i j a b
+      ∙ begins-eq (H .table) t le i j a b
 
   pub starts-are : (i : ℕ) → i < length table → at starts i ≡ firstLike (beginningAt n table t) i
   unfolding joins

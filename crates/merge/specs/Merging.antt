@@ -2,7 +2,7 @@
 -- Everything here computes.
 use mathlib.Core.Bool.{Bool, true, false, cond}
 use mathlib.Core.List.{List, _++_}
-use Prim.Native.Nat.{ℕ, suc, _*_}
+use Prim.Native.Nat.{ℕ, suc, _+_, _*_}
 use lib.ListN.{length, drop, replicate}
 use lib.Dec.{ltb}
 use Rattle.trellis.specs.Lists.{each}
@@ -25,13 +25,18 @@ left o map section = record { answer = o; map = map; section = section }
 abbrev pub over : List ℕ → List ℕ → List ℕ
 over vs buffer = vs ++ drop (length vs) buffer
 
+-- refusal 6, as a witness gives it
+abbrev pub refusalOf : Witness → Outcome
+refusalOf (found t i j k) = notRectangular t i j k
+refusalOf nothing = notRectangular 0 0 0 0
+
 -- document 01's map: at place t·W + i the vertex of word i at depth t
 unfoldable pub mapOf : ℕ → List Word → List ℕ
 mapOf n table = joinedUp (λ t. each (vertexOf n table t) (length table)) (suc n)
 
 -- W·(n+1)
 abbrev pub mapLength : ℕ → List Word → ℕ
-mapLength n table = length table * suc n
+mapLength n table = length table * (n + 1)
 
 module _ (q n states : ℕ) (table : List Word) (map section : List ℕ) where
   -- 7, or success

@@ -4,7 +4,6 @@
 -- Where the runs agree, each run has its endings in the run of its first word and is as long, so no ending can be out of step: both have the same endings
 -- in the same order. So runs with one first word have the same endings, which is what rectangular asks.
 use mathlib.Core.Path.{_≡_, refl, sym, ap, subst, _∙_}
-use mathlib.Core.Bool.{Bool}
 use mathlib.Core.Logic.{_↔_}
 use Prim.Native.Nat.{ℕ, zero, suc, _+_, _-_, _≤_, _<_}
 use native.Mathlib.Omega.{arith}
@@ -12,10 +11,10 @@ use native.Mathlib.Decide.{decLt}
 use lib.Dec.{T}
 use Rattle.runs.specs.Runs.{firstLike, Cut, Shared, Rectangle, In, Tells, firstWordBy, goesOn, Agrees, RunsAgree}
 use Rattle.runs.proofs.FirstLike.{test-eq, like-le, like-is, like-least, like-eq, like-twice}
-use Rattle.runs.proofs.Runs.{amid, own-run, start-mono, parallel, on-in, in-on, mate-in, climb, as-long}
+use Rattle.runs.proofs.Runs.{between, own-run, start-mono, same-order, on-in, in-on, match-in, not-sooner, as-long}
 
-tight : {x y : ℕ} → x ≤ y → (x < y → ⊥) → x ≡ y
-tight {x} {y} h f = go (decLt x y)
+not-less : {x y : ℕ} → x ≤ y → (x < y → ⊥) → x ≡ y
+not-less {x} {y} h f = go (decLt x y)
   where
     go : Dec (x < y) → x ≡ y
     go (yes d) = absurd (f d)
@@ -40,7 +39,7 @@ module _ {W : ℕ} {beginning ending key : ℕ → ℕ} (C : Cut W beginning end
     where
       go : (g : ℕ) → g ≤ m .at → Dec (j < g) → start g ≤ j
       go g l (no a) = omega (arith, like-le beginning g)
-      go g l (yes a) = like-least beginning g j (sym (amid C j g (m .at) (omega arith) l (record { inside = m .inside; begins = m .begins }) .begins))
+      go g l (yes a) = like-least beginning g j (sym (between C j g (m .at) (omega arith) l (record { inside = m .inside; begins = m .begins }) .begins))
 
   pub first-le : (i : ℕ) → firstWord i ≤ i
   first-le i = omega (arith, like-le key i, like-le beginning (firstLike key i))
@@ -119,11 +118,11 @@ module _ {W : ℕ} {beginning ending key : ℕ → ℕ} (C : Cut W beginning end
     sb : start b ≡ b
     sb = subst (λ z. start z ≡ z) fb (like-twice beginning (firstLike key a))
 
-    mates : (x : ℕ) → In W beginning a x → Shared W beginning ending b x
-    mates x u = subst (λ z. Shared W beginning ending z x) (first-of x u ∙ fb) (first-shares x (u .inside))
+    matches : (x : ℕ) → In W beginning a x → Shared W beginning ending b x
+    matches x u = subst (λ z. Shared W beginning ending z x) (first-of x u ∙ fb) (first-shares x (u .inside))
 
     there : (m : ℕ) → In W beginning a (a + m) → In W beginning b (b + m)
-    there = as-long C a b sb mates
+    there = as-long C a b sb matches
 
     lasts-as : (m x y : ℕ) → x ≡ a + m → y ≡ b + m → In W beginning a x → goesOn W start x ≡ goesOn W start y
     lasts-as m x y p q u =
@@ -136,7 +135,7 @@ module _ {W : ℕ} {beginning ending key : ℕ → ℕ} (C : Cut W beginning end
     back : (m x y : ℕ) → x ≡ a + m → y ≡ b + m → In W beginning b y → In W beginning a x
     back zero x y p q u = let e : x ≡ a = omega arith in record { inside = omega arith; begins = ap beginning e }
     back (suc m) x y p q u =
-        let v = amid C b (y - 1) y (omega arith) (omega arith) u in
+        let v = between C b (y - 1) y (omega arith) (omega arith) u in
         let w = back m (x - 1) (y - 1) (omega arith) (omega arith) v in
         let e : y ≡ y - 1 + 1 = omega arith in
         let f : x - 1 + 1 ≡ x = omega arith in
@@ -144,28 +143,28 @@ module _ {W : ℕ} {beginning ending key : ℕ → ℕ} (C : Cut W beginning end
         subst (In W beginning a) f (on-in C a (x - 1) w (subst T (sym (lasts-as m (x - 1) (y - 1) (omega arith) (omega arith) w)) t))
 
     -- were an ending behind its place in b, so would be the next one, and in the end one outside the table
-    never-behind : (fuel m x y l : ℕ) → W ≤ x + fuel → x ≡ a + m → y ≡ b + m → In W beginning a x → In W beginning b l → ending l ≡ ending x → y < l → ⊥
+    never-behind : (left m x y l : ℕ) → W ≤ x + left → x ≡ a + m → y ≡ b + m → In W beginning a x → In W beginning b l → ending l ≡ ending x → y < l → ⊥
     never-behind zero m x y l h p q u v e g = omega (arith, u .inside)
-    never-behind (suc fuel) m x y l h p q u v e g =
-        let u′ = back (suc m) (x + 1) (y + 1) (omega arith) (omega arith) (amid C b (y + 1) l (omega arith) (omega arith) v) in
-        let k = mates (x + 1) u′ in
-        let v′ = mate-in C a b sb mates (x + 1) u′ in
-        let r = parallel C u u′ v v′ e (k .ends) (omega arith) in
-        never-behind fuel (suc m) (x + 1) (y + 1) (k .at) (omega arith) (omega arith) (omega arith) u′ v′ (k .ends) (omega arith)
+    never-behind (suc left) m x y l h p q u v e g =
+        let u′ = back (suc m) (x + 1) (y + 1) (omega arith) (omega arith) (between C b (y + 1) l (omega arith) (omega arith) v) in
+        let k = matches (x + 1) u′ in
+        let v′ = match-in C a b sb matches (x + 1) u′ in
+        let r = same-order C u u′ v v′ e (k .ends) (omega arith) in
+        never-behind left (suc m) (x + 1) (y + 1) (k .at) (omega arith) (omega arith) (omega arith) u′ v′ (k .ends) (omega arith)
 
     -- the words of both runs have the same endings, in one order
     same-endings : (m : ℕ) → In W beginning a (a + m) → ending (b + m) ≡ ending (a + m)
     same-endings m u =
-        let v = mate-in C a b sb mates (a + m) u in
-        let k = mates (a + m) u in
-        let e : b + m ≡ k .at = tight (climb C a b sb mates m (a + m) (b + m) (k .at) refl refl u v (k .ends))
+        let v = match-in C a b sb matches (a + m) u in
+        let k = matches (a + m) u in
+        let e : b + m ≡ k .at = not-less (not-sooner C a b sb matches m (a + m) (b + m) (k .at) refl refl u v (k .ends))
         (never-behind W m (a + m) (b + m) (k .at) (omega arith) refl refl u v (k .ends)) in
         ap ending e ∙ k .ends
 
   -- runs with one first word have the same endings
-  carried : (a c b : ℕ) → start a ≡ a → start c ≡ c → a < W → c < W → firstWord a ≡ b → firstWord c ≡ b → RunAgrees a → RunAgrees c
+  one-first : (a c b : ℕ) → start a ≡ a → start c ≡ c → a < W → c < W → firstWord a ≡ b → firstWord c ≡ b → RunAgrees a → RunAgrees c
       → (m : ℕ) → In W beginning a (a + m) → Shared W beginning ending c (a + m)
-  carried a c b sa sc p q fa fc A B m u =
+  one-first a c b sa sc p q fa fc A B m u =
       let v = back c b sc q fc B m (c + m) (b + m) refl refl (there a b sa p fa A m u) in
       record { at = c + m; inside = v .inside; begins = v .begins; ends = sym (same-endings c b sc q fc B m v) ∙ same-endings a b sa p fa A m u }
 
@@ -174,7 +173,7 @@ module _ {W : ℕ} {beginning ending key : ℕ → ℕ} (C : Cut W beginning end
       let g : start i + (j - start i) ≡ j = omega (arith, like-eq beginning j i (sym e), like-le beginning j) in
       let one : firstWord k ≡ firstWord i = ap start (like-eq key k i (sym (K i k p r .1 f))) in
       let u : In W beginning (start i) j = record { inside = q; begins = sym e ∙ sym (like-is beginning i) } in
-      let m = carried (start i) (start k) (firstWord i) (like-twice beginning i) (like-twice beginning k)
+      let m = one-first (start i) (start k) (firstWord i) (like-twice beginning i) (like-twice beginning k)
       (omega (arith, like-le beginning i)) (omega (arith, like-le beginning k)) (sym (A i p .firsts)) (sym (A k r .firsts) ∙ one)
       (λ x v. A x (v .inside)) (λ x v. A x (v .inside)) (j - start i) (subst (In W beginning (start i)) (sym g) u) in
       record { at = m .at; inside = m .inside; begins = m .begins ∙ like-is beginning k; ends = m .ends ∙ ap ending g }

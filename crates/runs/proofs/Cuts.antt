@@ -1,21 +1,25 @@
 -- A table cut at depth t, in numbers. The number of a beginning is the root followed by t symbols, so numbers are equal exactly if beginnings are, by one division
 -- with remainder; endings alike. The order of words is that of their beginnings and then of their endings. So what is said of the numbers is said of the words.
-use mathlib.Core.Path.{_≡_, refl, sym, ap, ap₂, subst, _∙_}
+use mathlib.Core.Path.{_≡_, sym, ap, ap₂, subst, _∙_}
 use mathlib.Core.List.{List, [], _∷_}
 use Prim.Native.Nat.{ℕ, zero, suc, _+_, _-_, _*_, _/_, _%_, _^_, _≤_, _<_}
 use native.Mathlib.Omega.{arith}
 use native.Mathlib.Nat.{div-lt-iff-lt-mul, div-add-mod', not-suc-le-zero}
 use native.Mathlib.Decide.{ℕ-discrete}
 use lib.ListN.{length}
+use lib.Dec.{eqb, eqb→eq}
 use lib.Arith.{digits-lt, digits-div, digits-mod}
 use lib.Pow.{pow-add}
 use Rattle.trellis.specs.Lists.{_∈_, byFirst, bySecond, byThird}
 use Rattle.trellis.specs.Label.{front, back}
 use Rattle.trellis.specs.Word.{Word, wordAt, Before, Table, beginning, ending, joined, RectangularAt}
+use Rattle.trellis.specs.Witness.{sameBeginning, sameEnding}
 use Rattle.trellis.proofs.Labels.{four-pos, front-mono}
 use Rattle.trellis.proofs.Words.{word-in, index, beginning-root, beginning-front, beginning-eq, ending-back, ending-goal, ending-eq, joined-beginning, joined-ending, joined-is, rectangular-by}
+use Rattle.trellis.proofs.Witness.{begins-yes, begins-of, ends-yes, ends-of}
 use Rattle.runs.specs.Runs.{Cut, Shared, Rectangle}
 use Rattle.runs.specs.Cuts.{above, beginningNumber, endingNumber, beginningAt, endingAt}
+use Rattle.runs.proofs.FirstLike.{equal-yes, test-eq}
 
 above-pos : (table : List Word) → 0 < above table
 unfolding above
@@ -98,6 +102,20 @@ module _ {n : ℕ} {table : List Word} (G : Table n table) (t : ℕ) (h : t ≤ 
   pub same-ending : (i j : ℕ) → i < length table → j < length table → endingAt n table t i ≡ endingAt n table t j
       → ending n t (wordAt table i) ≡ ending n t (wordAt table j)
   same-ending i j a b e = number-ending n t (wordAt table i) (wordAt table j) (above table) (goal-below table i a) (goal-below table j b) e
+
+  -- ---- the tests that the witness search makes, on numbers
+
+  pub begins-eq : (i j : ℕ) → i < length table → j < length table
+      → sameBeginning n t (wordAt table i) (wordAt table j) ≡ eqb (beginningAt n table t i) (beginningAt n table t j)
+  begins-eq i j a b = test-eq (sameBeginning n t (wordAt table i) (wordAt table j)) (eqb (beginningAt n table t i) (beginningAt n table t j))
+      (λ u. equal-yes (beginning-number n t (wordAt table i) (wordAt table j) (begins-yes n t (wordAt table i) (wordAt table j) u)))
+      (λ u. begins-of n t (wordAt table i) (wordAt table j) (same-beginning i j a b (eqb→eq (beginningAt n table t i) (beginningAt n table t j) u)))
+
+  pub ends-eq : (i j : ℕ) → i < length table → j < length table
+      → sameEnding n t (wordAt table i) (wordAt table j) ≡ eqb (endingAt n table t i) (endingAt n table t j)
+  ends-eq i j a b = test-eq (sameEnding n t (wordAt table i) (wordAt table j)) (eqb (endingAt n table t i) (endingAt n table t j))
+      (λ u. equal-yes (ending-number n t (wordAt table i) (wordAt table j) (above table) (ends-yes n t (wordAt table i) (wordAt table j) u)))
+      (λ u. ends-of n t (wordAt table i) (wordAt table j) (same-ending i j a b (eqb→eq (endingAt n table t i) (endingAt n table t j) u)))
 
   pub cut : Cut (length table) (beginningAt n table t) (endingAt n table t)
   cut = record {

@@ -1,9 +1,8 @@
 -- Keys that tell the endings at a depth apart. At depth n an ending is a goal. An ending at depth t is symbol t followed by an ending at depth t + 1, so a key
 -- at t + 1 with that symbol is a key at t. And first words tell apart what they are first words of, so a key can be kept below the number of words.
-use mathlib.Core.Path.{_≡_, refl, sym, ap, ap₂, _∙_}
-use mathlib.Core.Logic.{_↔_}
+use mathlib.Core.Path.{_≡_, sym, ap, ap₂, _∙_}
 use mathlib.Core.List.{List}
-use Prim.Native.Nat.{ℕ, suc, _+_, _-_, _*_, _^_, _≤_, _<_}
+use Prim.Native.Nat.{ℕ, suc, _+_, _-_, _*_, _^_, _<_}
 use native.Mathlib.Omega.{arith}
 use native.Mathlib.Nat.{mod-lt, mod-one}
 use lib.ListN.{length}

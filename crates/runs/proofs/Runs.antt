@@ -2,7 +2,6 @@
 -- So where each word of run a has its ending in run b too, the words of b with these endings stand in the order of a's words, word m of a has its ending
 -- at word m of b or behind it, and b is at least as long as a.
 use mathlib.Core.Path.{_≡_, refl, sym, ap, _∙_}
-use mathlib.Core.Bool.{_&&_}
 use Prim.Native.Nat.{ℕ, zero, suc, _+_, _-_, _≤_, _<_}
 use native.Mathlib.Omega.{arith}
 use native.Mathlib.Decide.{ℕ-discrete, decLt}
@@ -15,8 +14,8 @@ module _ {W : ℕ} {beginning ending : ℕ → ℕ} (C : Cut W beginning ending)
   abbrev start : ℕ → ℕ
   start i = firstLike beginning i
 
-  pub amid : (a x l : ℕ) → a ≤ x → x ≤ l → In W beginning a l → In W beginning a x
-  amid a x l h k u =
+  pub between : (a x l : ℕ) → a ≤ x → x ≤ l → In W beginning a l → In W beginning a x
+  between a x l h k u =
       let p = C .rises a x h (omega (arith, u .inside)) in
       let q = C .rises x l k (u .inside) in
       record { inside = omega (arith, u .inside); begins = omega (arith, u .begins) }
@@ -32,12 +31,12 @@ module _ {W : ℕ} {beginning ending : ℕ → ℕ} (C : Cut W beginning ending)
     where
       go : Dec (start j < start i) → start i ≤ start j
       go (no d) = omega arith
-      go (yes d) = like-least beginning i (start j) (sym (amid (start j) i j (omega (arith, like-le beginning i)) h (own-run j l) .begins))
+      go (yes d) = like-least beginning i (start j) (sym (between (start j) i j (omega (arith, like-le beginning i)) h (own-run j l) .begins))
 
   -- two words of one run, and two of another with their endings, stand in one order
-  pub parallel : {a b x z k l : ℕ} → In W beginning a x → In W beginning a z → In W beginning b k → In W beginning b l
+  pub same-order : {a b x z k l : ℕ} → In W beginning a x → In W beginning a z → In W beginning b k → In W beginning b l
       → ending k ≡ ending x → ending l ≡ ending z → x < z → k < l
-  parallel {a} {b} {x} {z} {k} {l} p q r s u v h = go (decLt k l) (ℕ-discrete k l)
+  same-order {a} {b} {x} {z} {k} {l} p q r s u v h = go (decLt k l) (ℕ-discrete k l)
     where
       rise : ending x < ending z
       rise = C .within x z h (q .inside) (p .begins ∙ sym (q .begins))
@@ -61,22 +60,22 @@ module _ {W : ℕ} {beginning ending : ℕ → ℕ} (C : Cut W beginning ending)
 
   -- ---- runs a and b, where each word of a has its ending in b too
 
-  module _ (a b : ℕ) (sb : start b ≡ b) (mates : (x : ℕ) → In W beginning a x → Shared W beginning ending b x) where
-    pub mate-in : (x : ℕ) (u : In W beginning a x) → In W beginning b (mates x u .at)
-    mate-in x u = record { inside = mates x u .inside; begins = mates x u .begins }
+  module _ (a b : ℕ) (sb : start b ≡ b) (matches : (x : ℕ) → In W beginning a x → Shared W beginning ending b x) where
+    pub match-in : (x : ℕ) (u : In W beginning a x) → In W beginning b (matches x u .at)
+    match-in x u = record { inside = matches x u .inside; begins = matches x u .begins }
 
     -- the word of b with the ending of a's word m is b's word m or behind it
-    pub climb : (m x y l : ℕ) → x ≡ a + m → y ≡ b + m → In W beginning a x → In W beginning b l → ending l ≡ ending x → y ≤ l
-    climb zero x y l p q u v e = let s = start-first b l sb v in omega arith
-    climb (suc m) x y l p q u v e =
-        let w = amid a (x - 1) x (omega arith) (omega arith) u in
-        let k = mates (x - 1) w in
-        let r = climb m (x - 1) (y - 1) (k .at) (omega arith) (omega arith) w (mate-in (x - 1) w) (k .ends) in
-        let z = parallel w u (mate-in (x - 1) w) v (k .ends) e (omega arith) in
+    pub not-sooner : (m x y l : ℕ) → x ≡ a + m → y ≡ b + m → In W beginning a x → In W beginning b l → ending l ≡ ending x → y ≤ l
+    not-sooner zero x y l p q u v e = let s = start-first b l sb v in omega arith
+    not-sooner (suc m) x y l p q u v e =
+        let w = between a (x - 1) x (omega arith) (omega arith) u in
+        let k = matches (x - 1) w in
+        let r = not-sooner m (x - 1) (y - 1) (k .at) (omega arith) (omega arith) w (match-in (x - 1) w) (k .ends) in
+        let z = same-order w u (match-in (x - 1) w) v (k .ends) e (omega arith) in
         omega arith
 
     pub as-long : (m : ℕ) → In W beginning a (a + m) → In W beginning b (b + m)
     as-long m u =
-        let k = mates (a + m) u in
-        let v = mate-in (a + m) u in
-        amid b (b + m) (k .at) (omega arith) (climb m (a + m) (b + m) (k .at) refl refl u v (k .ends)) v
+        let k = matches (a + m) u in
+        let v = match-in (a + m) u in
+        between b (b + m) (k .at) (omega arith) (not-sooner m (a + m) (b + m) (k .at) refl refl u v (k .ends)) v

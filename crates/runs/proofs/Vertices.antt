@@ -7,11 +7,10 @@ use mathlib.Core.List.{List}
 use Prim.Native.Nat.{ℕ, _≤_, _<_}
 use native.Mathlib.Omega.{arith}
 use lib.ListN.{length}
-use lib.Dec.{ltb, eqb}
-use Rattle.trellis.specs.Lists.{each, first, rank, ascending}
+use lib.Dec.{eqb}
 use Rattle.trellis.specs.Word.{Word, Table, RectangularAt}
 use Rattle.trellis.specs.Own.{shares, firstSharing, key, keys, vertexOf, vertexCount}
-use Rattle.trellis.proofs.Lists.{First, first-is}
+use Rattle.trellis.proofs.Lists.{first-is}
 use Rattle.trellis.proofs.Vertices.{key-inner, shares-yes, shares-of}
 use Rattle.runs.specs.Runs.{firstLike, below, numberOf, Tells, firstWordBy, RunsAgree}
 use Rattle.runs.specs.Cuts.{beginningAt, endingAt}

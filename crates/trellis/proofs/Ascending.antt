@@ -112,6 +112,21 @@ module _ {A : Type 0} (less : A → A → Bool) (O : Orders less) where
   ascends [] = tt
   ascends (x ∷ l) = insert-ascends x (ascending less l) (ascends l)
 
+  insert-length : (x : A) (l : List A) → length (insert less x l) ≤ suc (length l)
+  unfolding insert
+  insert-length x [] = omega arith
+  insert-length x (y ∷ l) = go (less x y) (less y x) (insert-length x l)
+    where
+      go : (a b : Bool) → length (insert less x l) ≤ suc (length l) → length (placed a b x y l (insert less x l)) ≤ suc (suc (length l))
+      go true b r = omega arith
+      go false true r = omega arith
+      go false false r = omega arith
+
+  pub ascending-length : (l : List A) → length (ascending less l) ≤ length l
+  unfolding ascending
+  ascending-length [] = omega arith
+  ascending-length (x ∷ l) = omega (arith, insert-length x (ascending less l), ascending-length l)
+
   -- ---- an ascending list is known by its elements
 
   pub ascends-same : (l k : List A) → Ascends less l → Ascends less k → ((x : A) → x ∈ l → x ∈ k) → ((x : A) → x ∈ k → x ∈ l) → l ≡ k

@@ -29,6 +29,17 @@ run-at f at (suc count) (suc k) d h = run-at f (suc at) count k d (omega arith) 
 pub each-at : {A : Type 0} (f : ℕ → A) (count k : ℕ) (d : A) → k < count → getD (each f count) k d ≡ f k
 each-at f count k d h = run-at f 0 count k d h ∙ ap f (zero-add k)
 
+-- values that agree
+pub run-same : {A : Type 0} (f g : ℕ → A) (at count : ℕ) → ((k : ℕ) → k < count → f (at + k) ≡ g (at + k)) → run f at count ≡ run g at count
+unfolding run
+run-same f g at zero h = refl
+run-same f g at (suc count) h =
+    ap₂ (λ x l. x ∷ l) (ap f (sym (add-zero at)) ∙ h 0 (omega arith) ∙ ap g (add-zero at))
+    (run-same f g (suc at) count (λ k l. ap f (rw (suc-add at k, add-suc at k)) ∙ h (suc k) (omega arith) ∙ ap g (rw (suc-add at k, add-suc at k))))
+
+pub each-same : {A : Type 0} (f g : ℕ → A) (count more : ℕ) → count ≡ more → ((k : ℕ) → k < count → f k ≡ g k) → each f count ≡ each g more
+each-same f g count more e h = run-same f g 0 count (λ k l. ap f (zero-add k) ∙ h k l ∙ sym (ap g (zero-add k))) ∙ ap (each g) e
+
 -- one value more, at the end
 pub run-snoc : {A : Type 0} (f : ℕ → A) (at count : ℕ) → run f at (suc count) ≡ run f at count ++ (f (at + count) ∷ [])
 unfolding run

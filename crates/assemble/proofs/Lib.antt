@@ -1,0 +1,3 @@
+pub mod OuterRows
+pub mod SectionParts
+pub mod Whole

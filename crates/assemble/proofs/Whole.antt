@@ -1,0 +1,209 @@
+-- The finished map and the section's numbers are those of our section. The states of an outer depth are its keys, so the rows written there are the
+-- vertices; with the inner rows the map has the vertex of every word at every depth, and then the first words on edges give the edges in order.
+use mathlib.Core.Path.{_≡_, refl, sym, ap, ap₂, subst, _∙_}
+use mathlib.Core.List.{List, [], _∷_, _++_, map, flatMap, map-append}
+use Prim.Native.Nat.{ℕ, zero, suc, _+_, _-_, _*_, _/_, _%_, _<_, _≤_}
+use native.Mathlib.Omega.{arith}
+use native.Mathlib.Nat.{suc-mul, zero-mul, mul-zero, one-mul, zero-add, le-refl, mul-le-mul-right, div-add-mod', div-lt-iff-lt-mul, mod-lt}
+use native.Mathlib.Decide.{ℕ-discrete, decLt}
+use lib.ListN.{length, getD, length-append, length-map}
+use lib.Seq.{ext-getD}
+use lib.Dec.{ltb}
+use Rattle.trellis.specs.Lists.{run, each, rank, ascending}
+use Rattle.trellis.specs.Label.{symbol}
+use Rattle.trellis.specs.Word.{Word, wordAt, Table, Rectangular}
+use Rattle.trellis.specs.Own.{Edge, edge, key, keys, vertexOf, vertexCount, edgeOf, edgesAt, edgeCount}
+use Rattle.trellis.specs.Layout.{joinedUp, pairOf, symbolOf, sectionOf}
+use Rattle.trellis.proofs.Lists.{length-run, each-at, flatMap-append, each-same}
+use Rattle.trellis.proofs.Ascending.{numbers, ascending-length}
+use Rattle.trellis.proofs.Paths.{edge-eq}
+use Rattle.trellis.proofs.Vertices.{key-root, key-goal, vertex-below}
+use Rattle.depths.specs.Words.{words, Held}
+use Rattle.depths.specs.Merge.{Sound}
+use Rattle.depths.proofs.Words.{held-length, word-root, word-label, word-goal}
+use Rattle.layout.specs.States.{statesOf, Few, Marked, markedBelow}
+use Rattle.layout.specs.Takers.{rowEdge, takers}
+use Rattle.layout.specs.Pieces.{SmallMap, stepEdge, stepTakers, stepList}
+use Rattle.layout.specs.AllPieces.{Taken, stepPairs, stepSymbols}
+use Rattle.layout.proofs.FirstWords.{takers-edges}
+use Rattle.layout.proofs.Marks.{marked-are, all-marks}
+use Rattle.assemble.specs.Outer.{Placed, Put}
+use Rattle.assemble.specs.Numbers.{firstOf, numbersOf}
+
+six-long : (a b c d e f : List ℕ) → length (a ++ (b ++ (c ++ (d ++ (e ++ f))))) ≡ length a + (length b + (length c + (length d + (length e + length f))))
+six-long a b c d e f = simp length-append
+
+two-each : (l : List Edge) → length (flatMap pairOf l) ≡ 2 * length l
+unfolding flatMap
+two-each [] = omega arith
+two-each (e ∷ l) = omega (arith, two-each l)
+
+module _ {n : ℕ} {roots labels goals old new inner rootMarks goalMarks counts : List ℕ} (H : Held n roots labels goals)
+    (S : Sound n (words roots labels goals) 1 old inner) (P : Put roots goals n old new inner rootMarks goalMarks counts) where
+  abbrev table : List Word
+  table = words roots labels goals
+
+  size : length table ≡ length roots
+  size = held-length H
+
+  -- ---- states are keys
+
+  pub root-states : statesOf roots ≡ keys n table 0
+  unfolding keys
+  root-states = ap (ascending ltb) (each-same (λ i. getD roots i 0) (key n table 0) (length roots) (length table) (sym size)
+      (λ i h. sym (key-root n table i ∙ word-root roots labels goals i (omega (arith, size)))))
+
+  pub goal-states : statesOf goals ≡ keys n table n
+  unfolding keys
+  goal-states = ap (ascending ltb) (each-same (λ i. getD goals i 0) (key n table n) (length goals) (length table) (H .aimed ∙ sym size)
+      (λ i h. sym (key-goal n table i (H .table .some) ∙ word-goal roots labels goals i (omega (arith, size, H .aimed)))))
+
+  -- ---- the map
+
+  root-vertex : (i : ℕ) → i < length roots → rank (getD roots i 0) (statesOf roots) ≡ vertexOf n table 0 i
+  unfolding vertexOf
+  root-vertex i h = ap₂ rank (sym (key-root n table i ∙ word-root roots labels goals i (omega (arith, size)))) root-states
+
+  goal-vertex : (i : ℕ) → i < length roots → rank (getD goals i 0) (statesOf goals) ≡ vertexOf n table n i
+  unfolding vertexOf
+  goal-vertex i h = ap₂ rank (sym (key-goal n table i (H .table .some) ∙ word-goal roots labels goals i (omega (arith, size)))) goal-states
+
+  one-row : (t : ℕ) → 0 < t → length roots ≤ t * length roots
+  one-row t h = let p : 1 * length roots ≤ t * length roots = mul-le-mul-right (length roots) h in omega (arith, one-mul (length roots))
+
+  next-row : (t : ℕ) → t < n → t * length roots + length roots ≤ n * length roots
+  next-row t h = let p : suc t * length roots ≤ n * length roots = mul-le-mul-right (length roots) h in omega (arith, suc-mul t (length roots))
+
+  pub complete : (t i : ℕ) → t ≤ n → i < length roots → getD new (t * length roots + i) 0 ≡ vertexOf n table t i
+  complete t i h l = go (ℕ-discrete t 0) (ℕ-discrete t n)
+    where
+      go : Dec (t ≡ 0) → Dec (t ≡ n) → getD new (t * length roots + i) 0 ≡ vertexOf n (words roots labels goals) t i
+      go (yes p) q =
+          let e : t * length roots + i ≡ i = rw (p, zero-mul (length roots)) (zero-add i) in
+          ap (λ k. getD new k 0) e ∙ P .placed .rootRow i l ∙ root-vertex i l ∙ ap (λ u. vertexOf n (words roots labels goals) u i) (sym p)
+      go (no p) (yes q) =
+          ap (λ u. getD new (u * length roots + i) 0) q ∙ P .placed .goalRow i l ∙ goal-vertex i l ∙ ap (λ u. vertexOf n (words roots labels goals) u i) (sym q)
+      go (no p) (no q) =
+          let u : t < n = omega arith in
+          P .placed .between (t * length roots + i) (omega (arith, one-row t (omega arith))) (omega (arith, next-row t u))
+          ∙ ap (λ w. getD old (t * w + i) 0) (sym size) ∙ S .vertices t i (omega arith) u (omega (arith, size))
+
+  pub counted : (t : ℕ) → t ≤ n → getD counts t 0 ≡ vertexCount n table t
+  unfolding vertexCount
+  counted t h = go (ℕ-discrete t 0) (ℕ-discrete t n)
+    where
+      go : Dec (t ≡ 0) → Dec (t ≡ n) → getD counts t 0 ≡ length (keys n (words roots labels goals) t)
+      go (yes p) q = ap (λ u. getD counts u 0) p ∙ P .rootCount ∙ ap length root-states ∙ ap (λ u. length (keys n (words roots labels goals) u)) (sym p)
+      go (no p) (yes q) = ap (λ u. getD counts u 0) q ∙ P .goalCount ∙ ap length goal-states ∙ ap (λ u. length (keys n (words roots labels goals) u)) (sym q)
+      go (no p) (no q) = P .innerCount t (omega arith) (omega arith) ∙ S .counted t (omega arith) (omega arith)
+
+  few-vertices : (t i : ℕ) → i < length roots → vertexOf n table t i < 1024
+  unfolding vertexCount keys
+  few-vertices t i h = omega (
+    arith,
+    vertex-below n table t i (omega (arith, size)),
+    ascending-length ltb numbers (each (key n table t) (length table)),
+    length-run (key n table t) 0 (length table),
+    size,
+    H .few,
+  )
+
+  pub few-counts : (t : ℕ) → t ≤ n → getD counts t 0 ≤ 1024
+  unfolding vertexCount keys
+  few-counts t h = omega (arith, counted t h, ascending-length ltb numbers (each (key n table t) (length table)), length-run (key n table t) 0 (length table), size, H .few)
+
+  -- every place of the n + 1 rows is of some word at some depth
+  pub small : suc n * length roots ≤ length new → SmallMap new labels n
+  small room = record {
+    steps = H .short;
+    words = omega (arith, H .labelled, H .few);
+    room = rw (H .labelled) room;
+    vertices = λ j h. vertices j (rw (H .labelled) at h);
+  }
+    where
+      vertices : (j : ℕ) → j < suc n * length roots → getD new j 0 < 1024
+      vertices j h =
+          let some : 0 < length roots = pos (length roots) (suc n) j h in
+          let t = j / length roots in
+          let i = j % length roots in
+          let e : t * length roots + i ≡ j = div-add-mod' j (length roots) in
+          let l : i < length roots = mod-lt j some in
+          let u : t < suc n = div-lt-iff-lt-mul some .1 h in
+          let f : getD new (t * length roots + i) 0 ≡ getD new j 0 = ap (λ k. getD new k 0) e in
+          omega (arith, complete t i (omega arith) l, few-vertices t i l)
+        where
+          pos : (w m k : ℕ) → k < m * w → 0 < w
+          pos zero m k q = absurd (omega (arith, mul-zero m))
+          pos (suc w) m k q = omega arith
+
+  -- ---- the edges and the numbers, where the table is rectangular
+
+  module _ (R : Rectangular n table) where
+    step-edge : (t : ℕ) → t < n → (i : ℕ) → i < length table → stepEdge new labels n t i ≡ edgeOf n table t i
+    unfolding rowEdge
+    step-edge t deep i h =
+        let k : i < length roots = omega (arith, size) in
+        edge-eq (ap (λ w. getD new (t * w + i) 0) (H .labelled) ∙ complete t i (omega arith) k)
+        (ap (symbol n t) (sym (word-label roots labels goals i h)))
+        (ap (λ w. getD new (t * w + w + i) 0) (H .labelled) ∙ ap (λ j. getD new (j + i) 0) (sym (suc-mul t (length roots))) ∙ complete (suc t) i deep k)
+
+    pub step-edges : (t : ℕ) → t < n → stepList new labels n t ≡ edgesAt n table t
+    unfolding stepList stepTakers
+    step-edges t deep =
+        ap (λ w. map (stepEdge new labels n t) (takers (stepEdge new labels n t) w)) (H .labelled ∙ sym size)
+        ∙ takers-edges n table (H .table) R t deep (stepEdge new labels n t) (step-edge t deep)
+
+    takers-long : (t : ℕ) → t < n → length (stepTakers new labels n t) ≡ edgeCount n table t
+    unfolding edgeCount stepList
+    takers-long t h = sym (length-map (stepTakers new labels n t) (stepEdge new labels n t)) ∙ ap length (step-edges t h)
+
+    -- all steps' edges, and the two arrays that are made of them
+    all-pairs : (t : ℕ) → t ≤ n → joinedUp (stepPairs new labels n) t ≡ flatMap pairOf (joinedUp (edgesAt n table) t)
+    unfolding joinedUp stepPairs flatMap
+    all-pairs zero h = refl
+    all-pairs (suc t) h =
+        ap₂ (λ x y. x ++ y) (all-pairs t (omega arith)) (ap (flatMap pairOf) (step-edges t h))
+        ∙ sym (flatMap-append pairOf (joinedUp (edgesAt n table) t) (edgesAt n table t))
+
+    all-symbols : (t : ℕ) → t ≤ n → joinedUp (stepSymbols new labels n) t ≡ map symbolOf (joinedUp (edgesAt n table) t)
+    unfolding joinedUp stepSymbols
+    all-symbols zero h = refl
+    all-symbols (suc t) h =
+        ap₂ (λ x y. x ++ y) (all-symbols t (omega arith)) (ap (map symbolOf) (step-edges t h))
+        ∙ sym (map-append symbolOf (joinedUp (edgesAt n table) t) (edgesAt n table t))
+
+    all-takers : (t : ℕ) → t ≤ n → length (joinedUp (stepTakers new labels n) t) ≡ length (joinedUp (edgesAt n table) t)
+    unfolding joinedUp edgeCount
+    all-takers zero h = refl
+    all-takers (suc t) h =
+        length-append (joinedUp (stepTakers new labels n) t) (stepTakers new labels n t)
+        ∙ ap₂ (λ x y. x + y) (all-takers t (omega arith)) (takers-long t h)
+        ∙ sym (length-append (joinedUp (edgesAt n table) t) (edgesAt n table t))
+
+    module _ (q states : ℕ) {firsts edgeCounts : List ℕ} (fewRoots : Few roots) (fewGoals : Few goals) (K : Taken new labels n firsts edgeCounts) where
+      pub numbers-are : numbersOf q n states counts edgeCounts rootMarks goalMarks new labels ≡ sectionOf q n states table
+      unfolding numbersOf sectionOf
+      numbers-are = ap {B = List ℕ} (λ l. q ∷ n ∷ states ∷ l)
+          (ap₂ (λ x y. x ++ y) (each-same (λ k. getD counts k 0) (vertexCount n table) (suc n) (suc n) refl (λ t h. counted t (omega arith)))
+          (ap₂ (λ x y. x ++ y) (each-same (λ k. getD edgeCounts k 0) (edgeCount n table) n n refl (λ t h. K .counted t h ∙ takers-long t h))
+          (ap₂ (λ x y. x ++ y) (marked-are fewRoots (P .rootsMarked) ∙ root-states)
+          (ap₂ (λ x y. x ++ y) (marked-are fewGoals (P .goalsMarked) ∙ goal-states)
+          (ap₂ (λ x y. x ++ y) (all-pairs n (le-refl _)) (all-symbols n (le-refl _)))))))
+
+    -- the section's length, from the counts
+    pub section-length : (q states total : ℕ) → total ≡ length (joinedUp (stepTakers new labels n) n)
+        → length (sectionOf q n states table) ≡ 4 + 2 * n + (getD counts 0 0 + getD counts n 0) + 3 * total
+    unfolding sectionOf vertexCount
+    section-length q states total e =
+        omega (
+          arith,
+          six-long (each (vertexCount n table) (suc n)) (each (edgeCount n table) n) (keys n table 0) (keys n table n)
+              (flatMap pairOf (joinedUp (edgesAt n table) n)) (map symbolOf (joinedUp (edgesAt n table) n)),
+          length-run (vertexCount n table) 0 (suc n),
+          length-run (edgeCount n table) 0 n,
+          counted 0 (omega arith),
+          counted n (le-refl _),
+          two-each (joinedUp (edgesAt n table) n),
+          length-map (joinedUp (edgesAt n table) n) symbolOf,
+          all-takers n (le-refl _),
+        )

@@ -1,0 +1,109 @@
+// Our section of a table whose inner depths are in the map: the rows of the two outer depths, the edges of all steps, and the section's numbers.
+ghost use mathlib.Core.Path.{_≡_};
+ghost use mathlib.Core.List.{List, [], _∷_};
+ghost use Prim.Native.Nat.{ℕ, suc, _+_, _*_, _<_, _≤_};
+ghost use lib.ListN.{length, getD};
+ghost use Rattle.trellis.specs.Lists.{each};
+ghost use Rattle.trellis.specs.Write.{Wrote};
+ghost use Rattle.layout.specs.States.{Few};
+ghost use Rattle.assemble.specs.Outer.{Asked, Placed, RowPut, Put};
+ghost use Rattle.assemble.specs.Numbers.{firstOf, numbersOf, Parts};
+use layout::states;
+
+// What is known of an outer depth: its states as marks, and how many there are.
+pub struct Depth {
+    pub marks: [u8; 64],
+    pub count: u16,
+}
+
+// The vertices of an outer depth into the map, from place `place` on.
+fn put_depth(words: &[u8], map: &mut [u16], place: usize) -> Depth
+    requires { ⌜ Few (now words) × (place + length (now words) ≤ length (now map)) ⌝ }
+    ensures { λ r. ⌜ RowPut (now (words .entry)) (now (map .entry)) place (now (map .exit)) (r .marks) (r .count) ⌝ }
+{
+    let marks = states::mark(words);
+    let numbers = states::number(&marks);
+    let ranks = numbers.ranks;
+    let count = numbers.count;
+    states::put_row(words, &ranks, map, place);
+    Depth { marks, count }
+}
+
+// Both outer depths, and the vertex counts of all depths.
+pub struct Outer {
+    pub roots: [u8; 64],
+    pub goals: [u8; 64],
+    pub counts: [u16; 9],
+}
+
+// The rows of depth 0 and depth n into the map; `inner` has the vertex counts of the inner depths.
+pub fn put_outer(roots: &[u8], goals: &[u8], n: usize, map: &mut [u16], inner: [u16; 9]) -> Outer
+    requires { ⌜ Asked (now roots) (now goals) n (now map) inner ⌝ }
+    ensures { λ r. ⌜ Put (now (roots .entry)) (now (goals .entry)) n (now (map .entry)) (now (map .exit)) inner (r .roots) (r .goals) (r .counts) ⌝ }
+{
+    let first = put_depth(roots, map, 0);
+    let last = put_depth(goals, map, n * roots.len());
+    let root_marks = first.marks;
+    let goal_marks = last.marks;
+    let mut counts = inner;
+    counts[0] = first.count;
+    counts[n] = last.count;
+    Outer {
+        roots: root_marks,
+        goals: goal_marks,
+        counts,
+    }
+}
+
+// The first `count` numbers of an array, from place `at` on.
+fn put_numbers(source: &[u16], count: usize, section: &mut [u16], at: usize) -> usize
+    requires { ⌜ (count ≤ length (now source)) × (at + count ≤ length (now section)) ⌝ }
+    ensures { λ r. ⌜ Wrote (now (section .entry)) at (firstOf (now (source .entry)) count) (now (section .exit)) r ⌝ }
+{
+    let mut i: usize = 0;
+    while i < count {
+        section[at + i] = source[i];
+        i += 1;
+    }
+    at + count
+}
+
+// q, n and S.
+fn put_header(q: u16, n: u16, states: u16, section: &mut [u16]) -> usize
+    requires { ⌜ 3 ≤ length (now section) ⌝ }
+    ensures { λ r. ⌜ Wrote (now (section .entry)) 0 (q ∷ n ∷ states ∷ []) (now (section .exit)) r ⌝ }
+{
+    section[0] = q;
+    section[1] = n;
+    section[2] = states;
+    3
+}
+
+// The section's numbers in document 01's layout, from the front of the buffer on; gives the section's length. `words` and `edges` are what
+// layout::take_edges left for the finished map.
+pub fn put_section(
+    q: u16,
+    n: usize,
+    states: u16,
+    outer: Outer,
+    edges: layout::Edges,
+    words: &[u16],
+    labels: &[u16],
+    map: &[u16],
+    section: &mut [u16],
+) -> usize
+    requires { ⌜ Parts n (outer .counts) (edges .counts) (outer .roots) (outer .goals) (now map) (now labels) (now words) (now section) ⌝ }
+    ensures { λ r. ⌜ Wrote (now (section .entry)) 0 (numbersOf q n states (outer .counts) (edges .counts) (outer .roots) (outer .goals) (now (map .entry)) (now (labels .entry))) (now (section .exit)) r ⌝ }
+{
+    let vertices = outer.counts;
+    let counts = edges.counts;
+    let roots = outer.roots;
+    let goals = outer.goals;
+    let mut at = put_header(q, n as u16, states, section);
+    at = put_numbers(&vertices, n + 1, section, at);
+    at = put_numbers(&counts, n, section, at);
+    at = states::put_states(&roots, section, at);
+    at = states::put_states(&goals, section, at);
+    at = layout::put_all_pairs(words, &counts, n, labels, map, section, at);
+    layout::put_all_symbols(words, &counts, n, labels, map, section, at)
+}

@@ -1,0 +1,152 @@
+-- The last stage of merging: the parts fit, the length is the section's, and the buffers end as the definition says.
+use mathlib.Core.Path.{_≡_, refl, sym, ap, ap₂, subst, _∙_}
+use mathlib.Core.Bool.{Bool, true, false, cond}
+use mathlib.Core.List.{List, [], _∷_, _++_}
+use Prim.Native.Nat.{ℕ, zero, suc, _+_, _-_, _*_, _<_, _≤_}
+use native.Mathlib.Omega.{arith}
+use native.Mathlib.Nat.{mul-le-mul, suc-mul}
+use lib.ListN.{length, getD, length-append, replicate, length-replicate}
+use lib.Dec.{ltb, leb}
+use borrow.Author.Tests.{lt-ltb, le-ltb, le-leb}
+use Rattle.trellis.specs.Word.{Word, Table, Rectangular}
+use Rattle.trellis.specs.Layout.{joinedUp, sectionOf}
+use Rattle.trellis.specs.Write.{Wrote}
+use Rattle.trellis.proofs.Write.{wrote-front}
+use Rattle.depths.specs.Words.{words, Held}
+use Rattle.depths.specs.Merge.{Sound}
+use Rattle.depths.proofs.Words.{held-length}
+use Rattle.layout.specs.States.{marksBelow}
+use Rattle.layout.specs.Pieces.{SmallMap, stepEdge, stepTakers, AllTaken}
+use Rattle.layout.specs.AllPieces.{Taken, taken-all, joined-rise}
+use Rattle.layout.proofs.Marks.{bits-of, all-marks}
+use Rattle.assemble.specs.Outer.{Put}
+use Rattle.assemble.specs.Numbers.{numbersOf, Parts}
+use Rattle.assemble.proofs.Whole.{complete, few-counts, small, numbers-are, section-length, root-states, goal-states}
+use Rattle.merge.specs.Merging.{Merging, left, over, mapOf, written}
+use Rattle.trellis.specs.Outcome.{Outcome, success, shortSection}
+use Rattle.trellis.specs.Own.{Edge}
+use Rattle.layout.specs.Takers.{highest, leadsHigher, takers}
+use Rattle.merge.specs.Answer.{outcomeOf}
+use Rattle.merge.specs.declared.Merged.{Merged}
+use Rattle.merge.specs.Stages.{Ends, Words, Inside}
+use Rattle.merge.specs.declared.Merged.the-variants.{Section, ShortSection}
+use Rattle.merge.proofs.MapRows.{map-is}
+
+-- a list of first words is not empty where there are words
+takers-some : (f : ℕ → Edge) (m : ℕ) → 0 < m → 0 < length (takers f m)
+unfolding takers leadsHigher highest
+takers-some f zero h = absurd (omega arith)
+takers-some f (suc zero) h = first-some (leb 0 (f 0 .to)) (le-leb 0 (f 0 .to) (omega arith))
+  where
+    first-some : (b : Bool) → b ≡ true → 0 < length {A = ℕ} (cond b ([] ++ (0 ∷ [])) [])
+    first-some true e = omega arith
+    first-some false e = let z : _≡_ {A = ℕ} 0 1 = cc in absurd (omega arith)
+takers-some f (suc (suc m)) h = go (leadsHigher f (suc m)) (takers-some f (suc m) (omega arith))
+  where
+    go : (b : Bool) → 0 < length (takers f (suc m)) → 0 < length (cond b (takers f (suc m) ++ (suc m ∷ [])) (takers f (suc m)))
+    go true r = omega (arith, length-append (takers f (suc m)) (suc m ∷ []))
+    go false r = r
+
+-- ---- the two ways that this stage ends
+
+module _ (q n states : ℕ) (table : List Word) (map section : List ℕ) where
+  written-short : length section < length (sectionOf q n states table)
+      → written q n states table map section ≡ left (shortSection (length (sectionOf q n states table))) (over (mapOf n table) map) section
+  unfolding written
+  written-short h = simp (lt-ltb (length section) (length (sectionOf q n states table)) h)
+
+  written-done : length (sectionOf q n states table) ≤ length section
+      → written q n states table map section
+      ≡ left (success (length (sectionOf q n states table))) (over (mapOf n table) map) (over (sectionOf q n states table) section)
+  unfolding written
+  written-done h = simp (le-ltb (length section) (length (sectionOf q n states table)) h)
+
+pub ends-by : {m : Merging} {r : Merged} {o : Outcome} {map section map′ section′ : List ℕ} → m ≡ left o map section → outcomeOf r ≡ o → map′ ≡ map → section′ ≡ section
+    → Ends m r map′ section′
+ends-by {m} {r} {o} {map} {section} {map′} {section′} e p q s = record {
+  answerIs = p ∙ sym (ap (λ (x : Merging). x .answer) e);
+  mapIs = q ∙ sym (ap (λ (x : Merging). x .map) e);
+  sectionIs = s ∙ sym (ap (λ (x : Merging). x .section) e);
+}
+
+module _ {n : ℕ} {roots labels goals map0 map1 inner rootMarks goalMarks counts : List ℕ} (I : Inside n roots labels goals map0 inner)
+    (P : Put roots goals n map0 map1 inner rootMarks goalMarks counts) where
+  abbrev table : List Word
+  table = words roots labels goals
+
+  H : Held n roots labels goals
+  H = I .asked .held
+
+  size : length table ≡ length roots
+  size = held-length H
+
+  rectangular : Rectangular n table
+  rectangular t p q = I .sound .rectangular t p q
+
+  pub map-small : SmallMap map1 labels n
+  map-small = small H (I .sound) P (omega (arith, I .asked .room, P .placed .len))
+
+  pub root-few : getD counts 0 0 ≤ 1024
+  root-few = few-counts H (I .sound) P 0 (omega arith)
+
+  pub goal-few : getD counts n 0 ≤ 1024
+  goal-few = few-counts H (I .sound) P n (omega arith)
+
+  module _ {firsts edgeCounts : List ℕ} {total : ℕ} (A : AllTaken map1 labels n (replicate 8192 0) firsts total edgeCounts) where
+    room8 : n * length labels ≤ 8192
+    room8 = let p : n * length labels ≤ 8 * 1024 = mul-le-mul (H .short) (map-small .words) in omega arith
+
+    pub total-few : total ≤ 8192
+    total-few = omega (arith, A .few, room8)
+
+    K : Taken map1 labels n firsts edgeCounts
+    K = taken-all A (omega (arith, room8, length-replicate {A = ℕ} 8192 0))
+
+    total-is : total ≡ length (joinedUp (stepTakers map1 labels n) n)
+    total-is = omega (arith, A .noted .end-is)
+
+    some-edges : 0 < length (joinedUp (stepTakers map1 labels n) n)
+    unfolding stepTakers
+    some-edges =
+        omega (arith, joined-rise (stepTakers map1 labels n) 0 n (H .table .some),
+        takers-some (stepEdge map1 labels n 0) (length labels) (omega (arith, I .asked .some, H .labelled)))
+
+    map-whole : map1 ≡ over (mapOf n table) map0
+    map-whole = map-is n table map0 map1 (omega (arith, size, I .asked .some)) (rw size (I .asked .room)) (P .placed .len)
+        (λ t i a b. ap (λ w. getD map1 (t * w + i) 0) size ∙ complete H (I .sound) P t i a (omega (arith, size)))
+        (λ j h. P .placed .behind j (rw size at h))
+
+    module _ (q states : ℕ) {c0 cn : ℕ} (e0 : c0 ≡ getD counts 0 0) (en : cn ≡ getD counts n 0) where
+      abbrev needed : ℕ
+      needed = 4 + 2 * n + (c0 + cn) + 3 * total
+
+      needed-is : 4 + 2 * n + (c0 + cn) + 3 * total ≡ length (sectionOf q n states table)
+      needed-is = ap₂ (λ x y. 4 + 2 * n + (x + y) + 3 * total) e0 en ∙ sym (section-length H (I .sound) P rectangular q states total total-is)
+
+      module _ {section : List ℕ} where
+        -- 7: the map is finished, the section is as it was
+        pub ends-short : length section < 4 + 2 * n + (c0 + cn) + 3 * total
+            → Ends (written q n states table map0 section) (ShortSection (4 + 2 * n + (c0 + cn) + 3 * total)) map1 section
+        ends-short h = ends-by (written-short q n states table map0 section (omega (arith, needed-is))) (ap shortSection needed-is) map-whole refl
+
+        pub parts : 4 + 2 * n + (c0 + cn) + 3 * total ≤ length section → Parts n counts edgeCounts rootMarks goalMarks map1 labels firsts section
+        parts h = record {
+          small = map-small;
+          taken = K;
+          nine = P .nine;
+          rootPlaces = P .rootsMarked .places;
+          goalPlaces = P .goalsMarked .places;
+          rootBits = bits-of (P .rootsMarked);
+          goalBits = bits-of (P .goalsMarked);
+          some = some-edges;
+          room = omega (arith, e0, en, all-marks (I .asked .fewRoots) (P .rootsMarked), all-marks (I .asked .fewGoals) (P .goalsMarked), P .rootCount, P .goalCount, total-is);
+        }
+
+        -- success: the section's numbers stand in front
+        pub ends-done : {new : List ℕ} {end : ℕ} → 4 + 2 * n + (c0 + cn) + 3 * total ≤ length section
+            → Wrote section 0 (numbersOf q n states counts edgeCounts rootMarks goalMarks map1 labels) new end
+            → Ends (written q n states table map0 section) (Section (4 + 2 * n + (c0 + cn) + 3 * total)) map1 new
+        ends-done {new} {end} h W =
+            let same = numbers-are H (I .sound) P rectangular q states (I .asked .fewRoots) (I .asked .fewGoals) K in
+            let W′ : Wrote section 0 (sectionOf q n states table) new end = subst (λ vs. Wrote section 0 vs new end) same W in
+            ends-by (written-done q n states table map0 section (omega (arith, needed-is))) (ap success needed-is) map-whole (wrote-front W′ (omega (arith, needed-is)))

@@ -1,0 +1,4 @@
+pub mod MapRows
+pub mod LastStage
+pub mod FirstDepth
+pub mod InnerStage

@@ -1,0 +1,141 @@
+-- `merge::finish` writes the outer rows, takes the edges, and writes the section where it has room.
+use native.Mathlib.Omega.{arith}
+use Rattle.merge.proofs.LastStage.{map-small, root-few, goal-few, total-few, ends-short, parts, ends-done}
+use borrow.Author.Needs.{needs}
+use Rattle.merge.proofs.finish.Statement.{statement}
+use Rattle.merge.proofs.finish.Tie as tie
+
+put-outer-requires : tie.Need-put-outer-requires
+put-outer-requires c κs = search needs
+
+slice-aggregate-take-edges : tie.Need-slice-aggregate-take-edges
+slice-aggregate-take-edges c = search needs
+
+take-edges-requires : tie.Need-take-edges-requires
+take-edges-requires c κs =
+    let at-outer = c .before .before .before .before in
+    let entry = at-outer .before .before .before .before .before .before .before in
+    (map-small (entry .pre) (at-outer .put-outer .ensures), search needs)
+
+mul-needed : tie.Need-mul-needed
+mul-needed c = search needs
+
+add-needed : tie.Need-add-needed
+add-needed c = search needs
+
+array-read-wide : tie.Need-array-read-wide
+array-read-wide c = search needs
+
+wide-requires : tie.Need-wide-requires
+wide-requires c κs = search needs
+
+mul-wide : tie.Need-mul-wide
+mul-wide c = search needs
+
+array-read-wide-2 : tie.Need-array-read-wide-2
+array-read-wide-2 c = search needs
+
+wide-requires-2 : tie.Need-wide-requires-2
+wide-requires-2 c κs = search needs
+
+add-needed-2 : tie.Need-add-needed-2
+add-needed-2 c =
+    let at-edges = c .before .before .before .before in
+    let at-outer = at-edges .before .before .before .before .before in
+    let entry = at-outer .before .before .before .before .before .before .before in
+    omega (arith, c .before .wide .ensures, c .wide2 .ensures, root-few (entry .pre) (at-outer .put-outer .ensures), goal-few (entry .pre) (at-outer .put-outer .ensures))
+
+add-needed-3 : tie.Need-add-needed-3
+add-needed-3 c =
+    let at-edges = c .before .before .before .before in
+    let at-outer = at-edges .before .before .before .before .before in
+    let entry = at-outer .before .before .before .before .before .before .before in
+    omega (arith, c .before .wide .ensures, c .wide2 .ensures, root-few (entry .pre) (at-outer .put-outer .ensures), goal-few (entry .pre) (at-outer .put-outer .ensures), entry .pre .asked .held .short)
+
+mul-needed-2 : tie.Need-mul-needed-2
+mul-needed-2 c =
+    let at-known = c in
+    let at-wide2 = at-known .before in
+    let at-wide = at-wide2 .before in
+    let at-edges = at-wide .before .before .before in
+    let at-outer = at-edges .before .before .before .before .before in
+    let entry = at-outer .before .before .before .before .before .before .before in
+    omega (arith, total-few (entry .pre) (at-outer .put-outer .ensures) (at-edges .take-edges .ensures))
+
+add-needed-4 : tie.Need-add-needed-4
+add-needed-4 c =
+    let at-known = c in
+    let at-wide2 = at-known .before in
+    let at-wide = at-wide2 .before in
+    let at-edges = at-wide .before .before .before in
+    let at-outer = at-edges .before .before .before .before .before in
+    let entry = at-outer .before .before .before .before .before .before .before in
+    omega (arith, total-few (entry .pre) (at-outer .put-outer .ensures) (at-edges .take-edges .ensures), at-wide .wide .ensures, at-wide2 .wide2 .ensures, root-few (entry .pre) (at-outer .put-outer .ensures), goal-few (entry .pre) (at-outer .put-outer .ensures), entry .pre .asked .held .short)
+
+same-length : tie.Need-same-length
+same-length c = search needs
+
+returns : tie.Need-returns
+returns c =
+    let at-known = c .before in
+    let at-wide2 = at-known .before in
+    let at-wide = at-wide2 .before in
+    let at-edges = at-wide .before .before .before in
+    let at-outer = at-edges .before .before .before .before .before in
+    let entry = at-outer .before .before .before .before .before .before .before in
+    ends-short (entry .pre) (at-outer .put-outer .ensures) (at-edges .take-edges .ensures) _ _ (at-wide .wide .ensures) (at-wide2 .wide2 .ensures) (c .if1 .taken)
+
+slice-aggregate-put-section : tie.Need-slice-aggregate-put-section
+slice-aggregate-put-section c = search needs
+
+put-section-requires : tie.Need-put-section-requires
+put-section-requires c κs =
+    let at-known = c .before .before .before .before in
+    let at-wide2 = at-known .before in
+    let at-wide = at-wide2 .before in
+    let at-edges = at-wide .before .before .before in
+    let at-outer = at-edges .before .before .before .before .before in
+    let entry = at-outer .before .before .before .before .before .before .before in
+    parts (entry .pre) (at-outer .put-outer .ensures) (at-edges .take-edges .ensures) 0 0 (at-wide .wide .ensures) (at-wide2 .wide2 .ensures) (c .before .before .before .if1 .left)
+
+same-length-2 : tie.Need-same-length-2
+same-length-2 c = search needs
+
+same-length-3 : tie.Need-same-length-3
+same-length-3 c = search needs
+
+returns-2 : tie.Need-returns-2
+returns-2 c =
+    let at-known = c .before .before .before .before .before .before .before in
+    let at-wide2 = at-known .before in
+    let at-wide = at-wide2 .before in
+    let at-edges = at-wide .before .before .before in
+    let at-outer = at-edges .before .before .before .before .before in
+    let entry = at-outer .before .before .before .before .before .before .before in
+    ends-done (entry .pre) (at-outer .put-outer .ensures) (at-edges .take-edges .ensures) _ _ (at-wide .wide .ensures) (at-wide2 .wide2 .ensures) (c .before .before .before .before .before .before .if1 .left) (c .before .before .put-section .ensures)
+
+pub finish-spec : {M : Type 1} → statement M
+finish-spec =
+    tie.close
+    (tie.spec
+    put-outer-requires
+    slice-aggregate-take-edges
+    take-edges-requires
+    mul-needed
+    add-needed
+    array-read-wide
+    wide-requires
+    mul-wide
+    array-read-wide-2
+    wide-requires-2
+    add-needed-2
+    add-needed-3
+    mul-needed-2
+    add-needed-4
+    same-length
+    returns
+    slice-aggregate-put-section
+    put-section-requires
+    same-length-2
+    same-length-3
+    returns-2)

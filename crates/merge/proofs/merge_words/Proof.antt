@@ -1,0 +1,54 @@
+-- `merge::merge_words` fills the inner rows, and then refuses at the first depth that is not rectangular, or finishes.
+use Rattle.merge.proofs.InnerStage.{inside, ends-written, refused, ends-refused}
+use borrow.Author.Needs.{needs}
+use Rattle.merge.proofs.merge_words.Statement.{statement}
+use Rattle.merge.proofs.merge_words.Tie as tie
+
+merge-inner-requires : tie.Need-merge-inner-requires
+merge-inner-requires c κs = search needs
+
+refuse-requires : tie.Need-refuse-requires
+refuse-requires c κs =
+    let at-inner = c .before .before .before .before in
+    let entry = at-inner .before .before .before .before .before .before .before .before in
+    refused (entry .pre) (at-inner .merge-inner .ensures) (c .before .if1 .taken)
+
+same-length : tie.Need-same-length
+same-length c = search needs
+
+returns : tie.Need-returns
+returns c =
+    let at-inner = c .before .before .before .before .before .before .before in
+    let entry = at-inner .before .before .before .before .before .before .before .before in
+    ends-refused (entry .pre) (at-inner .merge-inner .ensures) _ _ (c .before .before .before .before .if1 .taken) (c .before .before .refuse .ensures)
+
+finish-requires : tie.Need-finish-requires
+finish-requires c κs =
+    let at-inner = c .before .before .before .before .before in
+    let entry = at-inner .before .before .before .before .before .before .before .before in
+    inside (entry .pre) (at-inner .merge-inner .ensures) (c .before .before .if1 .left)
+
+same-length-2 : tie.Need-same-length-2
+same-length-2 c = search needs
+
+same-length-3 : tie.Need-same-length-3
+same-length-3 c = search needs
+
+returns-2 : tie.Need-returns-2
+returns-2 c =
+    let at-inner = c .before .before .before .before .before .before .before .before .before .before in
+    let entry = at-inner .before .before .before .before .before .before .before .before in
+    ends-written (entry .pre) (at-inner .merge-inner .ensures) _ _ _ (c .before .before .before .before .before .before .before .if1 .left) (c .before .before .before .before .finish .ensures)
+
+pub merge-words-spec : {M : Type 1} → statement M
+merge-words-spec =
+    tie.close
+    (tie.spec
+    merge-inner-requires
+    refuse-requires
+    same-length
+    returns
+    finish-requires
+    same-length-2
+    same-length-3
+    returns-2)

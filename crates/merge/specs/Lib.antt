@@ -1,0 +1,4 @@
+pub mod Answer
+pub mod Merging
+pub mod Stages
+pub mod InClear

@@ -1,0 +1,52 @@
+-- What each stage of merging asks and leaves.
+use mathlib.Core.Path.{_≡_}
+use mathlib.Core.List.{List}
+use Prim.Native.Nat.{ℕ, suc, _+_, _*_, _<_, _≤_}
+use lib.ListN.{length, getD, replicate}
+use Rattle.trellis.specs.Word.{Word, Rectangular}
+use Rattle.table.specs.File.{fileWord}
+use Rattle.table.specs.Good.{Good}
+use Rattle.depths.specs.Words.{words, Held}
+use Rattle.depths.specs.Merge.{Sound, FirstRefused}
+use Rattle.layout.specs.States.{Few}
+use Rattle.merge.specs.Answer.{outcomeOf}
+use Rattle.merge.specs.Merging.{Merging, over}
+use Rattle.merge.specs.declared.Merged.{Merged}
+
+-- the answer and both buffers are those of m
+pub record Ends (m : Merging) (r : Merged) (map section : List ℕ) : Type 0 where
+  pub answerIs : outcomeOf r ≡ m .answer
+  pub mapIs : map ≡ m .map
+  pub sectionIs : section ≡ m .section
+
+-- count places of a buffer cleared
+abbrev pub cleared : ℕ → List ℕ → List ℕ
+cleared count buffer = over (replicate count 0) buffer
+
+-- words in three lists, with states that fit, and a map long enough for them
+pub record Words (n : ℕ) (roots labels goals map : List ℕ) : Type 0 where
+  pub held : Held n roots labels goals
+  pub fewRoots : Few roots
+  pub fewGoals : Few goals
+  pub some : 0 < length roots
+  pub room : suc n * length roots ≤ length map
+
+-- and the inner depths are in the map
+pub record Inside (n : ℕ) (roots labels goals map counts : List ℕ) : Type 0 where
+  pub asked : Words n roots labels goals map
+  pub sound : Sound n (words roots labels goals) 1 map counts
+  pub nine : length counts ≡ 9
+
+-- or t is the first inner depth at which the table is not rectangular
+pub record Refused (n t : ℕ) (roots labels goals map : List ℕ) : Type 0 where
+  pub asked : Words n roots labels goals map
+  pub first : FirstRefused n (words roots labels goals) 1 t
+
+-- the first `count` places of three arrays hold the words of the file
+pub record Copied (file : List ℕ) (count : ℕ) (roots labels goals : List ℕ) : Type 0 where
+  pub root : (i : ℕ) → i < count → getD roots i 0 ≡ fileWord file i .root
+  pub label : (i : ℕ) → i < count → getD labels i 0 ≡ fileWord file i .label
+  pub goal : (i : ℕ) → i < count → getD goals i 0 ≡ fileWord file i .goal
+  pub rootPlaces : length roots ≡ 1024
+  pub labelPlaces : length labels ≡ 1024
+  pub goalPlaces : length goals ≡ 1024

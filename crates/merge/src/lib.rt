@@ -1,0 +1,189 @@
+// Merging: a table file becomes the map of its words' vertices and the smallest section that has just its words. The promise, for all arguments, is an
+// equation with one definition, `merging`: the answer with document 01's number and values, and every place of both buffers.
+ghost use mathlib.Core.Path.{_≡_};
+ghost use mathlib.Core.List.{List};
+ghost use Prim.Native.Nat.{ℕ, suc, _+_, _*_, _<_, _≤_};
+ghost use lib.ListN.{length, getD};
+ghost use Rattle.trellis.specs.Witness.{witness};
+ghost use Rattle.table.specs.File.{accepted, tableFile, fileWords};
+ghost use Rattle.depths.specs.Words.{words};
+ghost use Rattle.merge.specs.Answer.{outcomeOf};
+ghost use Rattle.merge.specs.Merging.{refusalOf, merging, mergedTable, merged, written};
+ghost use Rattle.merge.specs.Stages.{Ends, cleared, Words, Inside, Refused, Copied};
+
+pub enum Merged {
+    Section(usize),
+    Length(usize),
+    Size(usize),
+    Word(usize),
+    Order(usize),
+    ShortMap(usize),
+    NotRectangular(usize, usize, usize, usize),
+    ShortSection(usize),
+}
+
+fn wide(x: u16) -> usize
+    ensures { λ r. ⌜ r ≡ x ⌝ }
+{
+    x as usize
+}
+
+// The first `count` places of the map become 0.
+fn clear(map: &mut [u16], count: usize)
+    requires { ⌜ count ≤ length (now map) ⌝ }
+    ensures { λ _. ⌜ now (map .exit) ≡ cleared count (now (map .entry)) ⌝ }
+{
+    let mut i: usize = 0;
+    while i < count {
+        map[i] = 0;
+        i += 1;
+    }
+}
+
+// The outer depths, the edges and the section, where the inner depths are in the map: success, or refusal 7.
+fn finish(
+    q: u16,
+    n: usize,
+    states: u16,
+    roots: &[u8],
+    labels: &[u16],
+    goals: &[u8],
+    inner: [u16; 9],
+    map: &mut [u16],
+    section: &mut [u16],
+) -> Merged
+    requires { ⌜ Inside n (now roots) (now labels) (now goals) (now map) inner ⌝ }
+    ensures { λ r. ⌜ Ends (written q n states (words (now (roots .entry)) (now (labels .entry)) (now (goals .entry))) (now (map .entry)) (now (section .entry))) r (now (map .exit)) (now (section .exit)) ⌝ }
+{
+    let outer = assemble::put_outer(roots, goals, n, map, inner);
+    let mut firsts = [0u16; 8192];
+    let edges = layout::take_edges(labels, n, map, &mut firsts);
+    let counts = outer.counts;
+    let needed = 4 + 2 * n + (wide(counts[0]) + wide(counts[n])) + 3 * edges.total;
+    if section.len() < needed {
+        return Merged::ShortSection(needed);
+    }
+    assemble::put_section(q, n, states, outer, edges, &firsts, labels, map, section);
+    Merged::Section(needed)
+}
+
+// Refusal 6 at the first inner depth that is not rectangular: its witness, and a map of zeros.
+fn refuse(
+    n: usize,
+    t: usize,
+    roots: &[u8],
+    labels: &[u16],
+    goals: &[u8],
+    map: &mut [u16],
+) -> Merged
+    requires { ⌜ Refused n t (now roots) (now labels) (now goals) (now map) ⌝ }
+    ensures { λ r. ⌜ (outcomeOf r ≡ refusalOf (witness n (words (now (roots .entry)) (now (labels .entry)) (now (goals .entry))))) × (now (map .exit) ≡ cleared (length (now (roots .entry)) * (n + 1)) (now (map .entry))) ⌝ }
+{
+    clear(map, roots.len() * (n + 1));
+    match witness::find_witness(roots, labels, goals, n, t) {
+        witness::Witness::At(i, j, k) => Merged::NotRectangular(t, i, j, k),
+        // A depth that is not rectangular has a witness.
+        witness::Witness::Nothing => Merged::NotRectangular(t, 0, 0, 0),
+    }
+}
+
+// The words of a table in three slices: refusal 6, or what finish says.
+fn merge_words(
+    q: u16,
+    n: usize,
+    states: u16,
+    roots: &[u8],
+    labels: &[u16],
+    goals: &[u8],
+    map: &mut [u16],
+    section: &mut [u16],
+) -> Merged
+    requires { ⌜ Words n (now roots) (now labels) (now goals) (now map) ⌝ }
+    ensures { λ r. ⌜ Ends (merged q n states (words (now (roots .entry)) (now (labels .entry)) (now (goals .entry))) (now (map .entry)) (now (section .entry)) (witness n (words (now (roots .entry)) (now (labels .entry)) (now (goals .entry))))) r (now (map .exit)) (now (section .exit)) ⌝ }
+{
+    let mut counts = [0u16; 9];
+    let depth = depths::merge_inner(roots, labels, goals, n, map, &mut counts);
+    if depth != 0 {
+        return refuse(n, depth, roots, labels, goals, map);
+    }
+    finish(q, n, states, roots, labels, goals, counts, map, section)
+}
+
+// The words of a file, in three arrays: merging goes over them many times, and a word's bytes lie apart in the file.
+struct Lists {
+    roots: [u8; 1024],
+    labels: [u16; 1024],
+    goals: [u8; 1024],
+}
+
+fn copy_words(file: &[u8], count: u16) -> Lists
+    requires { ⌜ count ≤ 1024 ⌝ }
+    ensures { λ r. ⌜ Copied (now (file .entry)) count (r .roots) (r .labels) (r .goals) ⌝ }
+{
+    let mut roots = [0u8; 1024];
+    let mut labels = [0u16; 1024];
+    let mut goals = [0u8; 1024];
+    let mut i: u16 = 0;
+    while i < count {
+        let at = wide(i);
+        roots[at] = table::root_at(file, i);
+        labels[at] = table::label_at(file, i);
+        goals[at] = table::goal_at(file, i);
+        i += 1;
+    }
+    Lists {
+        roots,
+        labels,
+        goals,
+    }
+}
+
+// A file that checks 1 to 4 accept: refusal 5, or what its words come to.
+fn merge_table(
+    file: &[u8],
+    q: u8,
+    n: u8,
+    states: u8,
+    count: u16,
+    map: &mut [u16],
+    section: &mut [u16],
+) -> Merged
+    requires { ⌜ (tableFile (now file) ≡ accepted q n states (fileWords (now file))) × (count ≡ length (fileWords (now file))) ⌝ }
+    ensures { λ r. ⌜ Ends (mergedTable q n states (fileWords (now (file .entry))) (now (map .entry)) (now (section .entry))) r (now (map .exit)) (now (section .exit)) ⌝ }
+{
+    let w = wide(count);
+    let steps = n as usize;
+    let needed = w * (steps + 1);
+    if map.len() < needed {
+        return Merged::ShortMap(needed);
+    }
+    let lists = copy_words(file, count);
+    let roots = lists.roots;
+    let labels = lists.labels;
+    let goals = lists.goals;
+    merge_words(
+        q as u16,
+        steps,
+        states as u16,
+        &roots[..w],
+        &labels[..w],
+        &goals[..w],
+        map,
+        section,
+    )
+}
+
+// Merges the table in `file`: the vertex of each word at each depth into `map`, the section into `section`.
+pub fn merge(file: &[u8], map: &mut [u16], section: &mut [u16]) -> Merged
+    ensures { λ r. ⌜ Ends (merging (now (file .entry)) (now (map .entry)) (now (section .entry))) r (now (map .exit)) (now (section .exit)) ⌝ }
+{
+    match table::check(file) {
+        table::Checked::Table { q, n, states, words } => {
+            merge_table(file, q, n, states, words, map, section)
+        }
+        table::Checked::Length(length) => Merged::Length(length),
+        table::Checked::Size(place) => Merged::Size(place),
+        table::Checked::Word(index) => Merged::Word(index),
+        table::Checked::Order(index) => Merged::Order(index),
+    }
+}

@@ -1,0 +1,3 @@
+-- What the search for the first witness asks, computes and gives.
+pub mod Search
+pub mod Rows
