@@ -5,3 +5,4 @@ pub mod Marking
 pub mod Steps
 pub mod Usable
 pub mod Words
+pub mod Own
