@@ -6,3 +6,4 @@ pub mod Steps
 pub mod Usable
 pub mod Words
 pub mod Own
+pub mod OwnWords
