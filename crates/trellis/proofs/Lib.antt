@@ -17,3 +17,5 @@ pub mod Demand
 pub mod Witness
 pub mod EdgeOrder
 pub mod Write
+pub mod OwnLaid
+pub mod OwnTwins

@@ -1,0 +1,98 @@
+-- The mask's bits are its base-2 digits, read by a shift and `&`; the digits of a label that fits a block are 0 where they are erased.
+use mathlib.Core.Path.{_≡_, refl, sym, ap, subst, _∙_}
+use mathlib.Core.Bool.{Bool, true, false, not, _&&_}
+use Prim.Native.Nat.{ℕ, zero, suc, _+_, _-_, _*_, _/_, _%_, _^_, _≤_, _<_}
+use native.Mathlib.Nat.{not-suc-le-zero, div-eq-of-lt, div-lt-iff-lt-mul, pow-le-pow-right, lt-of-lt-of-le, one-mul}
+use native.Mathlib.Decide.{ℕ-discrete, decLt}
+use native.Mathlib.Omega.{arith}
+use lib.Bits.{bitAnd, and-mask}
+use lib.Pow.{pow-pos}
+use lib.Dec.{T, ltb, eqb, eqb→eq, lit<}
+use borrow.Author.Tests.{lt-ltb, le-ltb, ltb-true, ltb-false, eq-eqb, ne-eqb, eqb-true, not-true, not-false}
+use Rattle.trellis.specs.Lists.{first}
+use Rattle.trellis.specs.Label.{symbol, isLabel, symbolsBelow}
+use Rattle.trellis.proofs.Bools.{holds, fails, is-true, is-false, both, join}
+use Rattle.trellis.proofs.Lists.{First, first-ok, first-is}
+use Rattle.block.specs.Received.{erasedAt, stray, fitsBlock, Clean}
+use Rattle.block.specs.Loops.{InStray}
+
+pub bit-at : (n t mask : ℕ) → eqb (bitAnd (mask / 2 ^ (n - 1 - t)) 1) 1 ≡ erasedAt n t mask
+unfolding erasedAt
+bit-at n t mask = let e : n - 1 - t ≡ n - suc t = omega arith in rw (and-mask (mask / 2 ^ (n - 1 - t)) 1, e)
+
+pub mask-fits : (mask n : ℕ) → ltb (mask / 2 ^ n) 1 ≡ ltb mask (2 ^ n)
+mask-fits mask n = go (decLt mask (2 ^ n))
+  where
+    go : Dec (mask < 2 ^ n) → ltb (mask / 2 ^ n) 1 ≡ ltb mask (2 ^ n)
+    go (yes h) = let e = div-eq-of-lt h in rw (e, lt-ltb mask (2 ^ n) h)
+    go (no h) =
+        let l : 2 ^ n ≤ mask = omega arith in
+        le-ltb (mask / 2 ^ n) 1 (above l) ∙ sym (le-ltb mask (2 ^ n) l)
+      where
+        above : 2 ^ n ≤ mask → 1 ≤ mask / 2 ^ n
+        above l = one-le l (decLt (mask / 2 ^ n) 1)
+          where
+            one-le : 2 ^ n ≤ mask → Dec (mask / 2 ^ n < 1) → 1 ≤ mask / 2 ^ n
+            one-le a (yes b) = let c : mask < 1 * 2 ^ n = div-lt-iff-lt-mul (pow-pos n) .0 b in absurd (omega arith)
+            one-le a (no b) = omega arith
+
+pub mask-all : (mask n : ℕ) → mask < 256 → 8 ≤ n → true ≡ ltb mask (2 ^ n)
+mask-all mask n a b = sym (lt-ltb mask (2 ^ n) (lt-of-lt-of-le a (pow-le-pow-right (lit< tt) b)))
+
+-- ---- no stray symbol
+
+pub stray-start : (n received mask : ℕ) → InStray n received mask 0
+stray-start n received mask = record { t-le = omega arith; none = λ u h. absurd (not-suc-le-zero h) }
+
+pub stray-found : {n received mask t : ℕ} {b : Bool} → InStray n received mask t → t < n → b ≡ stray n received mask t → b ≡ true
+    → false ≡ eqb (first (stray n received mask) n) n
+stray-found {n} {received} {mask} {t} I h e q =
+    let F : First (stray n received mask) n t = record { most = omega arith; hit = λ k. holds (sym e ∙ q); miss = I .none } in
+    sym (ne-eqb (first (stray n received mask) n) n (λ k. absurd (omega (arith, first-is (stray n received mask) n t F))))
+
+pub stray-more : {n received mask t : ℕ} {b : Bool} → InStray n received mask t → t < n → b ≡ stray n received mask t → b ≡ false
+    → InStray n received mask (t + 1)
+stray-more {n} {received} {mask} {t} I h e q = record { t-le = omega arith; none = none }
+  where
+    none : (u : ℕ) → u < t + 1 → T (stray n received mask u) → ⊥
+    none u l = go (ℕ-discrete u t)
+      where
+        go : Dec (u ≡ t) → T (stray n received mask u) → ⊥
+        go (yes k) s = fails (sym e ∙ q) (subst (λ w. T (stray n received mask w)) k s)
+        go (no k) s = I .none u (omega arith) s
+
+pub stray-none : {n received mask t : ℕ} → InStray n received mask t → n ≤ t → true ≡ eqb (first (stray n received mask) n) n
+stray-none {n} {received} {mask} {t} I h =
+    let F : First (stray n received mask) n n = record { most = omega arith; hit = λ k. absurd (omega arith); miss = λ j k. I .none j (omega (arith, I .t-le)) } in
+    sym (eq-eqb (first (stray n received mask) n) n (first-is (stray n received mask) n n F))
+
+-- what a label that fits says
+pub clean-of : (q n received mask : ℕ) → fitsBlock n received mask q ≡ true → Clean n received mask
+unfolding fitsBlock isLabel stray
+clean-of q n received mask e =
+    let a = both (isLabel q n received) (ltb mask (2 ^ n) && eqb (first (stray n received mask) n) n) (holds e) in
+    let b = both (ltb mask (2 ^ n)) (eqb (first (stray n received mask) n) n) (a .1) in
+    let c = both (ltb received (4 ^ n)) (symbolsBelow q n received) (a .0) in
+    let f : first (stray n received mask) n ≡ n = eqb→eq (first (stray n received mask) n) n (b .1) in
+    record { short = ltb-true received (4 ^ n) (is-true _ (c .0)); zero = λ t h s. digit t h s f (ℕ-discrete (symbol n t received) 0) }
+  where
+    digit : (t : ℕ) → t < n → T (erasedAt n t mask) → first (stray n received mask) n ≡ n → Dec (symbol n t received ≡ 0) → symbol n t received ≡ 0
+    digit t h s f (yes z) = z
+    digit t h s f (no z) =
+        absurd (first-ok (stray n received mask) n .miss t (omega arith)
+        (join (erasedAt n t mask) (not (eqb (symbol n t received) 0)) s (holds (ap not (ne-eqb (symbol n t received) 0 z)))))
+
+-- the checks one after another
+module _ (q n received mask : ℕ) where
+  pub fits-label : {a : Bool} → a ≡ isLabel q n received → not a ≡ true → false ≡ fitsBlock n received mask q
+  unfolding fitsBlock
+  fits-label {a} p h = simp (sym p, not-true a h)
+
+  pub fits-mask : {a b : Bool} → a ≡ isLabel q n received → not a ≡ false → b ≡ ltb mask (2 ^ n) → not b ≡ true → false ≡ fitsBlock n received mask q
+  unfolding fitsBlock
+  fits-mask {a} {b} p h r k = simp (sym p, not-false a h, sym r, not-true b k)
+
+  pub fits-all : {a b c : Bool} → a ≡ isLabel q n received → not a ≡ false → b ≡ ltb mask (2 ^ n) → not b ≡ false → c ≡ eqb (first (stray n received mask) n) n
+      → c ≡ fitsBlock n received mask q
+  unfolding fitsBlock
+  fits-all {a} {b} p h r k s = simp (sym p, not-false a h, sym r, not-false b k, s)

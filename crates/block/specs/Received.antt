@@ -1,0 +1,48 @@
+-- What was received of a block of n symbols: a label, and an erasure mask of n bits, the first symbol highest. Everything here computes.
+-- The cost of a symbol is fixed here and nowhere else.
+use mathlib.Core.Path.{_≡_}
+use mathlib.Core.Bool.{Bool, cond, not, _&&_}
+use mathlib.Core.List.{List}
+use Prim.Native.Nat.{ℕ, suc, _+_, _-_, _*_, _/_, _%_, _^_, _<_}
+use lib.Dec.{T, ltb, eqb}
+use lib.ListN.{getD}
+use Rattle.trellis.specs.Lists.{one-if, sum, first}
+use Rattle.trellis.specs.Label.{symbol, isLabel}
+
+-- whether symbol t is erased
+unfoldable pub erasedAt : ℕ → ℕ → ℕ → Bool
+erasedAt n t mask = eqb (mask / 2 ^ (n - suc t) % 2) 1
+
+-- what an erased symbol costs, whatever it is
+abbrev pub erasureCost : ℕ
+erasureCost = 1
+
+-- what the symbol a costs where r was received: 1 where they differ
+abbrev pub costOver : Bool → ℕ → ℕ → ℕ
+costOver erased r a = cond erased erasureCost (one-if (not (eqb a r)))
+
+module _ (n received mask : ℕ) where
+  -- the cost of the symbol a as symbol t of the block
+  unfoldable pub symbolCost : ℕ → ℕ → ℕ
+  symbolCost t a = costOver (erasedAt n t mask) (symbol n t received) a
+
+  -- the distance of a label: the cost of all its symbols
+  unfoldable pub blockDistance : ℕ → ℕ
+  blockDistance label = sum (λ t. symbolCost t (symbol n t label)) 0 n
+
+  -- whether symbol t is erased and yet not 0 in the received label
+  unfoldable pub stray : ℕ → Bool
+  stray t = erasedAt n t mask && not (eqb (symbol n t received) 0)
+
+  -- no digit not below q, none not 0 where erased, no bits above the n digits, no mask bit at or above 2^n
+  unfoldable pub fitsBlock : ℕ → Bool
+  fitsBlock q = isLabel q n received && (ltb mask (2 ^ n) && eqb (first stray n) n)
+
+  -- what that says of the digits
+  pub record Clean : Type 0 where
+    pub short : received < 4 ^ n
+    pub zero : (t : ℕ) → t < n → T (erasedAt n t mask) → symbol n t received ≡ 0
+
+  -- the array holds the costs of the symbols, four a step
+  pub record Prices (prices : List ℕ) : Type 0 where
+    pub at : (t a : ℕ) → t < n → a < 4 → getD prices (4 * t + a) 0 ≡ symbolCost t a

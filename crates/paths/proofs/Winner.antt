@@ -1,0 +1,99 @@
+-- The chain's paths are exactly the linked lists of words, they stand in word order, and so the first of least distance wins: it is one of the paths,
+-- none is shorter, and each other of its distance comes after it, words compared from the first block on.
+use mathlib.Core.Path.{_≡_, refl, sym, ap, subst, subst₂, _∙_}
+use mathlib.Core.Bool.{Bool, true, false, cond}
+use mathlib.Core.Logic.{inl, inr}
+use mathlib.Core.List.{List, [], _∷_, map, flatMap, List·Memᴰ·head, List·Memᴰ·not-nil, List·Memᴰ·eq-of-singleton, Memᴰ·map, Memᴰ·of-map}
+use Prim.Native.Nat.{ℕ, zero, suc, _+_, _≤_, _<_}
+use native.Mathlib.Omega.{arith}
+use native.Mathlib.Nat.{add-zero, add-suc, suc-add}
+use lib.ListN.{length, getD}
+use lib.Dec.{eqb, eqb→eq}
+use borrow.Author.Tests.{eq-eqb}
+use Rattle.trellis.specs.Lists.{_∈_, keep}
+use Rattle.trellis.specs.Word.{Word, Before, word, wordAt}
+use Rattle.paths.specs.Choice.{Choice, some, best}
+use Rattle.paths.specs.Graph.{paths}
+use Rattle.paths.specs.Chain.{rootedAt, chainGraph, chainPaths, pathDistance, bestPath, Linked, ChainBefore, Winner}
+use Rattle.paths.proofs.First.{best-first, first-in, first-least}
+use Rattle.paths.proofs.Ordered.{Ordered, ended, leads, of-keep, in-keep, of-flatMap, in-flatMap, ordered-keep, ordered-map, ordered-flatMap, first-in-order}
+
+module _ (words : ℕ → List Word) (ends : ℕ → Bool) where
+  -- ---- the paths are the linked lists of words
+
+  pub record IsPath (k b s : ℕ) (p : List Word) : Type 0 where
+    pub long : length p ≡ k
+    pub linked : Linked words ends b s p
+
+  longer : {k b s : ℕ} {p : List Word} {w : Word} → w ∈ words b → w .root ≡ s → IsPath k (suc b) (w .goal) p → IsPath (suc k) b s (w ∷ p)
+  longer m e I = record { long = ap suc (I .long); linked = (m, e, I .linked) }
+
+  pub of-paths : (k b s : ℕ) (p : List Word) → p ∈ chainPaths words ends k b s → IsPath k b s p
+  unfolding chainPaths paths rootedAt
+  of-paths zero b s p m = go (ends s) refl m
+    where
+      go : (t : Bool) → ends s ≡ t → p ∈ cond t ([] ∷ []) [] → IsPath zero b s p
+      go true e l = let i : p ≡ [] = List·Memᴰ·eq-of-singleton l in subst (IsPath zero b s) (sym i) (record { long = refl; linked = e })
+      go false e l = absurd (List·Memᴰ·not-nil l)
+  of-paths (suc k) b s p m =
+      let z = of-flatMap (λ w. map (λ ws. w ∷ ws) (chainPaths words ends k (suc b) (w .goal))) (rootedAt s (words b)) p m in
+      let w = z .source in
+      let r = of-keep (λ w. eqb (w .root) s) (words b) w (z .listed) in
+      let x = Memᴰ·of-map (λ ws. w ∷ ws) (chainPaths words ends k (suc b) (w .goal)) (z .holds) in
+      subst (IsPath (suc k) b s) (x .2) (longer (r .listed) (eqb→eq (w .root) s (r .passes)) (of-paths k (suc b) (w .goal) (x .0) (x .1)))
+
+  pub in-paths : (k b s : ℕ) (p : List Word) → IsPath k b s p → p ∈ chainPaths words ends k b s
+  unfolding chainPaths paths rootedAt
+  in-paths zero b s [] I = subst (λ t. _∈_ {A = List Word} [] (cond t ([] ∷ []) [])) (sym (I .linked)) (List·Memᴰ·head refl)
+  in-paths zero b s (w ∷ p) I = let l = I .long in absurd (omega arith)
+  in-paths (suc k) b s [] I = let l = I .long in absurd (omega arith)
+  in-paths (suc k) b s (w ∷ p) I =
+      let L = I .linked in
+      let l = I .long in
+      in-flatMap (λ w. map (λ ws. w ∷ ws) (chainPaths words ends k (suc b) (w .goal))) (rootedAt s (words b)) (w ∷ p) w
+      (in-keep (λ w. eqb (w .root) s) (words b) w (L .0) (eq-eqb (w .root) s (L .1)))
+      (Memᴰ·map (λ ws. w ∷ ws) (in-paths k (suc b) (w .goal) p (record { long = omega arith; linked = L .2 })))
+
+  -- word i of a path is a word of its block
+  pub word-of : (b s : ℕ) (p : List Word) → Linked words ends b s p → (i : ℕ) → i < length p → wordAt p i ∈ words (b + i)
+  word-of b s [] L i h = absurd (omega arith)
+  word-of b s (w ∷ p) L zero h = subst (λ c. w ∈ words c) (sym (add-zero b)) (L .0)
+  word-of b s (w ∷ p) L (suc i) h =
+      let e : suc b + i ≡ b + suc i = suc-add b i ∙ sym (add-suc b i) in
+      subst (λ c. wordAt p i ∈ words c) e (word-of (suc b) (w .goal) p (L .2) i (omega arith))
+
+  -- ---- in word order, where the words of each block are
+
+  module _ (blocks : ℕ) (ordered : (b : ℕ) → b < blocks → Ordered Before (words b)) where
+    pub chains-ordered : (k b s : ℕ) → b + k ≤ blocks → Ordered ChainBefore (chainPaths words ends k b s)
+    unfolding chainPaths paths rootedAt
+    chains-ordered zero b s h = go (ends s)
+      where
+        go : (t : Bool) → Ordered ChainBefore (cond t ([] ∷ []) [])
+        go true = leads (λ y m. absurd (List·Memᴰ·not-nil m)) ended
+        go false = ended
+    chains-ordered (suc k) b s h =
+        ordered-flatMap (λ w. map (λ ws. w ∷ ws) (paths (chainGraph words ends) k (suc b) (w .goal))) rooted
+        (λ w m. ordered-map (λ ws. w ∷ ws) (λ p q r. inr (refl, r)) (chains-ordered k (suc b) (w .goal) (omega arith))) across
+      where
+        rooted : Ordered Before (rootedAt s (words b))
+        rooted = ordered-keep (λ w. eqb (w .root) s) (ordered b (omega arith))
+
+        across : (v w : Word) → Before v w → (p q : List Word) → p ∈ map (λ ws. v ∷ ws) (paths (chainGraph words ends) k (suc b) (v .goal))
+            → q ∈ map (λ ws. w ∷ ws) (paths (chainGraph words ends) k (suc b) (w .goal)) → ChainBefore p q
+        across v w r p q m l =
+            let x = Memᴰ·of-map (λ ws. v ∷ ws) (paths (chainGraph words ends) k (suc b) (v .goal)) m in
+            let y = Memᴰ·of-map (λ ws. w ∷ ws) (paths (chainGraph words ends) k (suc b) (w .goal)) l in
+            subst₂ ChainBefore (x .2) (y .2) (inl r)
+
+    pub best-wins : (dist : ℕ → Word → ℕ) (k b s : ℕ) → b + k ≤ blocks → {c : ℕ} {p : List Word} → bestPath words ends dist k b s ≡ some c p
+        → Winner (pathDistance dist b) (chainPaths words ends k b s) p × (c ≡ pathDistance dist b p)
+    unfolding bestPath
+    best-wins dist k b s h {c} {p} o =
+        let F = best-first (pathDistance dist b) (chainPaths words ends k b s) o in
+        let e = F .is in
+        (record {
+          listed = first-in (pathDistance dist b) F;
+          shortest = λ q m. let i = first-least (pathDistance dist b) F q m in omega arith;
+          earliest = λ q m i. first-in-order (chains-ordered k b s h) F q m (omega arith);
+        }, e)

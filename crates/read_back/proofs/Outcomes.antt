@@ -1,0 +1,109 @@
+-- The ways that reading back ends, each from the tests that lead there: what the code leaves is what the definition says. The words found are the
+-- section's words, and of words whose numbers fit, the bytes put into the buffer are those of the table file.
+use mathlib.Core.Path.{_≡_, refl, sym, ap, ap₂, subst, _∙_}
+use mathlib.Core.Bool.{Bool, true, false, not, cond}
+use mathlib.Core.List.{List, [], _∷_, _++_, map, flatMap}
+use Prim.Native.Nat.{ℕ, zero, suc, _+_, _*_, _%_, _/_, _≤_, _<_}
+use native.Mathlib.Omega.{arith}
+use native.Mathlib.Nat.{mod-eq-of-lt}
+use lib.ListN.{length, getD, take, drop}
+use borrow.Author.Tests.{lt-ltb, le-ltb, not-true, not-false}
+use Rattle.trellis.specs.Lists.{_∈_}
+use Rattle.trellis.specs.Word.{Word, word}
+use Rattle.trellis.specs.Outcome.{success, badSection, shortBuffer, tooManyWords}
+use Rattle.trellis.specs.Layout.{qOf, nOf, statesOf, vertexCountOf, goalsPlace, goalState, sectionWords}
+use Rattle.section_file.specs.Sound.{Sound}
+use Rattle.section_file.proofs.Usable.{usable-sound}
+use Rattle.read_back.specs.TableBytes.{bytesOf, pairBytes, labelBytes, tableBytes}
+use Rattle.read_back.specs.ReadingBack.{ReadingBack, leaves, isSection, readingBack}
+use Rattle.read_back.specs.Levels.{Begun, finished, level, coded, rootOf, vertexOf, labelOf}
+use Rattle.read_back.specs.Growing.{PlacesOf, Gathered, byteOf, pairOfCode, labelOfCode, fileOfCodes}
+use Rattle.read_back.proofs.Lists.{flatMap-same, flatMap-map}
+use Rattle.read_back.proofs.Levels.{words-are, words-count, Fit, level-fits, fit-vertex, fit-label, root-coded, vertex-coded, label-coded}
+use Rattle.read_back.proofs.Sections.{section-sound}
+
+-- ---- the bytes of words that fit
+
+module _ {s : List ℕ} (g : Sound s) where
+  fits : (b : Begun) → b ∈ level s (nOf s) → Fit s (nOf s) b
+  fits b m = level-fits g (nOf s) (omega arith) b m
+
+  pair-of : (goals : ℕ) → goals ≡ goalsPlace s → (b : Begun) → b ∈ level s (nOf s) → pairOfCode s goals (coded b) ≡ pairBytes (finished (goalState s) b)
+  unfolding goalState
+  pair-of goals e b m =
+      let F = fits b m in
+      let v = fit-vertex g (nOf s) (omega arith) F in
+      let x = fit-label g (nOf s) (omega arith) F in
+      let r : rootOf (coded b) ≡ b .root = root-coded b v x in
+      let k : getD s (goals + vertexOf (coded b)) 0 ≡ goalState s (b .vertex) = ap₂ (λ a w. getD s (a + w) 0) e (vertex-coded b v x) in
+      let small : goalState s (b .vertex) < 256 = omega (arith, g .goalsBelow (b .vertex) (F .vertexBelow), g .statesTo) in
+      ap₂ (λ a d. a ∷ d ∷ []) (ap byteOf r ∙ mod-eq-of-lt (omega (arith, F .rootSmall))) (ap byteOf k ∙ mod-eq-of-lt small)
+
+  label-of : (b : Begun) → b ∈ level s (nOf s) → labelOfCode (coded b) ≡ labelBytes (finished (goalState s) b)
+  label-of b m =
+      let F = fits b m in
+      ap bytesOf (label-coded b (fit-vertex g (nOf s) (omega arith) F) (fit-label g (nOf s) (omega arith) F))
+
+  pub file-is : {goals n count : ℕ} {codes : List ℕ} → goals ≡ goalsPlace s → n ≡ nOf s → Gathered s n codes count → count ≤ 1024
+      → fileOfCodes s goals codes count ≡ tableBytes (qOf s) (nOf s) (statesOf s) (sectionWords s)
+  unfolding fileOfCodes tableBytes
+  file-is {goals} {n} {count} {codes} e n-is G h =
+      let words = level s (nOf s) in
+      let full : take count codes ≡ map coded (level s (nOf s)) = G .filled h ∙ ap (λ k. map coded (level s k)) n-is in
+      let size : count ≡ length (sectionWords s) = G .count-is h ∙ ap (λ k. length (level s k)) n-is ∙ sym (words-count s) in
+      let pairs : flatMap (pairOfCode s goals) (take count codes) ≡ flatMap pairBytes (sectionWords s) =
+      ap (flatMap (pairOfCode s goals)) full ∙ flatMap-map (pairOfCode s goals) coded (level s (nOf s)) ∙ flatMap-same _ _ (level s (nOf s)) (pair-of goals e)
+      ∙ sym (flatMap-map pairBytes (finished (goalState s)) (level s (nOf s))) ∙ sym (ap (flatMap pairBytes) (words-are s)) in
+      let labels : flatMap labelOfCode (take count codes) ≡ flatMap labelBytes (sectionWords s) =
+      ap (flatMap labelOfCode) full ∙ flatMap-map labelOfCode coded (level s (nOf s)) ∙ flatMap-same _ _ (level s (nOf s)) label-of
+      ∙ sym (flatMap-map labelBytes (finished (goalState s)) (level s (nOf s))) ∙ sym (ap (flatMap labelBytes) (words-are s)) in
+      let a : byteOf (getD s 0 0) ≡ getD s 0 0 = mod-eq-of-lt (omega (arith, g .qTo)) in
+      let b : byteOf (getD s 1 0) ≡ getD s 1 0 = mod-eq-of-lt (omega (arith, g .nTo)) in
+      let c : byteOf (getD s 2 0) ≡ getD s 2 0 = mod-eq-of-lt (omega (arith, g .statesTo)) in
+      rw (a, b, c, pairs, labels, size)
+
+-- ---- the ways out
+
+module _ (s f : List ℕ) {b : Bool} (b-is : b ≡ isSection s) where
+  pub ends-unusable : not b ≡ true → leaves (badSection 0) f ≡ readingBack s f
+  unfolding readingBack
+  ends-unusable t = let e = sym b-is ∙ not-true b t in rw e
+
+  module _ (t : not b ≡ false) {n count : ℕ} {codes : List ℕ} (n-is : n ≡ nOf s) (G : Gathered s n codes count) where
+    section-yes : isSection s ≡ true
+    section-yes = sym b-is ∙ not-false b t
+
+    pub sound : Sound s
+    sound = usable-sound s (section-sound s b-is t .0)
+
+    same-count : length (level s n) ≡ length (sectionWords s)
+    same-count = ap (λ k. length (level s k)) n-is ∙ sym (words-count s)
+
+    pub ends-many : 1024 < count → leaves tooManyWords f ≡ readingBack s f
+    unfolding readingBack
+    ends-many h =
+        let e = section-yes in
+        let d = lt-ltb 1024 (length (sectionWords s)) (omega (arith, G .over h, same-count)) in
+        rw (e, d)
+
+    module _ (h : count ≤ 1024) where
+      count-words : count ≡ length (sectionWords s)
+      count-words = G .count-is h ∙ same-count
+
+      pub ends-short : length f < 5 + 4 * count → leaves (shortBuffer (5 + 4 * count)) f ≡ readingBack s f
+      unfolding readingBack
+      ends-short k =
+          let e = section-yes in
+          let d = le-ltb 1024 (length (sectionWords s)) (omega (arith, count-words)) in
+          let m = lt-ltb (length f) (5 + 4 * length (sectionWords s)) (omega (arith, count-words)) in
+          rw (e, d, m, count-words)
+
+      pub ends-file : {goals pairs symbols : ℕ} {new : List ℕ} → 5 + 4 * count ≤ length f → PlacesOf s goals pairs symbols
+          → new ≡ fileOfCodes s goals codes count ++ drop (5 + 4 * count) f → leaves (success (5 + 4 * count)) new ≡ readingBack s f
+      unfolding readingBack
+      ends-file k p q =
+          let e = section-yes in
+          let d = le-ltb 1024 (length (sectionWords s)) (omega (arith, count-words)) in
+          let m = le-ltb (length f) (5 + 4 * length (sectionWords s)) (omega (arith, count-words)) in
+          let z = file-is sound (p .goalsIs) n-is G h in
+          rw (e, d, m, q, z, count-words)

@@ -1,0 +1,105 @@
+-- The table file put into the buffer piece by piece: two bytes for each number of an array, one behind another, are the bytes of the whole list; and
+-- the pieces of a file, one behind another, are the file. Of words that fit, the bytes are those that document 01 asks for.
+use mathlib.Core.Path.{_≡_, refl, sym, ap, ap₂, subst, _∙_}
+use mathlib.Core.List.{List, [], _∷_, _++_, append-nil, append-assoc, map, flatMap}
+use Prim.Native.Nat.{ℕ, zero, suc, _+_, _*_, _/_, _%_, _^_, _≤_, _<_}
+use native.Mathlib.Omega.{arith}
+use native.Mathlib.Nat.{mod-eq-of-lt}
+use native.Mathlib.Numerals.{add-one}
+use lib.ListN.{length, getD, set, take, drop, length-append, length-set, length-take}
+use lib.Seq.{sets, take-suc, length-take-le}
+use Rattle.trellis.specs.Lists.{_∈_}
+use Rattle.trellis.specs.Word.{Word, word}
+use Rattle.trellis.specs.Write.{Wrote}
+use Rattle.trellis.proofs.Lists.{flatMap-append}
+use Rattle.trellis.proofs.Write.{wrote-none, wrote-then, wrote-front, wrote-length}
+use Rattle.read_back.specs.TableBytes.{bytesOf}
+use Rattle.read_back.specs.Levels.{rootOf, vertexOf, labelOf}
+use Rattle.read_back.specs.Growing.{byteOf, pairOfCode, labelOfCode, fileOfCodes}
+
+-- ---- two bytes for each number
+
+pub record Pieces (f : ℕ → List ℕ) (old : List ℕ) (start : ℕ) (codes : List ℕ) (count : ℕ) (new : List ℕ) (at i : ℕ) : Type 0 where
+  pub inside : i ≤ count
+  pub so-far : Wrote old start (flatMap f (take i codes)) new at
+  pub len : length new ≡ length old
+  pub at-is : at ≡ start + 2 * i
+
+module _ {f : ℕ → List ℕ} {old : List ℕ} {start : ℕ} {codes : List ℕ} {count : ℕ} where
+  pub pieces-start : Pieces f old start codes count old start 0
+  unfolding flatMap
+  pieces-start = record { inside = omega arith; so-far = wrote-none; len = refl; at-is = omega arith }
+
+  pub pieces-next : {new : List ℕ} {at i a b : ℕ} → Pieces f old start codes count new at i → i < count → count ≤ length codes → f (getD codes i 0) ≡ a ∷ b ∷ []
+      → Pieces f old start codes count (set (set new at a) (at + 1) b) (at + 2) (i + 1)
+  unfolding flatMap
+  pieces-next {new} {at} {i} {a} {b} p h l e = record {
+    inside = omega arith;
+    so-far =
+        let t : take (i + 1) codes ≡ take i codes ++ (getD codes i 0 ∷ []) = rw (add-one i) (take-suc codes i 0 (omega arith)) in
+        let q : flatMap f (take (i + 1) codes) ≡ flatMap f (take i codes) ++ (a ∷ b ∷ []) =
+        ap (flatMap f) t ∙ flatMap-append f (take i codes) (getD codes i 0 ∷ []) ∙ ap (λ ys. flatMap f (take i codes) ++ ys) (append-nil (f (getD codes i 0)) ∙ e) in
+        let w : Wrote new at (a ∷ b ∷ []) (set (set new at a) (at + 1) b) (at + 2) = record { new-is = rw (add-one at); end-is = refl } in
+        rw q (wrote-then (p .so-far) w);
+    len = length-set (set new at a) (at + 1) b ∙ length-set new at a ∙ p .len;
+    at-is = omega (arith, p .at-is);
+  }
+
+  pub pieces-all : {new : List ℕ} {at i : ℕ} → Pieces f old start codes count new at i → count ≤ i → Wrote old start (flatMap f (take count codes)) new at
+  pieces-all {new} {at} {i} p h = let e : i ≡ count = omega (arith, p .inside) in subst (λ k. Wrote old start (flatMap f (take k codes)) new at) e (p .so-far)
+
+pub pair-is : (s : List ℕ) (goals c : ℕ) {r a v x w b : ℕ} → r ≡ rootOf c → a ≡ byteOf r → v ≡ vertexOf c → x ≡ getD s (goals + v) 0 → (w ≡ x) × (w < 65536) → b ≡ byteOf w
+    → pairOfCode s goals c ≡ a ∷ b ∷ []
+pair-is s goals c p q r t u d = sym (ap₂ (λ a b. a ∷ b ∷ []) (q ∙ ap byteOf p) (d ∙ ap byteOf (u .0 ∙ t ∙ ap (λ v. getD s (goals + v) 0) r)))
+
+pub label-is : (c : ℕ) {x w a b : ℕ} → x ≡ labelOf c → (w ≡ x) × (w < 65536) → a ≡ byteOf w → b ≡ byteOf (w / 256) → labelOfCode c ≡ a ∷ b ∷ []
+label-is c {x} {w} p u q d =
+    let e : w ≡ labelOf c = u .0 ∙ p in
+    let small : byteOf (w / 256) ≡ w / 256 = mod-eq-of-lt (omega (arith, u .1)) in
+    sym (ap₂ (λ a b. a ∷ b ∷ []) (q ∙ ap byteOf e) (d ∙ small ∙ ap (λ y. y / 256) e))
+
+pub sizes-put : (l : List ℕ) (s : List ℕ) (count : ℕ) {x y z u v w a b d e f : ℕ} → x ≡ getD s 0 0 → (u ≡ x) × (u < 65536) → a ≡ byteOf u → y ≡ getD s 1 0 → (v ≡ y) × (v < 65536) → b ≡ byteOf v
+    → z ≡ getD s 2 0 → (w ≡ z) × (w < 65536) → d ≡ byteOf w → e ≡ byteOf count → f ≡ byteOf (count / 256)
+    → Wrote l 0 (byteOf (getD s 0 0) ∷ byteOf (getD s 1 0) ∷ byteOf (getD s 2 0) ∷ byteOf count ∷ byteOf (count / 256) ∷ []) (set (set (set (set (set l 0 a) 1 b) 2 d) 3 e) 4 f) 5
+sizes-put l s count p1 p2 p3 q1 q2 q3 r1 r2 r3 t1 t2 = record {
+  new-is = rw (p3 ∙ ap byteOf (p2 .0 ∙ p1), q3 ∙ ap byteOf (q2 .0 ∙ q1), r3 ∙ ap byteOf (r2 .0 ∙ r1), t1, t2);
+  end-is = refl;
+}
+
+-- ---- the whole file
+
+length-two : (f : ℕ → List ℕ) (codes : List ℕ) → ((c : ℕ) → length (f c) ≡ 2) → length (flatMap f codes) ≡ 2 * length codes
+unfolding flatMap
+length-two f [] h = refl
+length-two f (c ∷ codes) h = length-append (f c) (flatMap f codes) ∙ omega (arith, h c, length-two f codes h)
+
+module _ (s : List ℕ) (goals : ℕ) (codes : List ℕ) (count : ℕ) (room : count ≤ length codes) where
+  pairs-length : length (flatMap (pairOfCode s goals) (take count codes)) ≡ 2 * count
+  pairs-length = length-two (pairOfCode s goals) (take count codes) (λ c. refl) ∙ ap (λ k. 2 * k) (length-take-le count codes room)
+
+  labels-length : length (flatMap labelOfCode (take count codes)) ≡ 2 * count
+  labels-length = length-two labelOfCode (take count codes) (λ c. refl) ∙ ap (λ k. 2 * k) (length-take-le count codes room)
+
+  pub file-length : length (fileOfCodes s goals codes count) ≡ 5 + 4 * count
+  unfolding fileOfCodes
+  file-length =
+      let e = length-append (flatMap (pairOfCode s goals) (take count codes)) (flatMap labelOfCode (take count codes)) in
+      omega (arith, pairs-length, labels-length)
+
+  pub pairs-end : {a b : List ℕ} {e : ℕ} → Wrote a 5 (flatMap (pairOfCode s goals) (take count codes)) b e → e ≡ 5 + 2 * count
+  pairs-end w = w .end-is ∙ ap (λ k. 5 + k) pairs-length
+
+  -- there is room for the labels behind the pairs
+  pub labels-room : {a b c us : List ℕ} {m : ℕ} → 5 + 4 * count ≤ length a → Wrote a 0 us b 5 → Wrote b 5 (flatMap (pairOfCode s goals) (take count codes)) c m → m + 2 * count ≤ length c
+  labels-room h p q = omega (arith, pairs-end q, wrote-length p, wrote-length q)
+
+  pub file-put : {a b c d : List ℕ} {m e : ℕ} → 5 + 4 * count ≤ length a → count ≤ 1024
+      → Wrote a 0 (byteOf (getD s 0 0) ∷ byteOf (getD s 1 0) ∷ byteOf (getD s 2 0) ∷ byteOf count ∷ byteOf (count / 256) ∷ []) b 5
+      → Wrote b 5 (flatMap (pairOfCode s goals) (take count codes)) c m → Wrote c m (flatMap labelOfCode (take count codes)) d e
+      → d ≡ fileOfCodes s goals codes count ++ drop (5 + 4 * count) a
+  unfolding fileOfCodes
+  file-put {a} {b} {c} {d} {m} {e} h k p q r =
+      let small : byteOf (count / 256) ≡ count / 256 = mod-eq-of-lt (omega arith) in
+      let w : Wrote a 0 (fileOfCodes s goals codes count) d e = subst (λ x. Wrote a 0 (byteOf (getD s 0 0) ∷ byteOf (getD s 1 0) ∷ byteOf (getD s 2 0) ∷ byteOf count ∷ x ∷ (flatMap (pairOfCode s goals) (take count codes) ++ flatMap labelOfCode (take count codes))) d e) small (wrote-then p (wrote-then q r)) in
+      let f : length (fileOfCodes s goals codes count) ≡ 5 + 4 * count = file-length in
+      wrote-front w (omega arith) ∙ ap (λ n. fileOfCodes s goals codes count ++ drop n a) f

@@ -1,0 +1,299 @@
+// Reading a section back into the table file of its words, for any numbers and any buffer, by document 01's checks 8, 12 and 10.
+// Words are found depth by depth: each beginning goes on along every edge that leaves its vertex, and since no path of a usable section breaks off,
+// more than 1,024 beginnings at any depth are more than 1,024 words.
+ghost use mathlib.Core.Path.{_≡_};
+ghost use mathlib.Core.List.{[], _∷_, _++_, flatMap};
+ghost use Prim.Native.Nat.{_+_, _*_, _/_, _%_, _<_, _≤_};
+ghost use lib.ListN.{length, getD, take, drop};
+ghost use Rattle.trellis.specs.Lists.{run};
+ghost use Rattle.trellis.specs.Write.{Wrote};
+ghost use Rattle.trellis.specs.Own.{edge};
+ghost use Rattle.trellis.specs.Layout.{nOf, pairsPlace, symbolsPlace, sectionLength};
+ghost use Rattle.section_file.specs.Answer.{edgeAt};
+ghost use Rattle.section_file.specs.Sound.{Sound};
+ghost use Rattle.read_back.specs.TableBytes.{bytesOf};
+ghost use Rattle.read_back.specs.ReadingBack.{readBackOutcome, leaves, isSection, readingBack};
+ghost use Rattle.read_back.specs.Levels.{code, rootOf, vertexOf, labelOf, furtherCode, grownCodes};
+ghost use Rattle.read_back.specs.Growing.{Made, StepIn, BeginsAt, Starts, PlacesOf, Gathered, FirstLevel, RootCodes, byteOf, pairOfCode, labelOfCode, fileOfCodes};
+use label::append;
+use section_file::Part;
+use section_file::usable_at;
+
+pub enum ReadBack {
+    File(usize),
+    Unusable,
+    TooMany,
+    Short(usize),
+}
+
+struct Places {
+    goals: usize,
+    pairs: usize,
+    symbols: usize,
+}
+
+fn wide(x: u16) -> usize
+    ensures { λ r. ⌜ (r ≡ x) × (r < 65536) ⌝ }
+{
+    x as usize
+}
+
+fn wider(x: u16) -> u32
+    ensures { λ r. ⌜ (r ≡ x) × (r < 65536) ⌝ }
+{
+    x as u32
+}
+
+// A number past the end reads as 0.
+fn number(s: &[u16], i: usize) -> u16
+    ensures { λ r. ⌜ r ≡ getD (now (s .entry)) i 0 ⌝ }
+{
+    if i < s.len() { s[i] } else { 0 }
+}
+
+fn byte(x: usize) -> u8
+    ensures { λ r. ⌜ r ≡ byteOf x ⌝ }
+{
+    (x % 256) as u8
+}
+
+fn root_of(c: u32) -> usize
+    ensures { λ r. ⌜ r ≡ rootOf c ⌝ }
+{
+    (c / 67108864) as usize
+}
+
+fn vertex_of(c: u32) -> usize
+    ensures { λ r. ⌜ r ≡ vertexOf c ⌝ }
+{
+    (c / 65536 % 1024) as usize
+}
+
+fn label_of(c: u32) -> u16
+    ensures { λ r. ⌜ r ≡ labelOf c ⌝ }
+{
+    (c % 65536) as u16
+}
+
+// A beginning one symbol longer, at another vertex.
+fn further(c: u32, symbol: u16, vertex: u16) -> u32
+    requires { ⌜ vertex < 1024 ⌝ }
+    ensures { λ r. ⌜ r ≡ furtherCode c (edge 0 symbol vertex) ⌝ }
+{
+    (c / 67108864 * 1024 + wider(vertex)) * 65536 + wider(append(label_of(c), symbol))
+}
+
+// Where the edges of each vertex begin. Going down, the last note of a vertex is its first edge.
+fn starts_of(s: &[u16], pairs: usize, symbols: usize, count: usize) -> [u16; 1024]
+    requires { ⌜ StepIn (now s) pairs symbols count ⌝ }
+    ensures { λ r. ⌜ Starts (edgeAt (now (s .entry)) pairs symbols) count r ⌝ }
+{
+    let mut starts = [count as u16; 1024];
+    let mut k = count;
+    while k > 0 {
+        k -= 1;
+        let v = wide(number(s, pairs + 2 * k));
+        starts[v] = k as u16;
+    }
+    starts
+}
+
+// Puts the beginning c, one step further along each edge that leaves its vertex, behind the first `made` numbers.
+fn grow_one(
+    s: &[u16],
+    pairs: usize,
+    symbols: usize,
+    count: usize,
+    start: usize,
+    c: u32,
+    made: usize,
+    codes: &mut [u32; 1024],
+) -> usize
+    requires { ⌜ StepIn (now s) pairs symbols count × BeginsAt (edgeAt (now s) pairs symbols) count (vertexOf c) start × (made ≤ 1024) × (length (now codes) ≡ 1024) ⌝ }
+    ensures { λ r. ⌜ Made (grownCodes (run (edgeAt (now (s .entry)) pairs symbols) 0 count) c) (now (codes .entry)) made (now (codes .exit)) r ⌝ }
+{
+    let vertex = vertex_of(c);
+    let mut filled = made;
+    let mut k = start;
+    while k < count {
+        if wide(number(s, pairs + 2 * k)) != vertex {
+            return filled;
+        }
+        if filled >= 1024 {
+            return 1025;
+        }
+        codes[filled] = further(c, number(s, symbols + k), number(s, pairs + 1 + 2 * k));
+        filled += 1;
+        k += 1;
+    }
+    filled
+}
+
+// Puts the first `have` beginnings of `old` one step further.
+fn grow(
+    s: &[u16],
+    pairs: usize,
+    symbols: usize,
+    count: usize,
+    old: &[u32; 1024],
+    have: usize,
+    codes: &mut [u32; 1024],
+) -> usize
+    requires { ⌜ StepIn (now s) pairs symbols count × (have ≤ 1024) × (length (now old) ≡ 1024) × (length (now codes) ≡ 1024) ⌝ }
+    ensures { λ r. ⌜ Made (flatMap (grownCodes (run (edgeAt (now (s .entry)) pairs symbols) 0 count)) (take have (now (old .entry)))) (now (codes .entry)) 0 (now (codes .exit)) r ⌝ }
+{
+    let starts = starts_of(s, pairs, symbols, count);
+    let mut made: usize = 0;
+    let mut i: usize = 0;
+    while i < have {
+        let c = old[i];
+        let start = wide(starts[vertex_of(c)]);
+        made = grow_one(s, pairs, symbols, count, start, c, made, codes);
+        if made > 1024 {
+            return made;
+        }
+        i += 1;
+    }
+    made
+}
+
+// The vertices of depth 0, each with its root.
+fn first_level(s: &[u16], roots: usize, count: usize, codes: &mut [u32; 1024])
+    requires { ⌜ FirstLevel (now s) roots count × (length (now codes) ≡ 1024) ⌝ }
+    ensures { λ _. ⌜ RootCodes (now (s .entry)) roots count (now (codes .exit)) ⌝ }
+{
+    let mut v: usize = 0;
+    while v < count {
+        codes[v] = (wider(number(s, roots + v)) * 1024 + (v as u32)) * 65536;
+        v += 1;
+    }
+}
+
+// The section fills the slice, so behind the place of the pairs stand three numbers an edge.
+fn places_of(s: &[u16], n: usize) -> Places
+    requires { ⌜ Sound (now s) × (sectionLength (now s) ≡ length (now s)) × (n ≡ nOf (now s)) ⌝ }
+    ensures { λ r. ⌜ PlacesOf (now (s .entry)) (r .goals) (r .pairs) (r .symbols) ⌝ }
+{
+    let goals = 4 + 2 * n + wide(number(s, 3));
+    let pairs = goals + wide(number(s, 3 + n));
+    let symbols = pairs + 2 * ((s.len() - pairs) / 3);
+    Places {
+        goals,
+        pairs,
+        symbols,
+    }
+}
+
+// Finds the section's words, depth by depth.
+fn gather(s: &[u16], n: usize, pairs: usize, symbols: usize, codes: &mut [u32; 1024]) -> usize
+    requires { ⌜ Sound (now s) × (n ≡ nOf (now s)) × (pairs ≡ pairsPlace (now s)) × (symbols ≡ symbolsPlace (now s)) × (pairs ≤ 10000) × (symbols ≤ 50000) × (length (now codes) ≡ 1024) ⌝ }
+    ensures { λ r. ⌜ Gathered (now (s .entry)) n (now (codes .exit)) r ⌝ }
+{
+    let mut have = wide(number(s, 3));
+    first_level(s, 4 + 2 * n, have, codes);
+    let mut before: usize = 0;
+    let mut t: usize = 0;
+    while t < n {
+        let old = *codes;
+        let count = wide(number(s, 4 + n + t));
+        have = grow(
+            s,
+            pairs + 2 * before,
+            symbols + before,
+            count,
+            &old,
+            have,
+            codes,
+        );
+        if have > 1024 {
+            return have;
+        }
+        before += count;
+        t += 1;
+    }
+    have
+}
+
+fn put_sizes(s: &[u16], count: usize, file: &mut [u8])
+    requires { ⌜ 5 ≤ length (now file) ⌝ }
+    ensures { λ _. ⌜ Wrote (now (file .entry)) 0 (byteOf (getD (now (s .entry)) 0 0) ∷ byteOf (getD (now (s .entry)) 1 0) ∷ byteOf (getD (now (s .entry)) 2 0) ∷ byteOf count ∷ byteOf (count / 256) ∷ []) (now (file .exit)) 5 ⌝ }
+{
+    file[0] = byte(wide(number(s, 0)));
+    file[1] = byte(wide(number(s, 1)));
+    file[2] = byte(wide(number(s, 2)));
+    file[3] = byte(count);
+    file[4] = byte(count / 256);
+}
+
+fn put_pairs(s: &[u16], goals: usize, codes: &[u32; 1024], count: usize, file: &mut [u8]) -> usize
+    requires { ⌜ (goals ≤ 10000) × (count ≤ 1024) × (5 + 2 * count ≤ length (now file)) × (length (now codes) ≡ 1024) ⌝ }
+    ensures { λ r. ⌜ Wrote (now (file .entry)) 5 (flatMap (pairOfCode (now (s .entry)) goals) (take count (now (codes .entry)))) (now (file .exit)) r ⌝ }
+{
+    let mut at: usize = 5;
+    let mut i: usize = 0;
+    while i < count {
+        let c = codes[i];
+        file[at] = byte(root_of(c));
+        file[at + 1] = byte(wide(number(s, goals + vertex_of(c))));
+        at += 2;
+        i += 1;
+    }
+    at
+}
+
+fn put_labels(codes: &[u32; 1024], count: usize, start: usize, file: &mut [u8]) -> usize
+    requires { ⌜ (start ≤ 10000) × (count ≤ 1024) × (start + 2 * count ≤ length (now file)) × (length (now codes) ≡ 1024) ⌝ }
+    ensures { λ r. ⌜ Wrote (now (file .entry)) start (flatMap labelOfCode (take count (now (codes .entry)))) (now (file .exit)) r ⌝ }
+{
+    let mut at = start;
+    let mut i: usize = 0;
+    while i < count {
+        let label = wide(label_of(codes[i]));
+        file[at] = byte(label);
+        file[at + 1] = byte(label / 256);
+        at += 2;
+        i += 1;
+    }
+    at
+}
+
+fn put_file(s: &[u16], goals: usize, codes: &[u32; 1024], count: usize, file: &mut [u8])
+    requires { ⌜ (goals ≤ 10000) × (count ≤ 1024) × (5 + 4 * count ≤ length (now file)) × (length (now codes) ≡ 1024) ⌝ }
+    ensures { λ _. ⌜ now (file .exit) ≡ fileOfCodes (now (s .entry)) goals (now (codes .entry)) count ++ drop (5 + 4 * count) (now (file .entry)) ⌝ }
+{
+    put_sizes(s, count, file);
+    let at = put_pairs(s, goals, codes, count, file);
+    put_labels(codes, count, at, file);
+}
+
+// Usable, with no numbers left over.
+fn is_section(s: &[u16]) -> bool
+    ensures { λ r. ⌜ r ≡ isSection (now (s .entry)) ⌝ }
+{
+    let part = usable_at(s, 0);
+    match part {
+        Part::Usable(length) => length == s.len(),
+        Part::Unusable => false,
+    }
+}
+
+pub fn read_back(section: &[u16], file: &mut [u8]) -> ReadBack
+    ensures { λ r. ⌜ leaves (readBackOutcome r) (now (file .exit)) ≡ readingBack (now (section .entry)) (now (file .entry)) ⌝ }
+{
+    if !is_section(section) {
+        return ReadBack::Unusable;
+    }
+    let n = wide(number(section, 1));
+    let at = places_of(section, n);
+    let mut codes = [0u32; 1024];
+    let count = gather(section, n, at.pairs, at.symbols, &mut codes);
+    if count > 1024 {
+        return ReadBack::TooMany;
+    }
+    let needed = 5 + 4 * count;
+    if file.len() < needed {
+        return ReadBack::Short(needed);
+    }
+    put_file(section, at.goals, &codes, count, file);
+    ReadBack::File(needed)
+}

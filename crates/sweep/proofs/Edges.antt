@@ -1,0 +1,150 @@
+-- Edges by their numbers: those of a step lie between what the steps before it have and what it has with them, and each is read from its places.
+use mathlib.Core.Path.{_≡_, refl, sym, ap, ap₂, subst, _∙_}
+use mathlib.Core.List.{List, [], _∷_}
+use Prim.Native.Nat.{ℕ, zero, suc, _+_, _-_, _*_, _≤_, _<_}
+use native.Mathlib.Nat.{add-zero, add-suc, suc-add, zero-add, le-refl}
+use native.Mathlib.Numerals.{add-one}
+use native.Mathlib.Omega.{arith}
+use lib.ListN.{length, getD}
+use Rattle.trellis.specs.Lists.{_∈_, run, sum}
+use Rattle.trellis.specs.Own.{Edge}
+use Rattle.trellis.specs.Section.{leaving}
+use Rattle.trellis.proofs.Lists.{of-run}
+use Rattle.paths.proofs.Sections.{from-of, listed-of}
+use Rattle.trellis.specs.Layout.{nOf, vertexCountOf, edgeCountOf, edgesBefore, allEdges, rootsPlace, goalsPlace, pairsPlace, symbolsPlace, edgeNumber, stepEdges}
+use Rattle.sweep.specs.Rows.{Fits, Placed}
+use Rattle.sweep.specs.Loops.{between, InStep, Reads, EdgeAt, InTotal}
+
+sum-last : (f : ℕ → ℕ) (at k : ℕ) → sum f at (suc k) ≡ sum f at k + f (at + k)
+unfolding sum
+sum-last f at zero = let e : f (at + 0) ≡ f at = ap f (add-zero at) in omega arith
+sum-last f at (suc k) = let h = sum-last f (suc at) k in let e : f (suc at + k) ≡ f (at + suc k) = ap f (suc-add at k ∙ sym (add-suc at k)) in omega arith
+
+module _ (l : List ℕ) where
+  pub before-none : edgesBefore l 0 ≡ 0
+  unfolding edgesBefore sum
+  before-none = refl
+
+  pub before-more : (t : ℕ) → edgesBefore l (suc t) ≡ edgesBefore l t + edgeCountOf l t
+  unfolding edgesBefore
+  before-more t = sum-last (edgeCountOf l) 0 t ∙ ap (λ k. sum (edgeCountOf l) 0 t + edgeCountOf l k) (zero-add t)
+
+  before-later : (t k : ℕ) → edgesBefore l t ≤ edgesBefore l (t + k)
+  before-later t zero = rw (add-zero t) (le-refl (edgesBefore l t))
+  before-later t (suc k) = let h = before-later t k in let e = before-more (t + k) in rw (add-suc t k) (omega arith)
+
+  pub before-le : (t u : ℕ) → t ≤ u → edgesBefore l t ≤ edgesBefore l u
+  before-le t u h = let e : t + (u - t) ≡ u = omega arith in rw e at (before-later t (u - t))
+
+  -- the edges of a step
+  pub edges-are : (t : ℕ) {lo hi : ℕ} → lo ≡ edgesBefore l t → hi ≡ edgesBefore l (suc t) → between l lo hi ≡ stepEdges l t
+  unfolding stepEdges
+  edges-are t {lo} {hi} p q =
+      let m = before-more t in
+      let e : hi - lo ≡ edgeCountOf l t = omega arith in
+      ap₂ (run (edgeNumber l)) p e
+
+-- ---- how many there are
+
+pub total-start : (l : List ℕ) (n : ℕ) → InTotal l n 0 0
+total-start l n = record { t-le = omega arith; so-far = sym (before-none l); few = omega arith }
+
+pub total-more : {l : List ℕ} {n t sum x : ℕ} → Fits l → n ≡ nOf l → InTotal l n t sum → t < n → x ≡ getD l (4 + n + t) 0 → InTotal l n (t + 1) (sum + x)
+unfolding edgeCountOf
+total-more {l} {n} {t} {sum} {x} F e I h p =
+    let i : x ≡ edgeCountOf l t = p ∙ ap (λ k. getD l (4 + k + t) 0) e in
+    let m = before-more l t in
+    let b = F .edgesTo t (omega arith) in
+    let s = I .so-far in
+    let f = I .few in
+    record { t-le = omega arith; so-far = rw (add-one t) (omega arith); few = omega arith }
+
+pub total-end : {l : List ℕ} {n t sum : ℕ} → Fits l → n ≡ nOf l → InTotal l n t sum → n ≤ t → (sum ≡ allEdges l) × (sum ≤ 8192)
+total-end {l} {n} {t} F e I h =
+    let i : t ≡ nOf l = omega (arith, I .t-le) in
+    (I .so-far ∙ ap (edgesBefore l) i, omega (arith, I .few, F .nTo))
+
+-- ---- where the parts stand
+
+pub placed : {l : List ℕ} {n edges roots goals pairs symbols : ℕ} → Fits l → n ≡ nOf l → (edges ≡ allEdges l) × (edges ≤ 8192) → roots ≡ 4 + 2 * n
+    → goals ≡ roots + getD l 3 0 → pairs ≡ goals + getD l (3 + n) 0 → symbols ≡ pairs + 2 * edges → Placed l n roots goals pairs symbols edges
+unfolding rootsPlace goalsPlace pairsPlace symbolsPlace vertexCountOf
+placed {l} {n} F e t r g p s =
+    let i : getD l (3 + n) 0 ≡ getD l (3 + nOf l) 0 = ap (λ k. getD l (3 + k) 0) e in
+    let a = F .verticesTo 0 (omega arith) in
+    let b = F .verticesTo (nOf l) (omega arith) in
+    let u = t .0 in
+    let w = t .1 in
+    let x = F .nTo in
+    record { nIs = e; rootsIs = omega arith; goalsIs = omega arith; pairsIs = omega arith; symbolsIs = omega arith; edgesIs = u; near = omega arith }
+
+-- ---- one edge, read
+
+pub reads-at : {l : List ℕ} {n roots goals pairs symbols edges : ℕ} → Fits l → Placed l n roots goals pairs symbols edges → Reads l pairs symbols
+unfolding symbolsPlace
+reads-at F P =
+    let a = P .pairsIs in
+    let b = P .symbolsIs in
+    let c = P .edgesIs in
+    let d = P .near in
+    let e = F .pairsIn in
+    let f = F .symbolsIn in
+    record { fits = F; pairsIs = a; symbolsIs = b; near = omega arith; pairs-near = omega arith; pairs-in = omega arith; symbols-in = omega arith }
+
+pub step-in : {l : List ℕ} {t lo hi : ℕ} → t < nOf l → lo ≡ edgesBefore l t → hi ≡ edgesBefore l (suc t) → InStep l t lo hi
+step-in {l} {t} h p q =
+    let m = before-le l (suc t) (nOf l) h in
+    let k = before-le l t (suc t) (omega arith) in
+    record { inside = h; from = omega arith; lo-le = omega arith; hi-is = q; hi-le = omega arith }
+
+pub edge-at : {l : List ℕ} {pairs symbols i from symbol to : ℕ} → Reads l pairs symbols → i < allEdges l
+    → from ≡ getD l (pairs + 2 * i) 0 → symbol ≡ getD l (symbols + i) 0 → to ≡ getD l (pairs + 2 * i + 1) 0 → EdgeAt l i from symbol to
+unfolding edgeNumber
+edge-at {l} {i = i} R h p q r =
+    let a = p ∙ ap (λ x. getD l (x + 2 * i) 0) (R .pairsIs) in
+    let b = q ∙ ap (λ x. getD l (x + i) 0) (R .symbolsIs) in
+    let c = r ∙ ap (λ x. getD l (x + 2 * i + 1) 0) (R .pairsIs) in
+    let f = R .fits .fromSmall i h in
+    let g = R .fits .symbolSmall i h in
+    let o = R .fits .toSmall i h in
+    record { from-is = a; symbol-is = b; to-is = c; from-lt = omega arith; symbol-lt = omega arith; to-lt = omega arith }
+
+-- the edges from i on begin with edge i
+pub between-more : (l : List ℕ) {i hi : ℕ} → i < hi → between l i hi ≡ edgeNumber l i ∷ between l (i + 1) hi
+unfolding run
+between-more l {i} {hi} h = let e : hi - i ≡ suc (hi - (i + 1)) = omega arith in rw (e, add-one i)
+
+pub between-none : (l : List ℕ) {i hi : ℕ} → hi ≤ i → between l i hi ≡ []
+unfolding run
+between-none l {i} {hi} h = let e : hi - i ≡ 0 = omega arith in rw e
+
+-- what is known of an edge that leaves a vertex at step t
+pub record Known (l : List ℕ) (t v : ℕ) (e : Edge) : Type 0 where
+  pub from-is : e .from ≡ v
+  pub from-in : e .from < vertexCountOf l t
+  pub to-in : e .to < vertexCountOf l (suc t)
+  pub symbol-lt : e .symbol < 4
+
+pub known : {l : List ℕ} {t v : ℕ} → Fits l → t < nOf l → (e : Edge) → e ∈ leaving v (stepEdges l t) → Known l t v e
+unfolding stepEdges
+known {l} {t} {v} F h e m =
+    let w = of-run (edgeNumber l) (edgesBefore l t) (edgeCountOf l t) e (listed-of v (stepEdges l t) e m) in
+    let b = before-more l t in
+    let i = edgesBefore l t + w .at in
+    let k = w .below in
+    let a = before-le l (suc t) (nOf l) h in
+    let x = F .fromBelow t i h (omega arith) (omega arith) in
+    let y = F .toBelow t i h (omega arith) (omega arith) in
+    let z = F .symbolSmall i (omega arith) in
+    record {
+      from-is = from-of v (stepEdges l t) e m;
+      from-in = subst (λ f. f .from < vertexCountOf l t) (sym (w .is)) x;
+      to-in = subst (λ f. f .to < vertexCountOf l (suc t)) (sym (w .is)) y;
+      symbol-lt = subst (λ f. f .symbol < 4) (sym (w .is)) z;
+    }
+
+-- ---- counts as they are read
+
+pub vertices-to : {l : List ℕ} {t : ℕ} → Fits l → t ≤ nOf l → getD l (3 + t) 0 ≤ 1024
+unfolding vertexCountOf
+vertices-to {l} {t} F h = F .verticesTo t h

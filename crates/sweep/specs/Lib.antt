@@ -1,0 +1,3 @@
+-- One section's costs as the code keeps them, and what its loops keep.
+pub mod Rows
+pub mod Loops

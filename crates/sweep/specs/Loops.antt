@@ -1,0 +1,135 @@
+-- What the loops over a section keep, over raw lists and numbers.
+use mathlib.Core.Path.{_≡_}
+use mathlib.Core.List.{List}
+use mathlib.Core.Bool.{Bool, cond, _&&_}
+use mathlib.Core.Option.{Option, none as nothing, some as just}
+use Prim.Native.Nat.{ℕ, suc, _+_, _-_, _*_, _^_, _≤_, _<_, min}
+use lib.Dec.{eqb, ltb}
+use lib.ListN.{length, getD}
+use Rattle.trellis.specs.Lists.{run}
+use Rattle.trellis.specs.Own.{Edge}
+use Rattle.trellis.specs.Section.{leaving, packOnto}
+use Rattle.trellis.specs.Layout.{nOf, vertexCountOf, edgeCountOf, edgesBefore, allEdges, pairsPlace, symbolsPlace, edgeNumber, stepEdges}
+use Rattle.paths.specs.Costs.{plus, minAll, firstWith}
+use Rattle.paths.specs.Sections.{sectionLeast, sectionTrace}
+use Rattle.sweep.specs.Rows.{top, Fits, Priced, Rows}
+
+-- ---- edges
+
+-- the edges numbered lo to hi
+abbrev pub between : List ℕ → ℕ → ℕ → List Edge
+between l lo hi = run (edgeNumber l) lo (hi - lo)
+
+-- the edges lo to hi are those of step t, or its last ones
+pub record InStep (l : List ℕ) (t lo hi : ℕ) : Type 0 where
+  pub inside : t < nOf l
+  pub from : edgesBefore l t ≤ lo
+  pub lo-le : lo ≤ hi
+  pub hi-is : hi ≡ edgesBefore l (suc t)
+  pub hi-le : hi ≤ allEdges l
+
+-- where edges are read
+pub record Reads (l : List ℕ) (pairs symbols : ℕ) : Type 0 where
+  pub fits : Fits l
+  pub pairsIs : pairs ≡ pairsPlace l
+  pub symbolsIs : symbols ≡ symbolsPlace l
+  pub near : symbols + allEdges l ≤ 100000
+  pub pairs-near : pairs + 2 * allEdges l ≤ 100000
+  pub pairs-in : pairs + 2 * allEdges l ≤ length l
+  pub symbols-in : symbols + allEdges l ≤ length l
+
+-- edge i
+pub record EdgeAt (l : List ℕ) (i from symbol to : ℕ) : Type 0 where
+  pub from-is : from ≡ edgeNumber l i .from
+  pub symbol-is : symbol ≡ edgeNumber l i .symbol
+  pub to-is : to ≡ edgeNumber l i .to
+  pub from-lt : from < 1024
+  pub symbol-lt : symbol < 4
+  pub to-lt : to < 1024
+
+-- what an edge of step t gives, from the prices and the row of the next depth
+abbrev pub through : List ℕ → List ℕ → ℕ → Edge → ℕ
+through prices rows t e = plus top (getD prices (4 * t + e .symbol) 0) (getD rows (1024 * suc t + e .to) 0)
+
+-- ---- the loops
+
+-- `sum` edges are in the first t steps
+pub record InTotal (l : List ℕ) (n t sum : ℕ) : Type 0 where
+  pub t-le : t ≤ n
+  pub so-far : sum ≡ edgesBefore l t
+  pub few : sum ≤ 1024 * t
+
+-- row t has no path so far, at its first v vertices
+pub record InClear (t count : ℕ) (old rows : List ℕ) (v : ℕ) : Type 0 where
+  pub v-le : v ≤ count
+  pub long : length rows ≡ 9216
+  pub cleared : (u : ℕ) → u < v → getD rows (1024 * t + u) 0 ≡ top
+  pub kept : (j : ℕ) → 1024 * suc t ≤ j → getD rows j 0 ≡ getD old j 0
+
+-- row t has no path so far
+pub record Clear (l : List ℕ) (t : ℕ) (rows : List ℕ) : Type 0 where
+  pub long : length rows ≡ 9216
+  pub cleared : (v : ℕ) → v < vertexCountOf l t → getD rows (1024 * t + v) 0 ≡ top
+
+-- row t still has to be lowered by the edges from i on
+pub record InLower (l prices : List ℕ) (t lo hi : ℕ) (old rows : List ℕ) (i : ℕ) : Type 0 where
+  pub lo-le : lo ≤ i
+  pub i-le : i ≤ hi
+  pub long : length rows ≡ 9216
+  pub kept : (j : ℕ) → 1024 * suc t ≤ j → getD rows j 0 ≡ getD old j 0
+  pub small : (v : ℕ) → v < vertexCountOf l t → getD rows (1024 * t + v) 0 ≤ top
+  pub left : (v : ℕ) → v < vertexCountOf l t
+      → min (getD rows (1024 * t + v) 0) (minAll top (through prices old t) (leaving v (between l i hi)))
+      ≡ minAll top (through prices old t) (leaving v (between l lo hi))
+
+-- row t as it is left: each place has the least that the edges of its vertex give
+pub record Lowered (l prices : List ℕ) (t lo hi : ℕ) (old rows : List ℕ) : Type 0 where
+  pub long : length rows ≡ 9216
+  pub kept : (j : ℕ) → 1024 * suc t ≤ j → getD rows j 0 ≡ getD old j 0
+  pub at : (v : ℕ) → v < vertexCountOf l t → getD rows (1024 * t + v) 0 ≡ minAll top (through prices old t) (leaving v (between l lo hi))
+
+-- rows t to n are done, and their edges begin at hi
+pub record InSweep (l prices old rows : List ℕ) (n t hi : ℕ) : Type 0 where
+  pub t-le : t ≤ n
+  pub hi-is : hi ≡ edgesBefore l t
+  pub long : length rows ≡ 9216
+  pub done : (cost : ℕ → ℕ → ℕ) (number : ℕ → ℕ) → Priced l prices cost → Rows l cost number (nOf l) old → Rows l cost number t rows
+
+-- ---- forward
+
+-- whether an edge leaves v and gives the total
+unfoldable pub hitAt : ℕ → ℕ → ℕ → ℕ → Bool
+hitAt from v here total = eqb from v && eqb here total
+
+abbrev pub firstEdge : List ℕ → List ℕ → List ℕ → ℕ → ℕ → ℕ → ℕ → ℕ → Option Edge
+firstEdge l prices rows t lo hi v total = firstWith (λ e. eqb (through prices rows t e) total) (leaving v (between l lo hi))
+
+-- edge r leaves v, and no edge before it does; r is hi where none does
+pub record SkipTo (l : List ℕ) (lo hi v r : ℕ) : Type 0 where
+  pub lo-le : lo ≤ r
+  pub r-le : r ≤ hi
+  pub same : leaving v (between l lo hi) ≡ leaving v (between l r hi)
+
+-- edge r is the first that leaves v and gives the total; r is hi where none does
+pub record NextAt (l prices rows : List ℕ) (t lo hi v total r : ℕ) : Type 0 where
+  pub lo-le : lo ≤ r
+  pub r-le : r ≤ hi
+  pub found : firstEdge l prices rows t lo hi v total ≡ cond (ltb r hi) (just (edgeNumber l r)) nothing
+
+-- the first edge that leaves v and gives the total is one of those from i on
+pub record InNext (l prices rows : List ℕ) (t lo hi v total i : ℕ) : Type 0 where
+  pub lo-le : lo ≤ i
+  pub i-le : i ≤ hi
+  pub left : firstEdge l prices rows t lo hi v total ≡ firstEdge l prices rows t i hi v total
+
+-- t symbols are named, and vertex v is reached; the rest is what the rows name from there
+pub record InName (l prices rows : List ℕ) (root n t lo v label : ℕ) : Type 0 where
+  pub t-le : t ≤ n
+  pub lo-is : lo ≡ edgesBefore l t
+  pub inside : v < vertexCountOf l t
+  pub below : getD rows (1024 * t + v) 0 < top
+  pub short : label < 4 ^ t
+  pub labelTo : (cost : ℕ → ℕ → ℕ) (number : ℕ → ℕ) → Priced l prices cost → Rows l cost number 0 rows
+      → packOnto 0 (sectionTrace (stepEdges l) cost top number n 0 root .symbols) ≡ packOnto label (sectionTrace (stepEdges l) cost top number (n - t) t v .symbols)
+  pub endTo : (cost : ℕ → ℕ → ℕ) (number : ℕ → ℕ) → Priced l prices cost → Rows l cost number 0 rows
+      → sectionTrace (stepEdges l) cost top number n 0 root .end ≡ sectionTrace (stepEdges l) cost top number (n - t) t v .end

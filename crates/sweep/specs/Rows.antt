@@ -1,0 +1,71 @@
+-- The costs of one section as they lie in an array: a row of 1,024 numbers for each depth, at place v of row t the least cost from vertex v of depth t.
+-- `l` is a list of numbers with a section at its front. `cost` is what a symbol costs at a step, and `number` what it costs to end in a vertex of depth n.
+use mathlib.Core.Path.{_≡_}
+use mathlib.Core.List.{List}
+use Prim.Native.Nat.{ℕ, suc, _+_, _-_, _*_, _≤_, _<_}
+use lib.ListN.{length, getD}
+use Rattle.trellis.specs.Own.{Edge}
+use Rattle.trellis.specs.Section.{Path, packOnto}
+use Rattle.trellis.specs.Layout.{nOf, vertexCountOf, edgeCountOf, edgesBefore, allEdges, rootsPlace, goalsPlace, pairsPlace, symbolsPlace, edgeNumber, stepEdges}
+use Rattle.paths.specs.Sections.{sectionLeast, sectionTrace}
+
+-- no path
+abbrev pub top : ℕ
+top = 4294967295
+
+-- what the code needs to know of a section: its parts are there, and its edges lead from vertices to vertices of their depths by symbols
+pub record Fits (l : List ℕ) : Type 0 where
+  pub nTo : nOf l ≤ 8
+  pub verticesTo : (t : ℕ) → t ≤ nOf l → vertexCountOf l t ≤ 1024
+  pub edgesTo : (t : ℕ) → t < nOf l → edgeCountOf l t ≤ 1024
+  pub header : 4 + 2 * nOf l ≤ length l
+  pub rootsIn : rootsPlace l + vertexCountOf l 0 ≤ length l
+  pub goalsIn : goalsPlace l + vertexCountOf l (nOf l) ≤ length l
+  pub pairsIn : pairsPlace l + 2 * allEdges l ≤ length l
+  pub symbolsIn : symbolsPlace l + allEdges l ≤ length l
+  pub fromBelow : (t i : ℕ) → t < nOf l → edgesBefore l t ≤ i → i < edgesBefore l (suc t) → edgeNumber l i .from < vertexCountOf l t
+  pub toBelow : (t i : ℕ) → t < nOf l → edgesBefore l t ≤ i → i < edgesBefore l (suc t) → edgeNumber l i .to < vertexCountOf l (suc t)
+  pub fromSmall : (i : ℕ) → i < allEdges l → edgeNumber l i .from < 1024
+  pub symbolSmall : (i : ℕ) → i < allEdges l → edgeNumber l i .symbol < 4
+  pub toSmall : (i : ℕ) → i < allEdges l → edgeNumber l i .to < 1024
+
+-- where the parts of the section stand
+pub record Placed (l : List ℕ) (n roots goals pairs symbols edges : ℕ) : Type 0 where
+  pub nIs : n ≡ nOf l
+  pub rootsIs : roots ≡ rootsPlace l
+  pub goalsIs : goals ≡ goalsPlace l
+  pub pairsIs : pairs ≡ pairsPlace l
+  pub symbolsIs : symbols ≡ symbolsPlace l
+  pub edgesIs : edges ≡ allEdges l
+  pub near : symbols + edges ≤ 100000
+
+-- the array of prices holds the costs of the symbols, four a step
+pub record Priced (l prices : List ℕ) (cost : ℕ → ℕ → ℕ) : Type 0 where
+  pub at : (t a : ℕ) → t < nOf l → a < 4 → getD prices (4 * t + a) 0 ≡ cost t a
+
+-- rows t to n hold the least costs from their vertices
+pub record Rows (l : List ℕ) (cost : ℕ → ℕ → ℕ) (number : ℕ → ℕ) (t : ℕ) (rows : List ℕ) : Type 0 where
+  pub at : (u v : ℕ) → t ≤ u → u ≤ nOf l → v < vertexCountOf l u
+      → getD rows (1024 * u + v) 0 ≡ sectionLeast (stepEdges l) cost top number (nOf l - u) u v
+
+-- from the row of depth n all rows follow, whatever the symbols cost
+pub record Swept (l prices old new : List ℕ) : Type 0 where
+  pub long : length new ≡ 9216
+  pub rows : (cost : ℕ → ℕ → ℕ) (number : ℕ → ℕ) → Priced l prices cost → Rows l cost number (nOf l) old → Rows l cost number 0 new
+
+-- all rows are done, and from vertex v of depth 0 there is a path
+pub record Open (l prices rows : List ℕ) (v : ℕ) : Type 0 where
+  pub cost : ℕ → ℕ → ℕ
+  pub number : ℕ → ℕ
+  pub priced : Priced l prices cost
+  pub done : Rows l cost number 0 rows
+  pub inside : v < vertexCountOf l 0
+  pub below : getD rows v 0 < top
+
+-- the first path of least cost from vertex v of depth 0, its symbols packed to a label
+pub record Named (l prices rows : List ℕ) (v label end : ℕ) : Type 0 where
+  pub endIn : end < vertexCountOf l (nOf l)
+  pub labelIs : (cost : ℕ → ℕ → ℕ) (number : ℕ → ℕ) → Priced l prices cost → Rows l cost number 0 rows
+      → label ≡ packOnto 0 (sectionTrace (stepEdges l) cost top number (nOf l) 0 v .symbols)
+  pub endIs : (cost : ℕ → ℕ → ℕ) (number : ℕ → ℕ) → Priced l prices cost → Rows l cost number 0 rows
+      → end ≡ sectionTrace (stepEdges l) cost top number (nOf l) 0 v .end
