@@ -1,0 +1,3 @@
+-- Laws of the two passes, lowest first.
+pub mod Goals
+pub mod Tables
