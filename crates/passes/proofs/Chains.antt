@@ -5,11 +5,12 @@ use mathlib.Core.Bool.{Bool, true, false, cond}
 use mathlib.Core.Logic.{_⊎_, inl, inr}
 use mathlib.Core.List.{List}
 use Prim.Native.Nat.{ℕ, zero, suc, _+_, _-_, _*_, _≤_, _<_}
-use native.Mathlib.Nat.{zero-add, add-zero}
+use native.Mathlib.Nat.{zero-add, add-zero, le-of-eq}
 use native.Mathlib.Decide.{ℕ-discrete, decLt, decLe}
 use native.Mathlib.Omega.{arith}
 use lib.Dec.{T, eqb, ltb, eqb→eq, eqb-refl}
-use lib.ListN.{length, getD, drop}
+use lib.ListN.{length, getD, take, drop, length-drop}
+use lib.Seq.{take-all}
 use borrow.Author.Tests.{lt-ltb, le-ltb}
 use Rattle.trellis.specs.Lists.{_∈_, run, each, first}
 use Rattle.trellis.specs.Own.{Edge}
@@ -108,6 +109,24 @@ module _ {sections starts indices received erased : List ℕ} (R : Ready section
       let w = of-run (λ u. u) 0 (vertexCountOf (part b) 0) v m in
       h v (omega (arith, w .is, w .below))
 
+  -- block b as the code takes it: i is its section index
+  pub record BlockAt (b i : ℕ) : Type 0 where
+    pub index-lt : i < 17
+    pub inside : getD starts i 0 ≤ length sections
+    pub part-is : take (length sections - getD starts i 0) (drop (getD starts i 0) sections) ≡ part b
+    pub good : Good (take (length sections - getD starts i 0) (drop (getD starts i 0) sections))
+
+  pub block-at : {b i : ℕ} → b < length indices → i ≡ getD indices b 0 → BlockAt b i
+  unfolding sectionOf
+  block-at {b} {i} h e =
+      let a = R .indexBelow b h in
+      let c : getD starts i 0 ≡ getD starts (getD indices b 0) 0 = ap (λ j. getD starts j 0) e in
+      let d = R .inside b h in
+      let p : take (length sections - getD starts i 0) (drop (getD starts i 0) sections) ≡ part b
+            = take-all (length sections - getD starts i 0) (drop (getD starts i 0) sections) (le-of-eq (length-drop (getD starts i 0) sections))
+            ∙ ap (λ j. drop j sections) c in
+      record { index-lt = omega arith; inside = omega arith; part-is = p; good = subst Good (sym p) (R .good b h) }
+
   -- what the table has is what is left to pay
   pub ahead-is : {end b : ℕ} {costs : List ℕ} → Table sections starts indices received erased end b costs → b ≤ length indices → (s : ℕ) → s < 64
       → aheadOf costs (length indices) end b s ≡ leastAhead end (length indices - b) b s
@@ -189,3 +208,7 @@ module _ {sections starts indices received erased : List ℕ} (R : Ready section
   pub fill-end : {end b : ℕ} {old new : List ℕ} → Filled sections starts indices received erased end b old new → b ≤ 0
       → Filled sections starts indices received erased end 0 old new
   fill-end {end} {b} {old} {new} I h = let e : b ≡ 0 = omega arith in subst (λ x. Filled sections starts indices received erased end x old new) e I
+
+pub below-last : {sections starts indices received erased old new : List ℕ} {end b : ℕ} → Filled sections starts indices received erased end b old new → 0 < b
+    → b - 1 < length indices
+below-last I h = omega (arith, I .b-le)

@@ -91,6 +91,10 @@ goal-of {l} {goals = goals} {g = g} G P N =
     let x = N .endIn in
     record { inside = omega (arith, P .goalsIs); is = i; small = omega arith }
 
+pub clean-at : {l : List ℕ} {n roots goals pairs symbols edges received mask : ℕ} → Placed l n roots goals pairs symbols edges → Clean (nOf l) received mask
+    → Clean n received mask
+clean-at {received = received} {mask} P C = subst (λ k. Clean k received mask) (sym (P .nIs)) C
+
 pub word-from : {l prices costs rows : List ℕ} {n roots goals pairs symbols edges received mask blocks end b s v label g distance : ℕ} → Good l
     → Placed l n roots goals pairs symbols edges → Prices n received mask prices → RowsOver l prices costs blocks end b rows
     → Onward l received mask costs blocks end b s → RootAt l s v → sweeping.Named l prices rows v label g

@@ -1,3 +1,4 @@
+use Rattle.passes.proofs.Goals.{rows-over}
 use borrow.Author.Needs.{needs}
 use Rattle.passes.proofs.fill_rows.Statement.{statement}
 use Rattle.passes.proofs.fill_rows.Tie as tie
@@ -16,7 +17,7 @@ sweep-requires c κs = search needs
 
 -- src/lib.rt:54:1
 returns : tie.Need-returns
-returns c = ?
+returns c = rows-over (c .before .before .put-goals .ensures) (c .sweep .ensures)
 
 pub fill-rows-spec : {M : Type 1} → statement M
 fill-rows-spec = tie.close (tie.spec put-goals-requires sweep-requires returns)

@@ -1,3 +1,4 @@
+use Rattle.passes.proofs.Tables.{block-table}
 use borrow.Author.Needs.{needs}
 use Rattle.passes.proofs.table_block.Statement.{statement}
 use Rattle.passes.proofs.table_block.Tie as tie
@@ -39,7 +40,7 @@ same-length c = search needs
 
 -- src/lib.rt:89:1
 returns : tie.Need-returns
-returns c = ?
+returns c = (block-table (c .before .before .before .before .before .before .before .before .before .before .before .before .before .before .before .before .before .pre .0) ((c .before .before .before .before .before .before .before .before .before .before .before .before .before .before .places-of .ensures) .nIs) (c .before .before .before .before .before .before .before .before .before .before .before .before .before .prices .ensures) (c .before .before .before .before .before .before .before .before .before .fill-rows .ensures) (c .before .before .before .before .before .before .before .put-none .ensures) (c .before .before .put-roots .ensures), (c .before .before .before .before .before .before .before .before .before .fill-rows .ensures .long))
 
 pub table-block-spec : {M : Type 1} → statement M
 table-block-spec =
