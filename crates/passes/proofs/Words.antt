@@ -9,7 +9,7 @@ use native.Mathlib.Decide.{ℕ-discrete, decLt}
 use native.Mathlib.Numerals.{add-one}
 use native.Mathlib.Omega.{arith}
 use lib.Dec.{eqb}
-use lib.ListN.{length, getD, drop, set, length-set}
+use lib.ListN.{length, getD, take, drop, set, length-set}
 use lib.Seq.{getD-set-same, getD-set-other, getD-drop, drop-drop}
 use Rattle.trellis.specs.Lists.{first}
 use Rattle.trellis.specs.Word.{Word, word, wordAt}
@@ -27,7 +27,7 @@ use Rattle.block.specs.Received.{symbolCost, blockDistance, Clean, Prices}
 use Rattle.passes.specs.Blocks.{Good, endsIn, sectionOf, wordsOf, distanceOf, leastFrom, pathFrom, Ready, Table, Written, aheadOf}
 use Rattle.passes.specs.Loops.{Behind, RowsOver, RootAt, Onward, WordFrom, InWords, Named}
 use Rattle.passes.proofs.Tables.{priced-by}
-use Rattle.passes.proofs.Chains.{root-at, root-listed, none-listed, leastAhead, uses, behind-is}
+use Rattle.passes.proofs.Chains.{root-at, root-listed, none-listed, leastAhead, uses, behind-is, BlockAt}
 
 -- ---- one block
 
@@ -231,6 +231,17 @@ module _ {sections starts indices received erased : List ℕ} (R : Ready section
             let z : leastAhead R end (length indices - b) b s ≡ leastAhead R end (suc k) b s = ap (λ j. leastAhead R end j b s) left in
             let x = X .drop in
             omega arith
+
+  -- what the code has of the block
+  pub onward-at : {end b s i : ℕ} {costs : List ℕ} → Table sections starts indices received erased end 0 costs → b < length indices → BlockAt R b i
+      → leastFrom sections starts indices received erased end b s < top
+      → Onward (take (length sections - getD starts i 0) (drop (getD starts i 0) sections)) (getD received b 0) (getD erased b 0) costs (length indices) end (b + 1) s
+  onward-at {end} {b} {s} {i} {costs} T h A o =
+      subst (λ l. Onward l (getD received b 0) (getD erased b 0) costs (length indices) end (b + 1) s) (sym (A .part-is)) (onward-of T h s o)
+
+  pub clean-of-block : {b i : ℕ} → b < length indices → BlockAt R b i
+      → Clean (nOf (take (length sections - getD starts i 0) (drop (getD starts i 0) sections))) (getD received b 0) (getD erased b 0)
+  clean-of-block {b} h A = subst (λ l. Clean (nOf l) (getD received b 0) (getD erased b 0)) (sym (A .part-is)) (R .clean b h)
 
   pub words-more : {end start b s total label goal distance t : ℕ} {l costs labels newLabels goals newGoals : List ℕ} {r m : ℕ} → Table sections starts indices received erased end 0 costs
       → InWords sections starts indices received erased end start labels newLabels goals newGoals b s total → b < length indices
