@@ -3,16 +3,16 @@
 use mathlib.Core.Path.{_≡_, refl, sym, ap, subst, _∙_}
 use mathlib.Core.Bool.{Bool, true, false, _&&_, _||_}
 use mathlib.Core.Logic.{_⊎_, inl, inr}
-use mathlib.Core.List.{List, [], _∷_, List·Memᴰ, List·Memᴰ·head, List·Memᴰ·tail, List·Memᴰ·not-nil, List·Memᴰ·cases-cons, Memᴰ·cast}
+use mathlib.Core.List.{List, [], _∷_, _++_, List·Memᴰ, List·Memᴰ·head, List·Memᴰ·tail, List·Memᴰ·not-nil, List·Memᴰ·cases-cons, List·Memᴰ·append-cases, List·Memᴰ·eq-of-singleton, Memᴰ·append-left, Memᴰ·append-right, Memᴰ·cast}
 use Prim.Native.Nat.{ℕ, zero, suc, _+_, _≤_, _<_}
 use native.Mathlib.Omega.{arith}
 use native.Mathlib.Nat.{zero-add}
 use native.Mathlib.Decide.{ℕ-discrete, decLt}
 use lib.ListN.{length, getD}
 use lib.Dec.{T, ltb, eqb, eqb→eq, eqb-refl, ltb→lt, lt→ltb}
-use Rattle.trellis.specs.Lists.{_∈_, Once, one-if, rank, placed, insert, ascending, Lower, byFirst, bySecond, byThird, lower, alike}
+use Rattle.trellis.specs.Lists.{_∈_, Once, one-if, run, each, rank, placed, insert, ascending, Lower, byFirst, bySecond, byThird, lower, alike}
 use Rattle.trellis.proofs.Bools.{holds, fails, is-true, is-false, both, join, either, or-left, or-right}
-use Rattle.trellis.proofs.Lists.{in-place}
+use Rattle.trellis.proofs.Lists.{From, in-place, in-each, of-each}
 
 -- a strict order by a test, in which every two elements can be compared
 pub record Orders {A : Type 0} (less : A → A → Bool) : Type 0 where
@@ -24,6 +24,10 @@ pub record Orders {A : Type 0} (less : A → A → Bool) : Type 0 where
 abbrev pub Ascends : {A : Type 0} → (A → A → Bool) → List A → Type 0
 Ascends less [] = Unit {0}
 Ascends {A} less (x ∷ l) = ((y : A) → y ∈ l → T (less x y)) × Ascends less l
+
+-- what stands among the first m values stands among the first m + 1
+more : {A : Type 0} (f : ℕ → A) (m : ℕ) (x : A) → x ∈ each f m → x ∈ each f (suc m)
+more f m x k = let F = of-each f m x k in in-each f (suc m) (F .at) x (omega (arith, F .below)) (F .is)
 
 module _ {A : Type 0} (less : A → A → Bool) (O : Orders less) where
   pub once-of : (l : List A) → Ascends less l → Once l
@@ -107,6 +111,72 @@ module _ {A : Type 0} (less : A → A → Bool) (O : Orders less) where
   unfolding ascending
   ascends [] = tt
   ascends (x ∷ l) = insert-ascends x (ascending less l) (ascends l)
+
+  -- ---- an ascending list is known by its elements
+
+  pub ascends-same : (l k : List A) → Ascends less l → Ascends less k → ((x : A) → x ∈ l → x ∈ k) → ((x : A) → x ∈ k → x ∈ l) → l ≡ k
+  ascends-same [] [] a b f g = refl
+  ascends-same [] (y ∷ k) a b f g = absurd (List·Memᴰ·not-nil (g y (List·Memᴰ·head refl)))
+  ascends-same (x ∷ l) [] a b f g = absurd (List·Memᴰ·not-nil (f x (List·Memᴰ·head refl)))
+  ascends-same (x ∷ l) (y ∷ k) a b f g =
+      λ i. heads i ∷ ascends-same l k (a .1) (b .1) (λ z m. tail-of z (f z (List·Memᴰ·tail m)) (λ e. O .never x (subst (λ w. T (less x w)) (e ∙ sym heads) (a .0 z m))))
+      (λ z m. tail-to z (g z (List·Memᴰ·tail m)) (λ e. O .never y (subst (λ w. T (less y w)) (e ∙ heads) (b .0 z m)))) i
+    where
+      heads : x ≡ y
+      heads = go (List·Memᴰ·cases-cons (f x (List·Memᴰ·head refl))) (List·Memᴰ·cases-cons (g y (List·Memᴰ·head refl)))
+        where
+          go : (x ≡ y) ⊎ (x ∈ k) → (y ≡ x) ⊎ (y ∈ l) → x ≡ y
+          go (inl e) q = e
+          go (inr u) (inl e) = sym e
+          go (inr u) (inr w) = absurd (O .never x (O .chain x y x (a .0 y w) (b .0 x u)))
+
+      tail-of : (z : A) → z ∈ y ∷ k → (z ≡ y → ⊥) → z ∈ k
+      tail-of z m d = elim (List·Memᴰ·cases-cons m) [ inl e ↦ absurd (d e) | inr u ↦ u ]
+
+      tail-to : (z : A) → z ∈ x ∷ l → (z ≡ x → ⊥) → z ∈ l
+      tail-to z m d = elim (List·Memᴰ·cases-cons m) [ inl e ↦ absurd (d e) | inr u ↦ u ]
+
+  -- an element above all others goes to the end
+  pub ascends-snoc : (l : List A) (x : A) → Ascends less l → ((y : A) → y ∈ l → T (less y x)) → Ascends less (l ++ (x ∷ []))
+  ascends-snoc [] x a h = (λ y m. absurd (List·Memᴰ·not-nil m), tt)
+  ascends-snoc (z ∷ l) x a h = (λ y m. go y (List·Memᴰ·append-cases l m), ascends-snoc l x (a .1) (λ y m. h y (List·Memᴰ·tail m)))
+    where
+      go : (y : A) → (y ∈ l) ⊎ (y ∈ x ∷ []) → T (less z y)
+      go y (inl u) = a .0 y u
+      go y (inr u) = subst (λ w. T (less z w)) (sym (List·Memᴰ·eq-of-singleton u)) (h z (List·Memᴰ·head refl))
+
+  -- one value more: it is there already, or it comes after all others
+  pub ascending-old : (f : ℕ → A) (m : ℕ) → f m ∈ each f m → ascending less (each f (suc m)) ≡ ascending less (each f m)
+  ascending-old f m h = ascends-same (ascending less (each f (suc m))) (ascending less (each f m)) (ascends (each f (suc m))) (ascends (each f m))
+      (λ x k. in-ascending x (each f m) (back x (of-each f (suc m) x (of-ascending x (each f (suc m)) k))))
+      (λ x k. in-ascending x (each f (suc m)) (more f m x (of-ascending x (each f m) k)))
+    where
+      back : (x : A) → From f (suc m) x → x ∈ each f m
+      back x F = go (ℕ-discrete (F .at) m)
+        where
+          go : Dec (F .at ≡ m) → x ∈ each f m
+          go (yes e) = Memᴰ·cast (F .is ∙ ap f e) h
+          go (no e) = in-each f m (F .at) x (omega (arith, F .below)) (F .is)
+
+  pub ascending-new : (f : ℕ → A) (m : ℕ) → ((j : ℕ) → j < m → T (less (f j) (f m))) → ascending less (each f (suc m)) ≡ ascending less (each f m) ++ (f m ∷ [])
+  ascending-new f m h = ascends-same (ascending less (each f (suc m))) (ascending less (each f m) ++ (f m ∷ [])) (ascends (each f (suc m)))
+      (ascends-snoc (ascending less (each f m)) (f m) (ascends (each f m)) (λ y k. above y (of-each f m y (of-ascending y (each f m) k))))
+      (λ x k. split x (of-each f (suc m) x (of-ascending x (each f (suc m)) k)))
+      (λ x k. in-ascending x (each f (suc m)) (join-up x (List·Memᴰ·append-cases (ascending less (each f m)) k)))
+    where
+      above : (y : A) → From f m y → T (less y (f m))
+      above y F = subst (λ w. T (less w (f m))) (sym (F .is)) (h (F .at) (F .below))
+
+      split : (x : A) → From f (suc m) x → x ∈ ascending less (each f m) ++ (f m ∷ [])
+      split x F = go (ℕ-discrete (F .at) m)
+        where
+          go : Dec (F .at ≡ m) → x ∈ ascending less (each f m) ++ (f m ∷ [])
+          go (yes e) = Memᴰ·append-right (ascending less (each f m)) (List·Memᴰ·head (F .is ∙ ap f e))
+          go (no e) = Memᴰ·append-left (f m ∷ []) (in-ascending x (each f m) (in-each f m (F .at) x (omega (arith, F .below)) (F .is)))
+
+      join-up : (x : A) → (x ∈ ascending less (each f m)) ⊎ (x ∈ f m ∷ []) → x ∈ each f (suc m)
+      join-up x (inl u) = more f m x (of-ascending x (each f m) u)
+      join-up x (inr u) = in-each f (suc m) m x (omega arith) (List·Memᴰ·eq-of-singleton u)
 
 -- ---- numbers
 
@@ -257,3 +327,30 @@ module _ (a b c x y z : ℕ) where
 pub alike-self : (a b c : ℕ) → T (alike a b c a b c)
 unfolding alike
 alike-self a b c = join (eqb a a) (eqb b b && eqb c c) (eqb-refl a) (join (eqb b b) (eqb c c) (eqb-refl b) (eqb-refl c))
+
+rank-le : (l : List ℕ) (s z : ℕ) → s < z → rank s l ≤ rank z l
+unfolding rank
+rank-le [] s z h = omega arith
+rank-le (x ∷ l) s z h = go (ltb x s) refl (ltb x z) refl (rank-le l s z h)
+  where
+    go : (p : Bool) → ltb x s ≡ p → (q : Bool) → ltb x z ≡ q → rank s l ≤ rank z l → one-if p + rank s l ≤ one-if q + rank z l
+    go true f true g r = omega arith
+    go true f false g r = let k = ltb→lt x s (holds f) in absurd (fails g (lt→ltb x z (omega arith)))
+    go false f true g r = omega arith
+    go false f false g r = omega arith
+
+-- ranks rise with the elements
+pub rank-less : (l : List ℕ) (s z : ℕ) → s ∈ l → s < z → rank s l < rank z l
+unfolding rank
+rank-less [] s z m h = absurd (List·Memᴰ·not-nil m)
+rank-less (x ∷ l) s z m h = go (List·Memᴰ·cases-cons m) (ltb x s) refl (ltb x z) refl (rank-less l s z) (rank-le l s z h)
+  where
+    go : (s ≡ x) ⊎ (s ∈ l) → (p : Bool) → ltb x s ≡ p → (q : Bool) → ltb x z ≡ q → (s ∈ l → s < z → rank s l < rank z l) → rank s l ≤ rank z l
+        → one-if p + rank s l < one-if q + rank z l
+    go (inl e) true f q g r w = let k = ltb→lt x s (holds f) in absurd (omega arith)
+    go (inl e) false f true g r w = omega arith
+    go (inl e) false f false g r w = absurd (fails g (lt→ltb x z (omega arith)))
+    go (inr u) true f true g r w = let k = r u h in omega arith
+    go (inr u) true f false g r w = let k = ltb→lt x s (holds f) in absurd (fails g (lt→ltb x z (omega arith)))
+    go (inr u) false f true g r w = omega arith
+    go (inr u) false f false g r w = let k = r u h in omega arith

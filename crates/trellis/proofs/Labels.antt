@@ -4,7 +4,7 @@ use mathlib.Core.Path.{_≡_, refl, sym, ap, ap₂, subst, _∙_}
 use Prim.Native.Nat.{ℕ, zero, suc, _+_, _*_, _-_, _/_, _%_, _^_, _≤_, _<_}
 use native.Mathlib.Omega.{arith}
 use native.Mathlib.Nat.{le-refl, le-trans, le-div-iff-mul-le, div-mul-le-self, mul-lt-mul-of-pos-right, pow-suc, mod-lt, mod-one, div-add-mod', div-eq-of-lt, div-div-eq-div-mul, mul-comm, not-suc-le-zero, add-zero, add-suc, suc-add, sub-zero, sub-self, div-one}
-use native.Mathlib.Decide.{ℕ-discrete}
+use native.Mathlib.Decide.{ℕ-discrete, decLt}
 use lib.Arith.{mod-mul, digits-div, digits-mod}
 use lib.Dec.{lit<}
 use Rattle.trellis.specs.Label.{symbol, front, back, spliced}
@@ -106,3 +106,18 @@ module _ (n : ℕ) where
   -- a label is decided by its symbols
   pub by-symbols : (x y : ℕ) → x < 4 ^ n → y < 4 ^ n → ((t : ℕ) → t < n → symbol n t x ≡ symbol n t y) → x ≡ y
   by-symbols x y a b h = sym (front-all x) ∙ front-by-symbols n x y (le-refl n) a b h ∙ front-all y
+
+  pub front-none : (x : ℕ) → x < 4 ^ n → front n 0 x ≡ 0
+  unfolding front
+  front-none x h = rw sub-zero (div-eq-of-lt h)
+
+  -- behind one front, a smaller symbol makes a smaller label
+  pub symbol-lower : (t x y : ℕ) → t < n → front n t x ≡ front n t y → symbol n t x < symbol n t y → x < y
+  symbol-lower t x y h e s = go (decLt x y)
+    where
+      fronts : front n (suc t) x < front n (suc t) y
+      fronts = omega (arith, front-suc t x h, front-suc t y h)
+
+      go : Dec (x < y) → x < y
+      go (yes p) = p
+      go (no p) = absurd (omega (arith, fronts, front-mono (suc t) {x = y} {y = x} (omega arith)))

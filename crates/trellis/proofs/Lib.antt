@@ -15,3 +15,5 @@ pub mod Least
 pub mod OwnDrawn
 pub mod Demand
 pub mod Witness
+pub mod EdgeOrder
+pub mod Write

@@ -3,7 +3,7 @@
 use mathlib.Core.Path.{_≡_, refl, sym, ap, ap₂, subst, _∙_}
 use mathlib.Core.Bool.{Bool, true, false, not, _||_}
 use mathlib.Core.Logic.{_⊎_, inl, inr}
-use mathlib.Core.List.{List, [], _∷_, List·Memᴰ, List·Memᴰ·head, List·Memᴰ·tail, List·Memᴰ·not-nil, List·Memᴰ·cases-cons}
+use mathlib.Core.List.{List, [], _∷_, _++_, flatMap, append-assoc, List·Memᴰ, List·Memᴰ·head, List·Memᴰ·tail, List·Memᴰ·not-nil, List·Memᴰ·cases-cons}
 use Prim.Native.Nat.{ℕ, zero, suc, _+_, _-_, _≤_, _<_}
 use native.Mathlib.Omega.{arith}
 use native.Mathlib.Nat.{not-suc-le-zero, add-zero, add-suc, suc-add, zero-add, le-antisymm, le-of-eq}
@@ -28,6 +28,12 @@ run-at f at (suc count) (suc k) d h = run-at f (suc at) count k d (omega arith) 
 
 pub each-at : {A : Type 0} (f : ℕ → A) (count k : ℕ) (d : A) → k < count → getD (each f count) k d ≡ f k
 each-at f count k d h = run-at f 0 count k d h ∙ ap f (zero-add k)
+
+-- one value more, at the end
+pub run-snoc : {A : Type 0} (f : ℕ → A) (at count : ℕ) → run f at (suc count) ≡ run f at count ++ (f (at + count) ∷ [])
+unfolding run
+run-snoc f at zero = ap (λ k. f k ∷ []) (sym (add-zero at))
+run-snoc f at (suc count) = ap (λ l. f at ∷ l) (run-snoc f (suc at) count ∙ ap (λ k. run f (suc at) count ++ (f k ∷ [])) (rw (suc-add at count, add-suc at count)))
 
 -- a value of f below a count
 pub record From {A : Type 0} (f : ℕ → A) (count : ℕ) (x : A) : Type 0 where
@@ -55,6 +61,13 @@ of-run {A} f at (suc count) x m = go (of-run f (suc at) count x) (List·Memᴰ·
 
 pub of-each : {A : Type 0} (f : ℕ → A) (count : ℕ) (x : A) → x ∈ each f count → From f count x
 of-each f count x m = let w = of-run f 0 count x m in record { at = w .at; below = w .below; is = w .is ∙ ap f (zero-add (w .at)) }
+
+-- ---- lists put together
+
+pub flatMap-append : {A B : Type 0} (f : A → List B) (xs ys : List A) → flatMap f (xs ++ ys) ≡ flatMap f xs ++ flatMap f ys
+unfolding flatMap
+flatMap-append f [] ys = refl
+flatMap-append f (x ∷ xs) ys = ap (λ l. f x ++ l) (flatMap-append f xs ys) ∙ sym (append-assoc (f x) (flatMap f xs) (flatMap f ys))
 
 -- ---- places
 

@@ -26,7 +26,7 @@ symbolAt n table t i = symbol n t (wordAt table i .label)
 
 module _ (n : ℕ) (table : List Word) (G : Table n table) where
   -- an earlier beginning with the same ending comes earlier
-  joined-first : (t j i : ℕ) → j < i → i < length table → (beginning n t (wordAt table j) ≡ beginning n t (wordAt table i) → ⊥)
+  pub joined-first : (t j i : ℕ) → j < i → i < length table → (beginning n t (wordAt table j) ≡ beginning n t (wordAt table i) → ⊥)
       → Before (joined n t (wordAt table j) (wordAt table i)) (wordAt table i)
   joined-first t j i a b h = go (G .ascends j i a b)
     where
@@ -37,7 +37,7 @@ module _ (n : ℕ) (table : List Word) (G : Table n table) where
 
   module _ (c : ℕ → ℕ → ℕ) (O : Numbering n table c) where
     -- words that begin alike share a vertex there
-    begun : (t i j : ℕ) → t < n → i < length table → j < length table → beginning n t (wordAt table j) ≡ beginning n t (wordAt table i) → c t i ≡ c t j
+    pub begun : (t i j : ℕ) → t < n → i < length table → j < length table → beginning n t (wordAt table j) ≡ beginning n t (wordAt table i) → c t i ≡ c t j
     begun zero i j h a b m = O .roots i j a b .1 (sym (beginning-root m))
     begun (suc t) i j h a b m = O .inner (suc t) (omega arith) h i j a b .1
         (Memᴰ·cast (sym (joined-is n (suc t) (wordAt table j) (wordAt table i) (wordAt table j) m refl)) (word-in table j b))

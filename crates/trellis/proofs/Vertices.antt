@@ -15,7 +15,7 @@ use Rattle.trellis.specs.Word.{Word, wordAt, joined, RectangularAt, Rect
 use Rattle.trellis.specs.Own.{shares, firstSharing, keyBy, key, keys, vertexOf, vertexCount}
 use Rattle.trellis.proofs.Bools.{is-true, is-false}
 use Rattle.trellis.proofs.Lists.{in-yes, in-of, in-each, of-each, First, first-ok}
-use Rattle.trellis.proofs.Ascending.{numbers, ascends, in-ascending, of-ascending, ranked, rank-same}
+use Rattle.trellis.proofs.Ascending.{numbers, ascends, in-ascending, of-ascending, ranked, rank-less}
 use Rattle.trellis.proofs.Words.{word-in, same-yes, same-self, joined-self, joined-turn, joined-chain}
 
 -- c t i is the vertex of word i at depth t: any such numbering has our section's vertices
@@ -58,6 +58,11 @@ module _ (n : ℕ) (table : List Word) where
   pub vertex-key : (t i j : ℕ) → i < length table → j < length table → (vertexOf n table t i ≡ vertexOf n table t j) ↔ (key n table t i ≡ key n table t j)
   unfolding vertexOf
   vertex-key t i j a b = (λ e. sym (key-at t i a) ∙ ap (λ v. getD (keys n table t) v 0) e ∙ key-at t j b, λ e. ap (λ k. rank k (keys n table t)) e)
+
+  -- vertices are numbered by ascending key
+  pub vertex-less : (t i j : ℕ) → i < length table → key n table t i < key n table t j → vertexOf n table t i < vertexOf n table t j
+  unfolding vertexOf
+  vertex-less t i j a h = rank-less (keys n table t) (key n table t i) (key n table t j) (key-in t i a) h
 
 -- ---- sharing at an inner depth
 

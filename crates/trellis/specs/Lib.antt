@@ -9,3 +9,4 @@ pub mod Section
 pub mod Layout
 pub mod Witness
 pub mod Outcome
+pub mod Write

@@ -1,0 +1,3 @@
+pub mod FirstWords
+pub mod Ranks
+pub mod Marks

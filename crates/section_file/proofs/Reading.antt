@@ -1,0 +1,230 @@
+-- How the code reads a section's numbers and compares them: each law takes what the calls on the way ensure, over plain variables, and gives the
+-- definition that is promised. They hold because the code goes to the places that the definitions name, in the same order.
+use mathlib.Core.Path.{_≡_, refl, sym, ap, ap₂, _∙_}
+use mathlib.Core.Bool.{Bool, true, false, not, _&&_, _||_}
+use mathlib.Core.List.{List}
+use Prim.Native.Nat.{ℕ, zero, suc, _+_, _-_, _*_, _≤_, _<_}
+use native.Mathlib.Omega.{arith}
+use native.Mathlib.Nat.{add-zero, zero-add, add-suc, suc-add, add-assoc, add-comm}
+use native.Mathlib.Numerals.{add-one}
+use lib.ListN.{length, getD, List·getD-eq-default}
+use lib.Dec.{leb, ltb, eqb}
+use borrow.Author.Tests.{lt-ltb, le-ltb, lt-leb, le-leb, eq-eqb, ne-eqb, not-true, not-false}
+use Rattle.trellis.specs.Lists.{sum, lower}
+use Rattle.trellis.specs.Own as own
+use Rattle.trellis.specs.Layout.{qOf, nOf, statesOf, vertexCountOf, edgeCountOf, edgesBefore, rootsPlace, goalsPlace, pairsPlace, symbolsPlace, sectionLength, rootState, goalState}
+use Rattle.section_file.specs.Usable.{all, within, higher, rising, inside, above, sizesRight, countsRight, statesRight}
+use Rattle.section_file.specs.Places.{PlacesOf, Counted}
+use Rattle.section_file.specs.Answer.{edgeAt, held, meant}
+use Rattle.section_file.specs.declared.Edge.{Edge}
+
+pub past-end : (l : List ℕ) (i : ℕ) → length l ≤ i → 0 ≡ getD l i 0
+past-end l i h = sym (List·getD-eq-default l 0 h)
+
+-- ---- bounds
+
+module _ (low high : ℕ) {x : ℕ} where
+  pub below-low : x < low → false ≡ within low high x
+  unfolding within
+  below-low h = simp (lt-leb _ _ h)
+
+  pub from-low-on : low ≤ x → leb x high ≡ within low high x
+  unfolding within
+  from-low-on h = simp (le-leb _ _ h)
+
+-- ---- q, n and S
+
+module _ (l : List ℕ) {q : ℕ} {a : Bool} (q-is : q ≡ qOf l) (a-is : a ≡ within 2 4 q) where
+  q-test : within 2 4 (qOf l) ≡ a
+  q-test = sym (a-is ∙ ap (within 2 4) q-is)
+
+  pub q-wrong : not a ≡ true → false ≡ sizesRight l
+  unfolding sizesRight
+  q-wrong t = let e = q-test ∙ not-true a t in rw e
+
+  module _ {n : ℕ} {b : Bool} (a-yes : not a ≡ false) (n-is : n ≡ nOf l) (b-is : b ≡ within 1 8 n) where
+    n-test : within 1 8 (nOf l) ≡ b
+    n-test = sym (b-is ∙ ap (within 1 8) n-is)
+
+    pub n-wrong : not b ≡ true → false ≡ sizesRight l
+    unfolding sizesRight
+    n-wrong t = let e = q-test ∙ not-false a a-yes in let f = n-test ∙ not-true b t in rw (e, f)
+
+    pub sizes-by-states : {s : ℕ} {d : Bool} → not b ≡ false → s ≡ statesOf l → d ≡ within 1 64 s → d ≡ sizesRight l
+    unfolding sizesRight
+    sizes-by-states t s-is d-is = let e = q-test ∙ not-false a a-yes in let f = n-test ∙ not-false b t in d-is ∙ rw (e, f, s-is)
+
+-- ---- counts
+
+module _ (l : List ℕ) {n : ℕ} {a : Bool} (n-is : n ≡ nOf l) (a-is : a ≡ all (λ t. within 1 1024 (getD l (3 + t) 0)) (n + 1)) where
+  pub vertices-wrong : not a ≡ true → false ≡ countsRight l
+  unfolding countsRight vertexCountOf
+  vertices-wrong t =
+      let e : all (λ t. within 1 1024 (getD l (3 + t) 0)) (nOf l + 1) ≡ false = rw (← n-is) (sym a-is ∙ not-true _ t) in
+      rw e
+
+  pub counts-by-edges : {b : Bool} → not a ≡ false → b ≡ all (λ t. within 1 1024 (getD l (4 + n + t) 0)) n → b ≡ countsRight l
+  unfolding countsRight vertexCountOf edgeCountOf
+  counts-by-edges {b} t b-is =
+      let e : all (λ t. within 1 1024 (getD l (3 + t) 0)) (nOf l + 1) ≡ true = rw (← n-is) (sym a-is ∙ not-false _ t) in
+      b-is ∙ rw (e, ← n-is)
+
+-- ---- sums
+
+pub sum-last : (f : ℕ → ℕ) (at n : ℕ) → sum f at (suc n) ≡ sum f at n + f (at + n)
+unfolding sum
+sum-last f at zero = omega (arith, ap f (add-zero at))
+sum-last f at (suc n) = omega (arith, sum-last f (suc at) n, ap f (suc-add at n ∙ sym (add-suc at n)))
+
+pub record Summed (f : ℕ → ℕ) (count total t : ℕ) : Type 0 where
+  pub inside : t ≤ count
+  pub is : total ≡ sum f 0 t
+  pub small : total ≤ 65535 * t
+
+pub summed-start : (f : ℕ → ℕ) (count : ℕ) → Summed f count 0 0
+unfolding sum
+summed-start f count = record { inside = omega arith; is = refl; small = omega arith }
+
+pub summed-next : {f : ℕ → ℕ} {count total t x y : ℕ} → Summed f count total t → t < count → x ≡ f t → (y ≡ x) × (y < 65536) → Summed f count (total + y) (t + 1)
+summed-next {f} {count} {total} {t} {x} {y} s h e g = record {
+  inside = omega arith;
+  is = let a : sum f 0 (t + 1) ≡ sum f 0 t + f t = rw (add-one t) (sum-last f 0 t ∙ rw (zero-add t)) in omega (arith, s .is, g .0);
+  small = omega (arith, s .small, g .1);
+}
+
+pub summed-all : {f : ℕ → ℕ} {count total t : ℕ} → Summed f count total t → count ≤ t → (total ≡ sum f 0 count) × (total ≤ 65535 * count)
+summed-all {f} {count} {total} {t} s h = let e : count ≡ t = omega (arith, s .inside) in (rw e (s .is), rw e (s .small))
+
+-- ---- places
+
+pub places-are : (l : List ℕ) {n edges x v y w : ℕ} → n ≡ nOf l → n ≤ 8 → (edges ≡ sum (λ t. getD l (4 + n + t) 0) 0 n) × (edges ≤ 65535 * n)
+    → x ≡ getD l 3 0 → (v ≡ x) × (v < 65536) → y ≡ getD l (3 + n) 0 → (w ≡ y) × (w < 65536)
+    → PlacesOf l (4 + 2 * n) (4 + 2 * n + v) (4 + 2 * n + v + w) (4 + 2 * n + v + w + 2 * edges) (4 + 2 * n + v + w + 2 * edges + edges)
+unfolding rootsPlace goalsPlace pairsPlace symbolsPlace sectionLength edgesBefore vertexCountOf edgeCountOf
+places-are l {n} {edges} {x} {v} {y} {w} n-is small e x-is v-is y-is w-is =
+    let r : 4 + 2 * n ≡ rootsPlace l = rw (← n-is) in
+    let f : v ≡ getD l 3 0 = v-is .0 ∙ x-is in
+    let g : w ≡ getD l (3 + nOf l) 0 = w-is .0 ∙ y-is ∙ rw n-is in
+    let k : edges ≡ sum (λ t. getD l (4 + nOf l + t) 0) 0 (nOf l) = e .0 ∙ rw n-is in
+    record {
+      rootsIs = r;
+      goalsIs = rw (← n-is, f);
+      pairsIs = rw (f, g) (rw n-is);
+      symbolsIs = rw (f, g, k) (rw n-is);
+      endIs = rw (f, g, k) (rw n-is);
+      near = omega (arith, v-is .1, w-is .1, e .1);
+      order = (omega arith, omega arith, omega arith, omega arith);
+    }
+
+-- a count that was read, small enough
+pub counted-at : {l : List ℕ} {n : ℕ} (t : ℕ) {x v : ℕ} → Counted l n → t ≤ n → x ≡ getD l (3 + t) 0 → (v ≡ x) × (v < 65536) → v ≤ 1024
+unfolding vertexCountOf
+counted-at t c h e g = omega (arith, c .verticesTo t h, g .0)
+
+pub counted-edges : {l : List ℕ} {n : ℕ} (t : ℕ) {x v : ℕ} → Counted l n → t < n → x ≡ getD l (4 + n + t) 0 → (v ≡ x) × (v < 65536) → v ≤ 1024
+unfolding edgeCountOf
+counted-edges {l} {n} t {x} {v} c h e g =
+    let f : x ≡ getD l (4 + nOf l + t) 0 = e ∙ ap (λ m. getD l (4 + m + t) 0) (c .nIs) in
+    omega (arith, c .edgesTo t h, g .0)
+
+-- ---- end states
+
+module _ (l : List ℕ) (at : ℕ) where
+  abbrev stateAt : ℕ → ℕ
+  stateAt v = getD l (at + v) 0
+
+  pub no-vertex-before : {v : ℕ} → v ≡ 0 → true ≡ higher (λ u. getD l (at + u) 0) v
+  unfolding higher
+  no-vertex-before e = rw e
+
+  pub higher-is : (v : ℕ) {x y : ℕ} → (v ≡ 0 → ⊥) → x ≡ getD l (at + (v - 1)) 0 → y ≡ getD l (at + v) 0 → ltb x y ≡ higher (λ u. getD l (at + u) 0) v
+  unfolding higher
+  higher-is zero h e f = absurd (h refl)
+  higher-is (suc v) h e f = let q : suc v - 1 ≡ v = omega arith in rw (e, f, q)
+
+  pub state-wrong : (v bound : ℕ) {x : ℕ} → x ≡ getD l (at + v) 0 → bound ≤ x → false ≡ (ltb (getD l (at + v) 0) bound && higher (λ u. getD l (at + u) 0) v)
+  state-wrong v bound e h = rw (← e, le-ltb _ _ h)
+
+  pub state-by-higher : (v bound : ℕ) {x : ℕ} {b : Bool} → x ≡ getD l (at + v) 0 → x < bound → b ≡ higher (λ u. getD l (at + u) 0) v
+      → b ≡ (ltb (getD l (at + v) 0) bound && higher (λ u. getD l (at + u) 0) v)
+  state-by-higher v bound e h f = f ∙ rw (← e, lt-ltb _ _ h)
+
+module _ (l : List ℕ) {n roots goals s : ℕ} (c : Counted l n) (r-is : roots ≡ rootsPlace l) (g-is : goals ≡ goalsPlace l) (s-is : s ≡ statesOf l) where
+  module _ {x v : ℕ} {a : Bool} (x-is : x ≡ getD l 3 0) (v-is : (v ≡ x) × (v < 65536)) (a-is : a ≡ rising (λ u. getD l (roots + u) 0) v s) where
+    roots-are : a ≡ rising (rootState l) (vertexCountOf l 0) (statesOf l)
+    unfolding rootState vertexCountOf
+    roots-are = a-is ∙ rw (v-is .0 ∙ x-is, r-is, s-is)
+
+    pub roots-wrong : not a ≡ true → false ≡ statesRight l
+    unfolding statesRight
+    roots-wrong t = let e = sym roots-are ∙ not-true a t in rw e
+
+    pub states-by-goals : {y w : ℕ} {b : Bool} → not a ≡ false → y ≡ getD l (3 + n) 0 → (w ≡ y) × (w < 65536) → b ≡ rising (λ u. getD l (goals + u) 0) w s → b ≡ statesRight l
+    unfolding statesRight goalState vertexCountOf
+    states-by-goals {y} {w} {b} t y-is w-is b-is =
+        let e : rising (rootState l) (getD l 3 0) (statesOf l) ≡ true = sym roots-are ∙ not-false a t in
+        let f : w ≡ getD l (3 + nOf l) 0 = w-is .0 ∙ y-is ∙ rw (c .nIs) in
+        b-is ∙ rw (e, f, g-is, s-is)
+
+-- ---- edges
+
+pub edge-is : (l : List ℕ) (pairs symbols k : ℕ) {x a y : ℕ} → x ≡ getD l (pairs + 2 * k) 0 → a ≡ getD l (symbols + k) 0 → y ≡ getD l (pairs + 1 + 2 * k) 0
+    → record { from = x; symbol = a; to = y } ≡ held (edgeAt l pairs symbols k)
+edge-is l pairs symbols k p q r = simp (p, q, r)
+
+module _ (l : List ℕ) (pairs symbols q froms tos k : ℕ) {e : Edge} (is : e ≡ held (edgeAt l pairs symbols k)) where
+  pub from-outside : froms ≤ e .from → false ≡ inside (edgeAt l pairs symbols) q froms tos k
+  unfolding inside
+  from-outside h = rw is at (outside e h)
+    where
+      outside : (e : Edge) → froms ≤ e .from → false ≡ (ltb (e .from) froms && (ltb (e .symbol) q && ltb (e .to) tos))
+      outside e h = simp (le-ltb _ _ h)
+
+  pub symbol-outside : e .from < froms → q ≤ e .symbol → false ≡ inside (edgeAt l pairs symbols) q froms tos k
+  unfolding inside
+  symbol-outside h g = rw is at (outside e h g)
+    where
+      outside : (e : Edge) → e .from < froms → q ≤ e .symbol → false ≡ (ltb (e .from) froms && (ltb (e .symbol) q && ltb (e .to) tos))
+      outside e h g = simp (lt-ltb _ _ h, le-ltb _ _ g)
+
+  pub inside-by-to : e .from < froms → e .symbol < q → ltb (e .to) tos ≡ inside (edgeAt l pairs symbols) q froms tos k
+  unfolding inside
+  inside-by-to h g = whole e h g ∙ rw is
+    where
+      whole : (e : Edge) → e .from < froms → e .symbol < q → ltb (e .to) tos ≡ (ltb (e .from) froms && (ltb (e .symbol) q && ltb (e .to) tos))
+      whole e h g = simp (lt-ltb _ _ h, lt-ltb _ _ g)
+
+module _ (e f : Edge) where
+  pub from-less : e .from < f .from → true ≡ own.edgeLess (meant e) (meant f)
+  unfolding lower
+  from-less h = simp (lt-ltb _ _ h)
+
+  module _ (h : f .from ≤ e .from) where
+    pub from-other : (e .from ≡ f .from → ⊥) → false ≡ own.edgeLess (meant e) (meant f)
+    unfolding lower
+    from-other d = simp (le-ltb _ _ h, ne-eqb _ _ d)
+
+    module _ (d : e .from ≡ f .from) where
+      pub symbol-less : e .symbol < f .symbol → true ≡ own.edgeLess (meant e) (meant f)
+      unfolding lower
+      symbol-less k = simp (le-ltb _ _ h, eq-eqb _ _ d, lt-ltb _ _ k)
+
+      module _ (k : f .symbol ≤ e .symbol) where
+        pub symbol-other : (e .symbol ≡ f .symbol → ⊥) → false ≡ own.edgeLess (meant e) (meant f)
+        unfolding lower
+        symbol-other g = simp (le-ltb _ _ h, eq-eqb _ _ d, le-ltb _ _ k, ne-eqb _ _ g)
+
+        pub less-by-to : e .symbol ≡ f .symbol → ltb (e .to) (f .to) ≡ own.edgeLess (meant e) (meant f)
+        unfolding lower
+        less-by-to g = simp (le-ltb _ _ h, eq-eqb _ _ d, le-ltb _ _ k, eq-eqb _ _ g)
+
+module _ (l : List ℕ) (pairs symbols : ℕ) where
+  pub no-edge-before : {k : ℕ} → k ≡ 0 → true ≡ above (edgeAt l pairs symbols) k
+  unfolding above
+  no-edge-before e = rw e
+
+  pub above-is : (k : ℕ) {e f : Edge} {b : Bool} → (k ≡ 0 → ⊥) → e ≡ held (edgeAt l pairs symbols (k - 1)) → f ≡ held (edgeAt l pairs symbols k) → b ≡ own.edgeLess (meant e) (meant f)
+      → b ≡ above (edgeAt l pairs symbols) k
+  unfolding above
+  above-is zero h d g i = absurd (h refl)
+  above-is (suc k) h d g i = let q : suc k - 1 ≡ k = omega arith in i ∙ rw (d, g, q)

@@ -1,0 +1,134 @@
+use native.Mathlib.Omega.{arith}
+use Rattle.section_file.proofs.Steps.{step-read, froms-few, tos-few, inside-wrong, from-vertices, to-vertices, the-symbols, above-wrong, onward-wrong, inward-wrong, forward-wrong, by-backward}
+use borrow.Author.Needs.{needs}
+use Rattle.section_file.proofs.step_right.Statement.{statement}
+use Rattle.section_file.proofs.step_right.Tie as tie
+
+add-number : tie.Need-add-number
+add-number c = search needs
+
+add-number-2 : tie.Need-add-number-2
+add-number-2 c = search needs
+
+number-requires : tie.Need-number-requires
+number-requires c κs = search needs
+
+wide-requires : tie.Need-wide-requires
+wide-requires c κs = search needs
+
+add-number-3 : tie.Need-add-number-3
+add-number-3 c = search needs
+
+number-requires-2 : tie.Need-number-requires-2
+number-requires-2 c κs = search needs
+
+add-number-4 : tie.Need-add-number-4
+add-number-4 c = search needs
+
+add-number-5 : tie.Need-add-number-5
+add-number-5 c = search needs
+
+number-requires-3 : tie.Need-number-requires-3
+number-requires-3 c κs = search needs
+
+number-requires-4 : tie.Need-number-requires-4
+number-requires-4 c κs = search needs
+
+all-inside-requires : tie.Need-all-inside-requires
+all-inside-requires c κs = let m = c in let n3 = m .before in let n2 = n3 .before in let w = n2 .before in let n = w .before in let r = step-read (n .before .before .pre) (n .number .ensures) (w .wide .ensures) (n2 .number2 .ensures) (n3 .number3 .ensures) (m .number4 .ensures) in
+    (omega (arith, r .at .pairsTo), omega (arith, r .at .symbolsTo), r .few)
+
+returns : tie.Need-returns
+returns c = let A = c .before in let m = A .before in let n3 = m .before in let n2 = n3 .before in let w = n2 .before in let n = w .before in let r = step-read (n .before .before .pre) (n .number .ensures) (w .wide .ensures) (n2 .number2 .ensures) (n3 .number3 .ensures) (m .number4 .ensures) in
+    inside-wrong r (A .all-inside .ensures) (c .if1 .taken)
+
+all-above-requires : tie.Need-all-above-requires
+all-above-requires c κs = let e1 = c in let A = e1 .before in let m = A .before in let n3 = m .before in let n2 = n3 .before in let w = n2 .before in let n = w .before in let r = step-read (n .before .before .pre) (n .number .ensures) (w .wide .ensures) (n2 .number2 .ensures) (n3 .number3 .ensures) (m .number4 .ensures) in
+    (omega (arith, r .at .pairsTo), omega (arith, r .at .symbolsTo), r .few)
+
+returns-2 : tie.Need-returns-2
+returns-2 c = let AA = c .before in let e1 = AA .before in let A = e1 .before in let m = A .before in let n3 = m .before in let n2 = n3 .before in let w = n2 .before in let n = w .before in let r = step-read (n .before .before .pre) (n .number .ensures) (w .wide .ensures) (n2 .number2 .ensures) (n3 .number3 .ensures) (m .number4 .ensures) in
+    above-wrong r (A .all-inside .ensures) (e1 .if1 .left) (AA .all-above .ensures) (c .if2 .taken)
+
+wide-requires-2 : tie.Need-wide-requires-2
+wide-requires-2 c κs = search needs
+
+covers-requires : tie.Need-covers-requires
+covers-requires c κs = let w2 = c in let e2 = w2 .before in let AA = e2 .before in let e1 = AA .before in let A = e1 .before in let m = A .before in let n3 = m .before in let n2 = n3 .before in let w = n2 .before in let n = w .before in let r = step-read (n .before .before .pre) (n .number .ensures) (w .wide .ensures) (n2 .number2 .ensures) (n3 .number3 .ensures) (m .number4 .ensures) in
+    (from-vertices r (A .all-inside .ensures) (e1 .if1 .left), omega (arith, froms-few r, w2 .wide2 .ensures .0))
+
+returns-3 : tie.Need-returns-3
+returns-3 c = let C = c .before in let w2 = C .before in let e2 = w2 .before in let AA = e2 .before in let e1 = AA .before in let A = e1 .before in let m = A .before in let n3 = m .before in let n2 = n3 .before in let w = n2 .before in let n = w .before in let r = step-read (n .before .before .pre) (n .number .ensures) (w .wide .ensures) (n2 .number2 .ensures) (n3 .number3 .ensures) (m .number4 .ensures) in
+    onward-wrong r (A .all-inside .ensures) (e1 .if1 .left) (AA .all-above .ensures) (e2 .if2 .left) (w2 .wide2 .ensures) (C .covers .ensures) (c .if3 .taken)
+
+add-covers : tie.Need-add-covers
+add-covers c = search needs
+
+wide-requires-3 : tie.Need-wide-requires-3
+wide-requires-3 c κs = search needs
+
+covers-requires-2 : tie.Need-covers-requires-2
+covers-requires-2 c κs = let w3 = c in let e3 = w3 .before in let C = e3 .before in let w2 = C .before in let e2 = w2 .before in let AA = e2 .before in let e1 = AA .before in let A = e1 .before in let m = A .before in let n3 = m .before in let n2 = n3 .before in let w = n2 .before in let n = w .before in let r = step-read (n .before .before .pre) (n .number .ensures) (w .wide .ensures) (n2 .number2 .ensures) (n3 .number3 .ensures) (m .number4 .ensures) in
+    (to-vertices r (A .all-inside .ensures) (e1 .if1 .left), omega (arith, tos-few r, w3 .wide3 .ensures .0))
+
+returns-4 : tie.Need-returns-4
+returns-4 c = let C2 = c .before in let w3 = C2 .before in let e3 = w3 .before in let C = e3 .before in let w2 = C .before in let e2 = w2 .before in let AA = e2 .before in let e1 = AA .before in let A = e1 .before in let m = A .before in let n3 = m .before in let n2 = n3 .before in let w = n2 .before in let n = w .before in let r = step-read (n .before .before .pre) (n .number .ensures) (w .wide .ensures) (n2 .number2 .ensures) (n3 .number3 .ensures) (m .number4 .ensures) in
+    inward-wrong r (A .all-inside .ensures) (e1 .if1 .left) (AA .all-above .ensures) (e2 .if2 .left) (w2 .wide2 .ensures) (C .covers .ensures) (e3 .if3 .left) (w3 .wide3 .ensures) (C2 .covers2 .ensures) (c .if4 .taken)
+
+add-twins-right : tie.Need-add-twins-right
+add-twins-right c = search needs
+
+add-twins-right-2 : tie.Need-add-twins-right-2
+add-twins-right-2 c = search needs
+
+twins-right-requires : tie.Need-twins-right-requires
+twins-right-requires c κs = let e4 = c in let C2 = e4 .before in let w3 = C2 .before in let e3 = w3 .before in let C = e3 .before in let w2 = C .before in let e2 = w2 .before in let AA = e2 .before in let e1 = AA .before in let A = e1 .before in let m = A .before in let n3 = m .before in let n2 = n3 .before in let w = n2 .before in let n = w .before in let r = step-read (n .before .before .pre) (n .number .ensures) (w .wide .ensures) (n2 .number2 .ensures) (n3 .number3 .ensures) (m .number4 .ensures) in
+    (from-vertices r (A .all-inside .ensures) (e1 .if1 .left), to-vertices r (A .all-inside .ensures) (e1 .if1 .left), the-symbols r (A .all-inside .ensures) (e1 .if1 .left))
+
+returns-5 : tie.Need-returns-5
+returns-5 c = let T = c .before in let e4 = T .before in let C2 = e4 .before in let w3 = C2 .before in let e3 = w3 .before in let C = e3 .before in let w2 = C .before in let e2 = w2 .before in let AA = e2 .before in let e1 = AA .before in let A = e1 .before in let m = A .before in let n3 = m .before in let n2 = n3 .before in let w = n2 .before in let n = w .before in let r = step-read (n .before .before .pre) (n .number .ensures) (w .wide .ensures) (n2 .number2 .ensures) (n3 .number3 .ensures) (m .number4 .ensures) in
+    forward-wrong r (A .all-inside .ensures) (e1 .if1 .left) (AA .all-above .ensures) (e2 .if2 .left) (w2 .wide2 .ensures) (C .covers .ensures) (e3 .if3 .left) (w3 .wide3 .ensures) (C2 .covers2 .ensures) (e4 .if4 .left) (T .twins-right .ensures) (c .if5 .taken)
+
+add-twins-right-3 : tie.Need-add-twins-right-3
+add-twins-right-3 c = search needs
+
+twins-right-requires-2 : tie.Need-twins-right-requires-2
+twins-right-requires-2 c κs = let e5 = c in let T = e5 .before in let e4 = T .before in let C2 = e4 .before in let w3 = C2 .before in let e3 = w3 .before in let C = e3 .before in let w2 = C .before in let e2 = w2 .before in let AA = e2 .before in let e1 = AA .before in let A = e1 .before in let m = A .before in let n3 = m .before in let n2 = n3 .before in let w = n2 .before in let n = w .before in let r = step-read (n .before .before .pre) (n .number .ensures) (w .wide .ensures) (n2 .number2 .ensures) (n3 .number3 .ensures) (m .number4 .ensures) in
+    (to-vertices r (A .all-inside .ensures) (e1 .if1 .left), from-vertices r (A .all-inside .ensures) (e1 .if1 .left), the-symbols r (A .all-inside .ensures) (e1 .if1 .left))
+
+returns-6 : tie.Need-returns-6
+returns-6 c = let e5 = c .before in let T = e5 .before in let e4 = T .before in let C2 = e4 .before in let w3 = C2 .before in let e3 = w3 .before in let C = e3 .before in let w2 = C .before in let e2 = w2 .before in let AA = e2 .before in let e1 = AA .before in let A = e1 .before in let m = A .before in let n3 = m .before in let n2 = n3 .before in let w = n2 .before in let n = w .before in let r = step-read (n .before .before .pre) (n .number .ensures) (w .wide .ensures) (n2 .number2 .ensures) (n3 .number3 .ensures) (m .number4 .ensures) in
+    by-backward r (A .all-inside .ensures) (e1 .if1 .left) (AA .all-above .ensures) (e2 .if2 .left) (w2 .wide2 .ensures) (C .covers .ensures) (e3 .if3 .left) (w3 .wide3 .ensures) (C2 .covers2 .ensures) (e4 .if4 .left) (T .twins-right .ensures) (e5 .if5 .left) (c .twins-right2 .ensures)
+
+pub step-right-spec : {M : Type 1} → statement M
+step-right-spec =
+    tie.close
+    (tie.spec
+    add-number
+    add-number-2
+    number-requires
+    wide-requires
+    add-number-3
+    number-requires-2
+    add-number-4
+    add-number-5
+    number-requires-3
+    number-requires-4
+    all-inside-requires
+    returns
+    all-above-requires
+    returns-2
+    wide-requires-2
+    covers-requires
+    returns-3
+    add-covers
+    wide-requires-3
+    covers-requires-2
+    returns-4
+    add-twins-right
+    add-twins-right-2
+    twins-right-requires
+    returns-5
+    add-twins-right-3
+    twins-right-requires-2
+    returns-6)

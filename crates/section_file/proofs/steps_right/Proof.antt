@@ -1,0 +1,81 @@
+use native.Mathlib.Omega.{arith}
+use Prim.Native.Nat.{_-_}
+use Rattle.section_file.proofs.Tests.{passed-fails, passed-all}
+use Rattle.section_file.proofs.Steps.{InSteps, steps-start, step-at, steps-next}
+use borrow.Author.Needs.{needs}
+use Rattle.section_file.proofs.steps_right.Statement.{statement}
+use Rattle.section_file.proofs.steps_right.Tie as tie
+
+abbrev Inv-loop : tie.InvT-loop
+Inv-loop l n pairs symbols before₀ t₀ before t = InSteps l n before t
+
+abbrev μ-loop : tie.MeasureT-loop
+μ-loop l n pairs symbols before₀ t₀ before t = n - t
+
+loop-holds : tie.Need-loop-holds Inv-loop μ-loop
+loop-holds c = steps-start _ _
+
+mul-step-right : tie.Need-mul-step-right Inv-loop μ-loop
+mul-step-right c = search needs
+
+add-step-right : tie.Need-add-step-right Inv-loop μ-loop
+add-step-right c = search needs
+
+add-step-right-2 : tie.Need-add-step-right-2 Inv-loop μ-loop
+add-step-right-2 c = search needs
+
+step-right-requires : tie.Need-step-right-requires Inv-loop μ-loop
+step-right-requires c κs = let p = c .before .before .before .pre in step-at (p .0) (p .1) (p .2) (p .3) (p .4) (c .before .loop .inv) (c .loop-test .taken)
+
+returns : tie.Need-returns Inv-loop μ-loop
+returns c = let h = c .before .before in passed-fails (h .before .loop .inv .passed) (h .loop-test .taken) (c .before .step-right .ensures) (c .if1 .taken)
+
+add-number : tie.Need-add-number Inv-loop μ-loop
+add-number c = search needs
+
+add-number-2 : tie.Need-add-number-2 Inv-loop μ-loop
+add-number-2 c = search needs
+
+number-requires : tie.Need-number-requires Inv-loop μ-loop
+number-requires c κs = search needs
+
+wide-requires : tie.Need-wide-requires Inv-loop μ-loop
+wide-requires c κs = search needs
+
+add-before : tie.Need-add-before Inv-loop μ-loop
+add-before c = search needs
+
+add-t : tie.Need-add-t Inv-loop μ-loop
+add-t c = search needs
+
+loop-less : tie.Need-loop-less Inv-loop μ-loop
+loop-less c = search needs
+
+loop-again : tie.Need-loop-again Inv-loop μ-loop
+loop-again c = let e = c .before .before in let h = e .before .before in
+    steps-next (h .before .before .before .pre .0) (h .before .loop .inv) (h .loop-test .taken) (e .before .step-right .ensures) (e .if1 .left) (c .before .number .ensures) (c .wide .ensures)
+
+returns-2 : tie.Need-returns-2 Inv-loop μ-loop
+returns-2 c = passed-all (c .before .loop .inv .passed) (search needs)
+
+pub steps-right-spec : {M : Type 1} → statement M
+steps-right-spec =
+    tie.close
+    (tie.spec
+    Inv-loop
+    μ-loop
+    loop-holds
+    mul-step-right
+    add-step-right
+    add-step-right-2
+    step-right-requires
+    returns
+    add-number
+    add-number-2
+    number-requires
+    wide-requires
+    add-before
+    add-t
+    loop-less
+    loop-again
+    returns-2)

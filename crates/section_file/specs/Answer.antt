@@ -1,0 +1,26 @@
+-- The answers of this crate: the part of a slice that a usable section takes up, and edges as the code holds them.
+use mathlib.Core.Bool.{cond}
+use mathlib.Core.List.{List}
+use Prim.Native.Nat.{ℕ, _+_, _*_}
+use lib.ListN.{getD}
+use Rattle.trellis.specs.Own as own
+use Rattle.trellis.specs.Layout.{sectionLength}
+use Rattle.section_file.specs.Usable.{usable}
+use Rattle.section_file.specs.declared.Part.{Part}
+use Rattle.section_file.specs.declared.Part.the-variants.{Usable, Unusable}
+use Rattle.section_file.specs.declared.Edge.{Edge}
+
+-- the section at the front of a list: usable, with its length, or not
+unfoldable pub partOf : List ℕ → Part
+partOf l = cond (usable l) (Usable (sectionLength l)) Unusable
+
+-- edge k of those whose pairs begin at one place and whose symbols begin at another
+abbrev pub edgeAt : List ℕ → ℕ → ℕ → ℕ → own.Edge
+edgeAt l pairs symbols k = own.edge (getD l (pairs + 2 * k) 0) (getD l (symbols + k) 0) (getD l (pairs + 1 + 2 * k) 0)
+
+-- an edge of the theory as the code holds it, and back
+abbrev pub held : own.Edge → Edge
+held e = record { from = e .from; symbol = e .symbol; to = e .to }
+
+abbrev pub meant : Edge → own.Edge
+meant e = own.edge (e .from) (e .symbol) (e .to)

@@ -1,0 +1,419 @@
+// Which sections are usable, by document 01: `usable_at` answers for the section that starts at any place of a slice, whatever numbers the slice has.
+// It looks at each number a few times, with fixed arrays of marks, and promises an equation with the definition of usable.
+ghost use mathlib.Core.Path.{_≡_};
+ghost use mathlib.Core.Bool.{not, _||_, _&&_};
+ghost use Prim.Native.Nat.{_+_, _*_, _<_, _≤_};
+ghost use lib.Dec.{ltb, eqb};
+ghost use lib.ListN.{length, getD, drop};
+ghost use Rattle.trellis.specs.Lists.{sum};
+ghost use Rattle.trellis.specs.Own.{edgeLess};
+ghost use Rattle.trellis.specs.Layout.{nOf, rootsPlace, goalsPlace, pairsPlace, symbolsPlace};
+ghost use Rattle.section_file.specs.Usable.{all, within, higher, rising, inside, above, covered, noTwins, sizesRight, countsRight, statesRight, stepRight};
+ghost use Rattle.section_file.specs.Places.{PlacesOf, Counted, StepAt, Vertices, Symbols, Marks};
+ghost use Rattle.section_file.specs.Answer.{partOf, edgeAt, held, meant};
+
+// The part of a slice that a usable section takes up is as long as its counts say.
+pub enum Part {
+    Usable(usize),
+    Unusable,
+}
+
+struct Edge {
+    from: u16,
+    symbol: u16,
+    to: u16,
+}
+
+struct Places {
+    roots: usize,
+    goals: usize,
+    pairs: usize,
+    symbols: usize,
+    end: usize,
+}
+
+fn wide(x: u16) -> usize
+    ensures { λ r. ⌜ (r ≡ x) × (r < 65536) ⌝ }
+{
+    x as usize
+}
+
+// A number past the end reads as 0, so that every check is total.
+fn number(l: &[u16], i: usize) -> u16
+    ensures { λ r. ⌜ r ≡ getD (now (l .entry)) i 0 ⌝ }
+{
+    if i < l.len() { l[i] } else { 0 }
+}
+
+fn is_within(low: u16, high: u16, x: u16) -> bool
+    ensures { λ r. ⌜ r ≡ within low high x ⌝ }
+{
+    if x < low { false } else { x <= high }
+}
+
+fn sizes_right(l: &[u16]) -> bool
+    ensures { λ r. ⌜ r ≡ sizesRight (now (l .entry)) ⌝ }
+{
+    if !is_within(2, 4, number(l, 0)) {
+        return false;
+    }
+    if !is_within(1, 8, number(l, 1)) {
+        return false;
+    }
+    is_within(1, 64, number(l, 2))
+}
+
+// Whether the numbers from a place on are all 1 to 1,024.
+fn all_counts(l: &[u16], at: usize, count: usize) -> bool
+    requires { ⌜ (at ≤ 100) × (count ≤ 100) ⌝ }
+    ensures { λ r. ⌜ r ≡ all (λ t. within 1 1024 (getD (now (l .entry)) (at + t) 0)) count ⌝ }
+{
+    let mut t: usize = 0;
+    while t < count {
+        if !is_within(1, 1024, number(l, at + t)) {
+            return false;
+        }
+        t += 1;
+    }
+    true
+}
+
+fn counts_right(l: &[u16], n: usize) -> bool
+    requires { ⌜ (n ≡ nOf (now l)) × (n ≤ 8) ⌝ }
+    ensures { λ r. ⌜ r ≡ countsRight (now (l .entry)) ⌝ }
+{
+    if !all_counts(l, 3, n + 1) {
+        return false;
+    }
+    all_counts(l, 4 + n, n)
+}
+
+fn total(l: &[u16], at: usize, count: usize) -> usize
+    requires { ⌜ (at ≤ 100) × (count ≤ 8) ⌝ }
+    ensures { λ r. ⌜ (r ≡ sum (λ t. getD (now (l .entry)) (at + t) 0) 0 count) × (r ≤ 65535 * count) ⌝ }
+{
+    let mut sum: usize = 0;
+    let mut t: usize = 0;
+    while t < count {
+        sum += wide(number(l, at + t));
+        t += 1;
+    }
+    sum
+}
+
+fn places_of(l: &[u16], n: usize) -> Places
+    requires { ⌜ (n ≡ nOf (now l)) × (n ≤ 8) ⌝ }
+    ensures { λ r. ⌜ PlacesOf (now (l .entry)) (r .roots) (r .goals) (r .pairs) (r .symbols) (r .end) ⌝ }
+{
+    let edges = total(l, 4 + n, n);
+    let roots = 4 + 2 * n;
+    let goals = roots + wide(number(l, 3));
+    let pairs = goals + wide(number(l, 3 + n));
+    let symbols = pairs + 2 * edges;
+    let end = symbols + edges;
+    Places {
+        roots,
+        goals,
+        pairs,
+        symbols,
+        end,
+    }
+}
+
+// Whether vertex v has a state above that of the vertex before it.
+fn is_higher(l: &[u16], at: usize, v: usize) -> bool
+    requires { ⌜ (at ≤ 4000000) × (v ≤ 1024) ⌝ }
+    ensures { λ r. ⌜ r ≡ higher (λ u. getD (now (l .entry)) (at + u) 0) v ⌝ }
+{
+    if v == 0 {
+        return true;
+    }
+    number(l, at + (v - 1)) < number(l, at + v)
+}
+
+fn state_right(l: &[u16], at: usize, v: usize, bound: u16) -> bool
+    requires { ⌜ (at ≤ 4000000) × (v ≤ 1024) ⌝ }
+    ensures { λ r. ⌜ r ≡ (ltb (getD (now (l .entry)) (at + v) 0) bound && higher (λ u. getD (now (l .entry)) (at + u) 0) v) ⌝ }
+{
+    if number(l, at + v) >= bound {
+        return false;
+    }
+    is_higher(l, at, v)
+}
+
+fn is_rising(l: &[u16], at: usize, count: usize, bound: u16) -> bool
+    requires { ⌜ (at ≤ 4000000) × (count ≤ 1024) ⌝ }
+    ensures { λ r. ⌜ r ≡ rising (λ v. getD (now (l .entry)) (at + v) 0) count bound ⌝ }
+{
+    let mut v: usize = 0;
+    while v < count {
+        if !state_right(l, at, v, bound) {
+            return false;
+        }
+        v += 1;
+    }
+    true
+}
+
+fn states_right(l: &[u16], n: usize, roots: usize, goals: usize) -> bool
+    requires { ⌜ Counted (now l) n × (roots ≡ rootsPlace (now l)) × (goals ≡ goalsPlace (now l)) × (goals ≤ 4000000) × (roots ≤ 4000000) ⌝ }
+    ensures { λ r. ⌜ r ≡ statesRight (now (l .entry)) ⌝ }
+{
+    let states = number(l, 2);
+    if !is_rising(l, roots, wide(number(l, 3)), states) {
+        return false;
+    }
+    is_rising(l, goals, wide(number(l, 3 + n)), states)
+}
+
+fn edge_at(l: &[u16], pairs: usize, symbols: usize, k: usize) -> Edge
+    requires { ⌜ (pairs ≤ 4000000) × (symbols ≤ 4000000) × (k ≤ 1024) ⌝ }
+    ensures { λ r. ⌜ r ≡ held (edgeAt (now (l .entry)) pairs symbols k) ⌝ }
+{
+    Edge {
+        from: number(l, pairs + 2 * k),
+        symbol: number(l, symbols + k),
+        to: number(l, pairs + 1 + 2 * k),
+    }
+}
+
+fn is_inside(
+    l: &[u16],
+    pairs: usize,
+    symbols: usize,
+    k: usize,
+    q: u16,
+    froms: u16,
+    tos: u16,
+) -> bool
+    requires { ⌜ (pairs ≤ 4000000) × (symbols ≤ 4000000) × (k ≤ 1024) ⌝ }
+    ensures { λ r. ⌜ r ≡ inside (edgeAt (now (l .entry)) pairs symbols) q froms tos k ⌝ }
+{
+    let e = edge_at(l, pairs, symbols, k);
+    if e.from >= froms {
+        return false;
+    }
+    if e.symbol >= q {
+        return false;
+    }
+    e.to < tos
+}
+
+fn all_inside(
+    l: &[u16],
+    pairs: usize,
+    symbols: usize,
+    count: usize,
+    q: u16,
+    froms: u16,
+    tos: u16,
+) -> bool
+    requires { ⌜ (pairs ≤ 4000000) × (symbols ≤ 4000000) × (count ≤ 1024) ⌝ }
+    ensures { λ r. ⌜ r ≡ all (inside (edgeAt (now (l .entry)) pairs symbols) q froms tos) count ⌝ }
+{
+    let mut k: usize = 0;
+    while k < count {
+        if !is_inside(l, pairs, symbols, k, q, froms, tos) {
+            return false;
+        }
+        k += 1;
+    }
+    true
+}
+
+fn is_less(e: Edge, f: Edge) -> bool
+    ensures { λ r. ⌜ r ≡ edgeLess (meant e) (meant f) ⌝ }
+{
+    if e.from < f.from {
+        return true;
+    }
+    if e.from != f.from {
+        return false;
+    }
+    if e.symbol < f.symbol {
+        return true;
+    }
+    if e.symbol != f.symbol {
+        return false;
+    }
+    e.to < f.to
+}
+
+// Whether edge k is above the edge before it.
+fn is_above(l: &[u16], pairs: usize, symbols: usize, k: usize) -> bool
+    requires { ⌜ (pairs ≤ 4000000) × (symbols ≤ 4000000) × (k ≤ 1024) ⌝ }
+    ensures { λ r. ⌜ r ≡ above (edgeAt (now (l .entry)) pairs symbols) k ⌝ }
+{
+    if k == 0 {
+        return true;
+    }
+    is_less(
+        edge_at(l, pairs, symbols, k - 1),
+        edge_at(l, pairs, symbols, k),
+    )
+}
+
+fn all_above(l: &[u16], pairs: usize, symbols: usize, count: usize) -> bool
+    requires { ⌜ (pairs ≤ 4000000) × (symbols ≤ 4000000) × (count ≤ 1024) ⌝ }
+    ensures { λ r. ⌜ r ≡ all (above (edgeAt (now (l .entry)) pairs symbols)) count ⌝ }
+{
+    let mut k: usize = 0;
+    while k < count {
+        if !is_above(l, pairs, symbols, k) {
+            return false;
+        }
+        k += 1;
+    }
+    true
+}
+
+fn marks(l: &[u16], at: usize, count: usize) -> [u8; 1024]
+    requires { ⌜ Vertices (now l) at count ⌝ }
+    ensures { λ r. ⌜ Marks (λ k. getD (now (l .entry)) (at + 2 * k) 0) count r ⌝ }
+{
+    let mut marks = [0u8; 1024];
+    let mut k: usize = 0;
+    while k < count {
+        let v = wide(number(l, at + 2 * k));
+        marks[v] = 1;
+        k += 1;
+    }
+    marks
+}
+
+// Whether each vertex stands among the numbers at every second place.
+fn covers(l: &[u16], at: usize, count: usize, vertices: usize) -> bool
+    requires { ⌜ Vertices (now l) at count × (vertices ≤ 1024) ⌝ }
+    ensures { λ r. ⌜ r ≡ covered (λ k. getD (now (l .entry)) (at + 2 * k) 0) count vertices ⌝ }
+{
+    let marks = marks(l, at, count);
+    let mut v: usize = 0;
+    while v < vertices {
+        if marks[v] == 0 {
+            return false;
+        }
+        v += 1;
+    }
+    true
+}
+
+// Whether a vertex was seen, and was another one. What is seen is kept as one more than the vertex.
+fn differs(seen: u16, vertex: u16) -> bool
+    requires { ⌜ vertex < 1024 ⌝ }
+    ensures { λ r. ⌜ r ≡ (not (eqb seen 0) && not (eqb seen (vertex + 1))) ⌝ }
+{
+    if seen == 0 {
+        return false;
+    }
+    seen != vertex + 1
+}
+
+// Whether edges that share a symbol and the vertex at the one end share the vertex at the other end.
+fn without_twins(l: &[u16], one: usize, symbols: usize, other: usize, count: usize) -> bool
+    requires { ⌜ Vertices (now l) one count × Vertices (now l) other count × Symbols (now l) symbols count ⌝ }
+    ensures { λ r. ⌜ r ≡ noTwins (λ k. getD (now (l .entry)) (one + 2 * k) 0) (λ k. getD (now (l .entry)) (symbols + k) 0) (λ k. getD (now (l .entry)) (other + 2 * k) 0) count ⌝ }
+{
+    let mut seen = [0u16; 4096];
+    let mut k: usize = 0;
+    while k < count {
+        let slot = 4 * wide(number(l, one + 2 * k)) + wide(number(l, symbols + k));
+        let vertex = number(l, other + 2 * k);
+        if differs(seen[slot], vertex) {
+            return false;
+        }
+        seen[slot] = vertex + 1;
+        k += 1;
+    }
+    true
+}
+
+fn twins_right(
+    inner: bool,
+    l: &[u16],
+    one: usize,
+    symbols: usize,
+    other: usize,
+    count: usize,
+) -> bool
+    requires { ⌜ Vertices (now l) one count × Vertices (now l) other count × Symbols (now l) symbols count ⌝ }
+    ensures { λ r. ⌜ r ≡ (not inner || noTwins (λ k. getD (now (l .entry)) (one + 2 * k) 0) (λ k. getD (now (l .entry)) (symbols + k) 0) (λ k. getD (now (l .entry)) (other + 2 * k) 0) count) ⌝ }
+{
+    if !inner {
+        return true;
+    }
+    without_twins(l, one, symbols, other, count)
+}
+
+fn step_right(l: &[u16], n: usize, t: usize, pairs: usize, symbols: usize) -> bool
+    requires { ⌜ StepAt (now l) n t pairs symbols ⌝ }
+    ensures { λ r. ⌜ r ≡ stepRight (now (l .entry)) t ⌝ }
+{
+    let count = wide(number(l, 4 + n + t));
+    let froms = number(l, 3 + t);
+    let tos = number(l, 3 + (t + 1));
+    if !all_inside(l, pairs, symbols, count, number(l, 0), froms, tos) {
+        return false;
+    }
+    if !all_above(l, pairs, symbols, count) {
+        return false;
+    }
+    if !covers(l, pairs, count, wide(froms)) {
+        return false;
+    }
+    if !covers(l, pairs + 1, count, wide(tos)) {
+        return false;
+    }
+    if !twins_right(t + 1 < n, l, pairs, symbols, pairs + 1, count) {
+        return false;
+    }
+    twins_right(0 < t, l, pairs + 1, symbols, pairs, count)
+}
+
+fn steps_right(l: &[u16], n: usize, pairs: usize, symbols: usize) -> bool
+    requires { ⌜ Counted (now l) n × (pairs ≡ pairsPlace (now l)) × (symbols ≡ symbolsPlace (now l)) × (pairs ≤ 2000000) × (symbols ≤ 2000000) ⌝ }
+    ensures { λ r. ⌜ r ≡ all (stepRight (now (l .entry))) n ⌝ }
+{
+    let mut before: usize = 0;
+    let mut t: usize = 0;
+    while t < n {
+        if !step_right(l, n, t, pairs + 2 * before, symbols + before) {
+            return false;
+        }
+        before += wide(number(l, 4 + n + t));
+        t += 1;
+    }
+    true
+}
+
+// The section at the front of the slice.
+fn front_part(l: &[u16]) -> Part
+    ensures { λ r. ⌜ r ≡ partOf (now (l .entry)) ⌝ }
+{
+    if !sizes_right(l) {
+        return Part::Unusable;
+    }
+    let n = wide(number(l, 1));
+    if !counts_right(l, n) {
+        return Part::Unusable;
+    }
+    let at = places_of(l, n);
+    if l.len() < at.end {
+        return Part::Unusable;
+    }
+    if !states_right(l, n, at.roots, at.goals) {
+        return Part::Unusable;
+    }
+    if !steps_right(l, n, at.pairs, at.symbols) {
+        return Part::Unusable;
+    }
+    Part::Usable(at.end)
+}
+
+pub fn usable_at(s: &[u16], at: usize) -> Part
+    ensures { λ r. ⌜ r ≡ partOf (drop at (now (s .entry))) ⌝ }
+{
+    if s.len() < at {
+        return Part::Unusable;
+    }
+    front_part(&s[at..])
+}

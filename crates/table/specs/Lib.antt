@@ -1,0 +1,4 @@
+-- What a table file says, what holds of an accepted one, and what the functions of this crate answer.
+pub mod File
+pub mod Good
+pub mod Answer
