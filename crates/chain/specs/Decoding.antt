@@ -28,6 +28,10 @@ left o costs labels goals = record { answer = o; costs = costs; labels = labels;
 abbrev pub over : List ℕ → List ℕ → List ℕ
 over vs buffer = vs ++ drop (length vs) buffer
 
+-- the length that the first short buffer needs: the cost table 64·B, the labels B, the goals B; 0 where none is short
+unfoldable pub neededOf : ℕ → ℕ → ℕ → ℕ → ℕ
+neededOf blocks costs labels goals = cond (ltb costs (64 * blocks)) (64 * blocks) (cond (ltb labels blocks) blocks (cond (ltb goals blocks) blocks 0))
+
 module _ (sections : List ℕ) (k : ℕ) (indices received erased : List ℕ) (start end : ℕ) where
   -- the first path of least distance from the start state to the end state
   unfoldable pub bestOf : Choice (List Word)
@@ -52,9 +56,9 @@ module _ (sections : List ℕ) (k : ℕ) (indices received erased : List ℕ) (s
     -- 10: the first short buffer
     unfoldable pub fitted : Decoding
     fitted =
-        cond (ltb (length costs) (64 * length indices)) (left (shortBuffer (64 * length indices)) costs labels goals)
-        (cond (ltb (length labels) (length indices)) (left (shortBuffer (length indices)) costs labels goals)
-        (cond (ltb (length goals) (length indices)) (left (shortBuffer (length indices)) costs labels goals) (found bestOf)))
+        cond (ltb 0 (neededOf (length indices) (length costs) (length labels) (length goals)))
+        (left (shortBuffer (neededOf (length indices) (length costs) (length labels) (length goals))) costs labels goals)
+        (found bestOf)
 
     -- 9: a length or a state, else the first bad block
     unfoldable pub framed : Decoding

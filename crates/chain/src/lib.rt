@@ -8,8 +8,8 @@ ghost use Rattle.trellis.specs.Lists.{first};
 ghost use Rattle.trellis.specs.Layout.{sectionLength};
 ghost use Rattle.section_file.specs.Usable.{usable, within};
 ghost use Rattle.chain.specs.Frame.{frameBad, blockBad};
-ghost use Rattle.chain.specs.Decoding.{left, decoding};
-ghost use Rattle.chain.specs.Answer.{decodedOutcome};
+ghost use Rattle.chain.specs.Decoding.{left, neededOf, decoding};
+ghost use Rattle.chain.specs.Answer.{decodedOutcome, partLength};
 ghost use Rattle.chain.specs.Meaning.{Meaning};
 ghost use Rattle.chain.specs.Loops.{Found, FirstUnusable};
 
@@ -43,14 +43,20 @@ fn is_within(low: usize, high: usize, x: usize) -> bool
     if x < low { false } else { x <= high }
 }
 
-// The length of the section that begins at a place, or 0 where it is unusable.
-fn length_at(sections: &[u16], at: usize) -> usize
-    ensures { λ r. ⌜ r ≡ cond (usable (drop at (now (sections .entry)))) (sectionLength (drop at (now (sections .entry)))) 0 ⌝ }
+// The length of a part, or 0 where it is unusable.
+fn length_of(part: Part) -> usize
+    ensures { λ r. ⌜ r ≡ partLength part ⌝ }
 {
-    match section_file::usable_at(sections, at) {
+    match part {
         Part::Usable(length) => length,
         Part::Unusable => 0,
     }
+}
+
+fn length_at(sections: &[u16], at: usize) -> usize
+    ensures { λ r. ⌜ r ≡ cond (usable (drop at (now (sections .entry)))) (sectionLength (drop at (now (sections .entry)))) 0 ⌝ }
+{
+    length_of(section_file::usable_at(sections, at))
 }
 
 // The first unusable section, or k, and the places where the sections before it and the next one begin.
@@ -119,6 +125,20 @@ fn first_bad(sections: &[u16], starts: &[usize; 17], k: usize, indices: &[u8], r
     b
 }
 
+// The length that the first short buffer needs, or 0.
+fn needed(blocks: usize, costs: usize, labels: usize, goals: usize) -> usize
+    requires { ⌜ blocks ≤ 256 ⌝ }
+    ensures { λ r. ⌜ r ≡ neededOf blocks costs labels goals ⌝ }
+{
+    if costs < 64 * blocks {
+        return 64 * blocks;
+    }
+    if labels < blocks {
+        return blocks;
+    }
+    if goals < blocks { blocks } else { 0 }
+}
+
 pub fn decode(
     sections: &[u16],
     k: usize,
@@ -153,14 +173,9 @@ pub fn decode(
     if bad < blocks {
         return Decoded::Block(bad);
     }
-    if costs.len() < 64 * blocks {
-        return Decoded::Short(64 * blocks);
-    }
-    if labels.len() < blocks {
-        return Decoded::Short(blocks);
-    }
-    if goals.len() < blocks {
-        return Decoded::Short(blocks);
+    let short = needed(blocks, costs.len(), labels.len(), goals.len());
+    if short > 0 {
+        return Decoded::Short(short);
     }
     passes::fill_table(sections, &starts, indices, received, erased, widened(end), costs);
     if costs[widened(start)] == TOP {
