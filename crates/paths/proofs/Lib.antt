@@ -7,6 +7,7 @@ pub mod Capped
 pub mod Trace
 pub mod Sections
 pub mod Ascent
+pub mod Packed
 pub mod Words
 pub mod Chain
 pub mod Winner

@@ -7,6 +7,7 @@ use mathlib.Core.Logic.{_⊎_}
 use mathlib.Core.List.{List, [], _∷_}
 use Prim.Native.Nat.{ℕ, suc, _+_, _≤_}
 use lib.Dec.{eqb}
+use lib.ListN.{length}
 use Rattle.trellis.specs.Lists.{_∈_, keep}
 use Rattle.trellis.specs.Word.{Word, Before}
 use Rattle.paths.specs.Choice.{Choice, best}
@@ -54,6 +55,11 @@ module _ (words : ℕ → List Word) (ends : ℕ → Bool) (dist : ℕ → Word 
 abbrev pub Linked : (ℕ → List Word) → (ℕ → Bool) → ℕ → ℕ → List Word → Type 0
 Linked words ends b s [] = ends s ≡ true
 Linked words ends b s (w ∷ ws) = (w ∈ words b) × (w .root ≡ s) × Linked words ends (suc b) (w .goal) ws
+
+-- so it is a path of k words
+pub record IsPath (words : ℕ → List Word) (ends : ℕ → Bool) (k b s : ℕ) (p : List Word) : Type 0 where
+  pub long : length p ≡ k
+  pub linked : Linked words ends b s p
 
 -- ---- order: words compared block by block, from the first block on
 

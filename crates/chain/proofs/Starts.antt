@@ -1,0 +1,188 @@
+-- Sections one behind another: a usable section's length is not 0 and it is there whole, so the next one begins within the list or at its end.
+use mathlib.Core.Path.{_≡_, refl, sym, ap, subst, _∙_}
+use mathlib.Core.Bool.{Bool, true, false, cond, not, _||_}
+use mathlib.Core.List.{List}
+use Prim.Native.Nat.{ℕ, zero, suc, _+_, _-_, _*_, _≤_, _<_}
+use native.Mathlib.Nat.{not-suc-le-zero, le-of-eq}
+use native.Mathlib.Decide.{ℕ-discrete, decLe}
+use native.Mathlib.Numerals.{add-one}
+use native.Mathlib.Omega.{arith}
+use lib.Dec.{T, ltb, eqb}
+use lib.ListN.{length, getD, take, drop, set, length-set, length-drop}
+use lib.Seq.{getD-set-same, getD-set-other, take-all}
+use borrow.Author.Tests.{lt-ltb, le-ltb, eq-eqb, ne-eqb, not-true, not-false}
+use Rattle.trellis.specs.Lists.{first}
+use Rattle.trellis.specs.Layout.{nOf, rootsPlace, goalsPlace, pairsPlace, symbolsPlace, sectionLength}
+use Rattle.trellis.proofs.Bools.{holds, fails, is-true, is-false, settle}
+use Rattle.trellis.proofs.Lists.{First, first-is}
+use Rattle.section_file.specs.Usable.{usable, within}
+use Rattle.section_file.specs.Sound.{Sound}
+use Rattle.section_file.specs.Answer.{partOf}
+use Rattle.section_file.specs.declared.Part.{Part}
+use Rattle.section_file.specs.declared.Part.the-variants.{Usable, Unusable}
+use Rattle.section_file.proofs.Usable.{usable-sound}
+use Rattle.chain.specs.Sections.{sectionStart, sectionAt, unusable, sectionsBad, badSectionOf}
+use Rattle.chain.specs.Answer.{partLength}
+use Rattle.chain.specs.Loops.{Found, InSections, FirstUnusable}
+
+-- ---- the length that was read
+
+pub part-length : (l : List ℕ) {p : Part} {n : ℕ} → p ≡ partOf l → n ≡ partLength p → n ≡ cond (usable l) (sectionLength l) 0
+unfolding partOf
+part-length l e h = h ∙ ap partLength e ∙ go (usable l)
+  where
+    go : (b : Bool) → partLength (cond b (Usable (sectionLength l)) Unusable) ≡ cond b (sectionLength l) 0
+    go true = refl
+    go false = refl
+
+long-enough : (l : List ℕ) → 4 ≤ sectionLength l
+unfolding sectionLength symbolsPlace pairsPlace goalsPlace rootsPlace
+long-enough l = omega arith
+
+-- a length other than 0 is that of a usable section, which is there whole
+record Sized (l : List ℕ) (n : ℕ) : Type 0 where
+  is : usable l ≡ true
+  long : n ≡ sectionLength l
+  whole : n ≤ length l
+
+sized : (l : List ℕ) {n : ℕ} → n ≡ cond (usable l) (sectionLength l) 0 → (n ≡ 0 → ⊥) → Sized l n
+sized l {n} e h = go (usable l) refl e
+  where
+    go : (b : Bool) → usable l ≡ b → n ≡ cond b (sectionLength l) 0 → Sized l n
+    go true u k = record { is = u; long = k; whole = let w = usable-sound l u .whole in omega arith }
+    go false u k = absurd (h k)
+
+none-sized : (l : List ℕ) {n : ℕ} → n ≡ cond (usable l) (sectionLength l) 0 → n ≡ 0 → usable l ≡ true → ⊥
+none-sized l {n} e h u = let z = e ∙ ap (λ b. cond b (sectionLength l) 0) u in let w = long-enough l in omega arith
+
+-- ---- the loop
+
+pub starts-start : {sections : List ℕ} {k : ℕ} (starts : List ℕ) → length starts ≡ 17 → InSections sections (set starts 0 0) k 0 0
+unfolding sectionStart
+starts-start {sections} starts h = record {
+  i-le = omega arith;
+  found = record {
+    long = simp length-set h;
+    at = λ j l. let e : j ≡ 0 = omega arith in subst (λ x. getD (set starts 0 0) x 0 ≡ sectionStart sections x) (sym e) (getD-set-same starts 0 0 0 (omega arith));
+    usable-before = λ j l. absurd (not-suc-le-zero l);
+    inside = omega arith;
+  };
+  at-is = refl;
+}
+
+module _ {sections starts : List ℕ} {k i at n : ℕ} (I : InSections sections starts k i at) (e : n ≡ cond (usable (drop at sections)) (sectionLength (drop at sections)) 0) where
+  here : n ≡ cond (usable (sectionAt sections i)) (sectionLength (sectionAt sections i)) 0
+  unfolding sectionAt
+  here = e ∙ ap (λ x. cond (usable (drop x sections)) (sectionLength (drop x sections)) 0) (I .at-is)
+
+  pub starts-found : i < k → n ≡ 0 → FirstUnusable sections starts k i
+  starts-found h z = record { r-le = I .i-le; found = I .found; unusable-at = λ l. none-sized (sectionAt sections i) here z }
+
+  next-fits : (n ≡ 0 → ⊥) → sectionStart sections i + n ≤ length sections
+  unfolding sectionAt
+  next-fits z =
+      let S = sized (sectionAt sections i) here z in
+      let w = S .whole in
+      let d = length-drop (sectionStart sections i) sections in
+      let p = I .found .inside in
+      omega arith
+
+  pub starts-fit : (n ≡ 0 → ⊥) → at + n ≤ length sections
+  starts-fit z = let f = next-fits z in let a = I .at-is in omega arith
+
+  pub starts-more : k ≤ 16 → i < k → (n ≡ 0 → ⊥) → InSections sections (set starts (i + 1) (at + n)) k (i + 1) (at + n)
+  unfolding sectionStart sectionAt
+  starts-more few h z = rw (add-one i)
+      (record {
+        i-le = h;
+        found = record { long = simp length-set (I .found .long); at = places; usable-before = before; inside = subst (λ x. x ≤ length sections) next-is (starts-fit z) };
+        at-is = next-is;
+      })
+    where
+      S : Sized (sectionAt sections i) n
+      S = sized (sectionAt sections i) here z
+
+      next-is : at + n ≡ sectionStart sections (suc i)
+      next-is = ap (λ x. x + n) (I .at-is) ∙ ap (λ x. sectionStart sections i + x) (S .long)
+
+      places : (j : ℕ) → j ≤ suc i → getD (set starts (suc i) (at + n)) j 0 ≡ sectionStart sections j
+      places j l = go (ℕ-discrete j (suc i))
+        where
+          go : Dec (j ≡ suc i) → getD (set starts (suc i) (at + n)) j 0 ≡ sectionStart sections j
+          go (yes q) =
+              subst (λ x. getD (set starts (suc i) (at + n)) x 0 ≡ sectionStart sections x) (sym q)
+              (getD-set-same starts (suc i) (at + n) 0 (omega (arith, I .found .long)) ∙ next-is)
+          go (no q) = getD-set-other starts (suc i) j (at + n) 0 q ∙ I .found .at j (omega arith)
+
+      before : (j : ℕ) → j < suc i → usable (sectionAt sections j) ≡ true
+      before j l = go (ℕ-discrete j i)
+        where
+          go : Dec (j ≡ i) → usable (sectionAt sections j) ≡ true
+          go (yes q) = subst (λ x. usable (sectionAt sections x) ≡ true) (sym q) (S .is)
+          go (no q) = I .found .usable-before j (omega arith)
+
+pub starts-end : {sections starts : List ℕ} {k i at : ℕ} → InSections sections starts k i at → k ≤ i → FirstUnusable sections starts k i
+starts-end I h = record { r-le = I .i-le; found = I .found; unusable-at = λ l. absurd (omega arith) }
+
+-- ---- fault 8
+
+first-unusable : {sections starts : List ℕ} {k r : ℕ} → FirstUnusable sections starts k r → first (unusable sections) k ≡ r
+unfolding unusable
+first-unusable {sections} {starts} {k} {r} F = first-is (unusable sections) k r (record {
+  most = F .r-le;
+  hit = λ h. holds (ap not (is-false (usable (sectionAt sections r)) (λ t. F .unusable-at h (is-true (usable (sectionAt sections r)) t))));
+  miss = λ j h t. fails (ap not (F .found .usable-before j h)) t;
+})
+
+module _ (sections : List ℕ) (k : ℕ) where
+  pub many-sections : {w : Bool} → w ≡ within 1 16 k → not w ≡ true → (sectionsBad sections k ≡ true) × (badSectionOf sections k ≡ k)
+  unfolding sectionsBad badSectionOf
+  many-sections {w} e h = (simp (sym e, not-true w h), simp (sym e, not-true w h))
+
+  pub unusable-section : {w : Bool} {r : ℕ} {starts : List ℕ} → w ≡ within 1 16 k → not w ≡ false → FirstUnusable sections starts k r → r < k
+      → (sectionsBad sections k ≡ true) × (badSectionOf sections k ≡ r)
+  unfolding sectionsBad badSectionOf
+  unusable-section {w} {r} e h F l = (simp (sym e, not-false w h, first-unusable F, lt-ltb r k l), simp (sym e, not-false w h, first-unusable F))
+
+  pub left-over : {w : Bool} {r : ℕ} {starts : List ℕ} → w ≡ within 1 16 k → not w ≡ false → FirstUnusable sections starts k r → k ≤ r
+      → (getD starts k 0 ≡ length sections → ⊥) → (sectionsBad sections k ≡ true) × (badSectionOf sections k ≡ k)
+  unfolding sectionsBad badSectionOf
+  left-over {w} {r} {starts} e h F l n =
+      let q : r ≡ k = omega (arith, F .r-le) in
+      let f = first-unusable F ∙ q in
+      let z : eqb (sectionStart sections k) (length sections) ≡ false = ne-eqb (sectionStart sections k) (length sections) (λ x. n (F .found .at k (omega arith) ∙ x)) in
+      (simp (sym e, not-false w h, f, le-ltb k k (omega arith), z), simp (sym e, not-false w h, f))
+
+  -- all sections are found
+  pub sections-good : {w : Bool} {r : ℕ} {starts : List ℕ} → w ≡ within 1 16 k → not w ≡ false → FirstUnusable sections starts k r → k ≤ r
+      → getD starts k 0 ≡ length sections → (sectionsBad sections k ≡ false) × Found sections starts k
+  unfolding sectionsBad
+  sections-good {w} {r} {starts} e h F l n =
+      let q : r ≡ k = omega (arith, F .r-le) in
+      let f = first-unusable F ∙ q in
+      let z : eqb (sectionStart sections k) (length sections) ≡ true = eq-eqb (sectionStart sections k) (length sections) (sym (F .found .at k (omega arith)) ∙ n) in
+      (simp (sym e, not-false w h, f, le-ltb k k (omega arith), z), subst (Found sections starts) q (F .found))
+
+-- ---- a section, taken from the slice
+
+pub record Taken (sections starts : List ℕ) (i : ℕ) : Type 0 where
+  pub inside : getD starts i 0 ≤ length sections
+  pub part-is : take (length sections - getD starts i 0) (drop (getD starts i 0) sections) ≡ sectionAt sections i
+  pub sound : Sound (sectionAt sections i)
+  pub sound-taken : Sound (take (length sections - getD starts i 0) (drop (getD starts i 0) sections))
+  pub two : 1 < length (take (length sections - getD starts i 0) (drop (getD starts i 0) sections))
+
+pub taken-at : {sections starts : List ℕ} {k i : ℕ} → Found sections starts k → i < k → Taken sections starts i
+unfolding sectionAt
+taken-at {sections} {starts} {k} {i} F h =
+    let S = usable-sound (sectionAt sections i) (F .usable-before i h) in
+    let a = F .at i (omega arith) in
+    let w = S .whole in
+    let l = long-enough (sectionAt sections i) in
+    let d = length-drop (sectionStart sections i) sections in
+    let p : take (length sections - getD starts i 0) (drop (getD starts i 0) sections) ≡ sectionAt sections i
+          = take-all (length sections - getD starts i 0) (drop (getD starts i 0) sections) (le-of-eq (length-drop (getD starts i 0) sections)) ∙ ap (λ x. drop x sections) a in
+    record {
+      inside = omega arith; part-is = p; sound = S; sound-taken = subst Sound (sym p) S;
+      two = subst (λ x. 1 < length x) (sym p) (omega arith);
+    }

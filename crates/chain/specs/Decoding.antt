@@ -1,0 +1,72 @@
+-- What decoding a chain leaves: document 01's answer and the whole content of the three buffers, from the buffers before the call. The answer is read off
+-- the plain list of all paths in word order: the first of least distance.
+use mathlib.Core.Bool.{Bool, cond}
+use mathlib.Core.List.{List, _++_, map}
+use Prim.Native.Nat.{ℕ, _-_, _*_, _/_, _%_}
+use lib.Dec.{ltb}
+use lib.ListN.{length, drop}
+use Rattle.trellis.specs.Lists.{each, first}
+use Rattle.trellis.specs.Word.{Word}
+use Rattle.trellis.specs.Outcome.{Outcome, success, badSection, badBlock, shortBuffer, noPath}
+use Rattle.paths.specs.Choice.{Choice, none, some}
+use Rattle.paths.specs.Chain.{bestPath, costTable}
+use Rattle.sweep.specs.Rows.{top}
+use Rattle.passes.specs.Blocks.{endsIn}
+use Rattle.chain.specs.Sections.{sectionsBad, badSectionOf}
+use Rattle.chain.specs.Frame.{frameBad, blockWords, wordDistance, blockBad}
+
+pub record Decoding : Type 0 where
+  pub answer : Outcome
+  pub costs : List ℕ
+  pub labels : List ℕ
+  pub goals : List ℕ
+
+abbrev pub left : Outcome → List ℕ → List ℕ → List ℕ → Decoding
+left o costs labels goals = record { answer = o; costs = costs; labels = labels; goals = goals }
+
+-- a buffer with vs in front; places beyond are unchanged
+abbrev pub over : List ℕ → List ℕ → List ℕ
+over vs buffer = vs ++ drop (length vs) buffer
+
+-- the length that the first short buffer needs: the cost table 64·B, the labels B, the goals B; 0 where none is short
+unfoldable pub neededOf : ℕ → ℕ → ℕ → ℕ → ℕ
+neededOf blocks costs labels goals = cond (ltb costs (64 * blocks)) (64 * blocks) (cond (ltb labels blocks) blocks (cond (ltb goals blocks) blocks 0))
+
+module _ (sections : List ℕ) (k : ℕ) (indices received erased : List ℕ) (start end : ℕ) where
+  -- the first path of least distance from the start state to the end state
+  unfoldable pub bestOf : Choice (List Word)
+  bestOf =
+      bestPath (blockWords sections indices received erased) (endsIn end) (wordDistance sections indices received erased) (length indices) 0 start
+
+  -- at place 64·b + s the least distance from state s before block b to the end state after the last block
+  unfoldable pub tableOf : List ℕ
+  tableOf =
+      each
+      (λ i.
+      costTable (blockWords sections indices received erased) (endsIn end) (wordDistance sections indices received erased) top
+      (length indices - i / 64) (i / 64) (i % 64))
+      (64 * length indices)
+
+  module _ (costs labels goals : List ℕ) where
+    -- 11, or success
+    unfoldable pub found : Choice (List Word) → Decoding
+    found none = left noPath (over tableOf costs) labels goals
+    found (some d ws) = left (success d) (over tableOf costs) (over (map (λ w. w .label) ws) labels) (over (map (λ w. w .goal) ws) goals)
+
+    -- 10: the first short buffer
+    unfoldable pub fitted : Decoding
+    fitted =
+        cond (ltb 0 (neededOf (length indices) (length costs) (length labels) (length goals)))
+        (left (shortBuffer (neededOf (length indices) (length costs) (length labels) (length goals))) costs labels goals)
+        (found bestOf)
+
+    -- 9: a length or a state, else the first bad block
+    unfoldable pub framed : Decoding
+    framed =
+        cond (frameBad indices received erased start end) (left (badBlock (length indices)) costs labels goals)
+        (cond (ltb (first (blockBad sections indices received erased k) (length indices)) (length indices))
+        (left (badBlock (first (blockBad sections indices received erased k) (length indices))) costs labels goals) fitted)
+
+    -- 8
+    unfoldable pub decoding : Decoding
+    decoding = cond (sectionsBad sections k) (left (badSection (badSectionOf sections k)) costs labels goals) framed

@@ -1,0 +1,186 @@
+// Chain decoding: sections one behind another, for each block a section index, a received label and an erasure mask, a start and an end state. `decode`
+// answers for all arguments, by an equation with `decoding`: the outcome of document 01 and the whole content of the three buffers.
+ghost use mathlib.Core.Path.{_≡_};
+ghost use mathlib.Core.Bool.{cond, not};
+ghost use Prim.Native.Nat.{_+_, _*_, _<_, _≤_};
+ghost use lib.ListN.{length, getD, drop};
+ghost use Rattle.trellis.specs.Lists.{first};
+ghost use Rattle.trellis.specs.Layout.{sectionLength};
+ghost use Rattle.section_file.specs.Usable.{usable, within};
+ghost use Rattle.chain.specs.Frame.{frameBad, blockBad};
+ghost use Rattle.chain.specs.Decoding.{left, neededOf, decoding};
+ghost use Rattle.chain.specs.Answer.{decodedOutcome, partLength};
+ghost use Rattle.chain.specs.Meaning.{Meaning};
+ghost use Rattle.chain.specs.Loops.{Found, FirstUnusable};
+
+use section_file::Part;
+use sweep::TOP;
+
+// The distance, or why there is none. A variant for a refusal has the number that document 01 returns with it.
+pub enum Decoded {
+    Distance(u32),
+    Section(usize),
+    Block(usize),
+    Short(usize),
+    NoPath,
+}
+
+fn wide(x: u16) -> usize
+    ensures { λ r. ⌜ r ≡ x ⌝ }
+{
+    x as usize
+}
+
+fn widened(x: u8) -> usize
+    ensures { λ r. ⌜ r ≡ x ⌝ }
+{
+    x as usize
+}
+
+fn is_within(low: usize, high: usize, x: usize) -> bool
+    ensures { λ r. ⌜ r ≡ within low high x ⌝ }
+{
+    if x < low { false } else { x <= high }
+}
+
+// The length of a part, or 0 where it is unusable.
+fn length_of(part: Part) -> usize
+    ensures { λ r. ⌜ r ≡ partLength part ⌝ }
+{
+    match part {
+        Part::Usable(length) => length,
+        Part::Unusable => 0,
+    }
+}
+
+fn length_at(sections: &[u16], at: usize) -> usize
+    ensures { λ r. ⌜ r ≡ cond (usable (drop at (now (sections .entry)))) (sectionLength (drop at (now (sections .entry)))) 0 ⌝ }
+{
+    length_of(section_file::usable_at(sections, at))
+}
+
+// The first unusable section, or k, and the places where the sections before it and the next one begin.
+fn find_sections(sections: &[u16], k: usize, starts: &mut [usize; 17]) -> usize
+    requires { ⌜ (k ≤ 16) × (length (now starts) ≡ 17) ⌝ }
+    ensures { λ r. ⌜ FirstUnusable (now (sections .entry)) (now (starts .exit)) k r ⌝ }
+{
+    starts[0] = 0;
+    let mut at: usize = 0;
+    let mut i: usize = 0;
+    while i < k {
+        let length = length_at(sections, at);
+        if length == 0 {
+            return i;
+        }
+        at += length;
+        i += 1;
+        starts[i] = at;
+    }
+    i
+}
+
+fn frame_bad(indices: &[u8], received: &[u16], erased: &[u8], start: u8, end: u8) -> bool
+    ensures { λ r. ⌜ r ≡ frameBad (now (indices .entry)) (now (received .entry)) (now (erased .entry)) start end ⌝ }
+{
+    if !is_within(1, 256, indices.len()) {
+        return true;
+    }
+    if received.len() != indices.len() {
+        return true;
+    }
+    if erased.len() != indices.len() {
+        return true;
+    }
+    if start >= 64 {
+        return true;
+    }
+    end >= 64
+}
+
+fn block_bad(sections: &[u16], starts: &[usize; 17], k: usize, indices: &[u8], received: &[u16], erased: &[u8], b: usize) -> bool
+    requires { ⌜ Found (now sections) (now starts) k × (k ≤ 16) × (b < length (now indices)) × (length (now received) ≡ length (now indices)) × (length (now erased) ≡ length (now indices)) ⌝ }
+    ensures { λ r. ⌜ r ≡ blockBad (now (sections .entry)) (now (indices .entry)) (now (received .entry)) (now (erased .entry)) k b ⌝ }
+{
+    let i = widened(indices[b]);
+    if i >= k {
+        return true;
+    }
+    let at = starts[i];
+    let l = &sections[at..];
+    !block::fits(l[0], wide(l[1]), received[b], erased[b])
+}
+
+// The first bad block, or the number of blocks.
+fn first_bad(sections: &[u16], starts: &[usize; 17], k: usize, indices: &[u8], received: &[u16], erased: &[u8]) -> usize
+    requires { ⌜ Found (now sections) (now starts) k × (k ≤ 16) × (length (now received) ≡ length (now indices)) × (length (now erased) ≡ length (now indices)) ⌝ }
+    ensures { λ r. ⌜ r ≡ first (blockBad (now (sections .entry)) (now (indices .entry)) (now (received .entry)) (now (erased .entry)) k) (length (now (indices .entry))) ⌝ }
+{
+    let mut b: usize = 0;
+    while b < indices.len() {
+        if block_bad(sections, starts, k, indices, received, erased, b) {
+            return b;
+        }
+        b += 1;
+    }
+    b
+}
+
+// The length that the first short buffer needs, or 0.
+fn needed(blocks: usize, costs: usize, labels: usize, goals: usize) -> usize
+    requires { ⌜ blocks ≤ 256 ⌝ }
+    ensures { λ r. ⌜ r ≡ neededOf blocks costs labels goals ⌝ }
+{
+    if costs < 64 * blocks {
+        return 64 * blocks;
+    }
+    if labels < blocks {
+        return blocks;
+    }
+    if goals < blocks { blocks } else { 0 }
+}
+
+pub fn decode(
+    sections: &[u16],
+    k: usize,
+    indices: &[u8],
+    received: &[u16],
+    erased: &[u8],
+    start: u8,
+    end: u8,
+    costs: &mut [u32],
+    labels: &mut [u16],
+    goals: &mut [u8],
+) -> Decoded
+    ensures whole { λ r. ⌜ left (decodedOutcome r) (now (costs .exit)) (now (labels .exit)) (now (goals .exit)) ≡ decoding (now (sections .entry)) k (now (indices .entry)) (now (received .entry)) (now (erased .entry)) start end (now (costs .entry)) (now (labels .entry)) (now (goals .entry)) ⌝ }
+    ensures meaning { λ r. ⌜ Meaning (now (sections .entry)) (now (indices .entry)) (now (received .entry)) (now (erased .entry)) start end (decodedOutcome r) (now (costs .exit)) (now (labels .exit)) (now (goals .exit)) ⌝ }
+{
+    if !is_within(1, 16, k) {
+        return Decoded::Section(k);
+    }
+    let mut starts = [0usize; 17];
+    let unusable = find_sections(sections, k, &mut starts);
+    if unusable < k {
+        return Decoded::Section(unusable);
+    }
+    if starts[k] != sections.len() {
+        return Decoded::Section(k);
+    }
+    let blocks = indices.len();
+    if frame_bad(indices, received, erased, start, end) {
+        return Decoded::Block(blocks);
+    }
+    let bad = first_bad(sections, &starts, k, indices, received, erased);
+    if bad < blocks {
+        return Decoded::Block(bad);
+    }
+    let short = needed(blocks, costs.len(), labels.len(), goals.len());
+    if short > 0 {
+        return Decoded::Short(short);
+    }
+    passes::fill_table(sections, &starts, indices, received, erased, widened(end), costs);
+    if costs[widened(start)] == TOP {
+        return Decoded::NoPath;
+    }
+    let distance = passes::name_words(sections, &starts, indices, received, erased, widened(start), widened(end), costs, labels, goals);
+    Decoded::Distance(distance)
+}

@@ -1,0 +1,214 @@
+-- Block by block, the table is that of the chain: each block's section carries the block's words, a word costs what its path costs, and so the least
+-- distances before a block follow along its edges from those behind it.
+use mathlib.Core.Path.{_≡_, refl, sym, ap, ap₂, subst, _∙_}
+use mathlib.Core.Bool.{Bool, true, false, cond}
+use mathlib.Core.Logic.{_⊎_, inl, inr}
+use mathlib.Core.List.{List}
+use Prim.Native.Nat.{ℕ, zero, suc, _+_, _-_, _*_, _≤_, _<_}
+use native.Mathlib.Nat.{zero-add, add-zero, le-of-eq}
+use native.Mathlib.Decide.{ℕ-discrete, decLt, decLe}
+use native.Mathlib.Omega.{arith}
+use lib.Dec.{T, eqb, ltb, eqb→eq, eqb-refl}
+use lib.ListN.{length, getD, take, drop, length-drop}
+use lib.Seq.{take-all}
+use borrow.Author.Tests.{lt-ltb, le-ltb}
+use Rattle.trellis.specs.Lists.{_∈_, run, each, first}
+use Rattle.trellis.specs.Own.{Edge}
+use Rattle.trellis.specs.Word.{Word}
+use Rattle.trellis.specs.Section.{Path, pathsFrom, wordOf}
+use Rattle.trellis.specs.Layout.{nOf, vertexCountOf, edgeCountOf, edgesBefore, rootState, goalState, edgeNumber, stepEdges, sectionWords}
+use Rattle.trellis.proofs.Lists.{of-run, in-each, First, first-ok}
+use Rattle.paths.specs.Costs.{least}
+use Rattle.paths.specs.Sections.{sectionLeast, costFrom}
+use Rattle.paths.specs.Chain.{atEnd, chainLeast}
+use Rattle.paths.proofs.Ordered.{Ordered, ended, leads}
+use Rattle.paths.proofs.Ascent.{Bounded, PathFits}
+use Rattle.paths.proofs.Packed.{cost-packed}
+use Rattle.paths.proofs.Words.{whole-fits}
+use Rattle.paths.proofs.Blocks.{Uses, least-root, least-else}
+use Rattle.sweep.specs.Rows.{top, Fits}
+use Rattle.sweep.proofs.Edges.{before-more, before-le}
+use Rattle.block.specs.Received.{symbolCost, blockDistance}
+use Rattle.passes.specs.Blocks.{Good, endsIn, sectionOf, wordsOf, distanceOf, leastFrom, Ready, Table, Filled, aheadOf}
+use Rattle.passes.specs.Loops.{Behind, BlockTable, RootAt}
+use Rattle.passes.proofs.Goals.{ahead-in}
+
+-- ---- one section
+
+run-ordered : {A : Type 0} {R : A → A → Type 0} (f : ℕ → A) (at count : ℕ) → ((j k : ℕ) → j < k → k < at + count → R (f j) (f k)) → Ordered R (run f at count)
+unfolding run
+run-ordered f at zero h = ended
+run-ordered {A} {R} f at (suc count) h =
+    leads (λ y m. let F = of-run f (suc at) count y m in subst (R (f at)) (sym (F .is)) (h at (suc at + F .at) (omega arith) (omega (arith, F .below))))
+    (run-ordered f (suc at) count (λ j k a b. h j k a (omega arith)))
+
+pub bounded-by : {l : List ℕ} → Fits l → Bounded (stepEdges l) (nOf l) (vertexCountOf l (nOf l))
+unfolding stepEdges
+bounded-by {l} F = record { symbol-lt = symbol-lt; goal-lt = goal-lt }
+  where
+    symbol-lt : (t : ℕ) → t < nOf l → (e : Edge) → e ∈ stepEdges l t → e .symbol < 4
+    symbol-lt t h e m =
+        let w = of-run (edgeNumber l) (edgesBefore l t) (edgeCountOf l t) e m in
+        let b = before-more l t in
+        let a = before-le l (suc t) (nOf l) h in
+        let k = w .below in
+        subst (λ f. f .symbol < 4) (sym (w .is)) (F .symbolSmall (edgesBefore l t + w .at) (omega arith))
+
+    goal-lt : (t : ℕ) → suc t ≡ nOf l → (e : Edge) → e ∈ stepEdges l t → e .to < vertexCountOf l (nOf l)
+    goal-lt t h e m =
+        let w = of-run (edgeNumber l) (edgesBefore l t) (edgeCountOf l t) e m in
+        let b = before-more l t in
+        let k = w .below in
+        subst (λ u. e .to < vertexCountOf l u) h
+        (subst (λ f. f .to < vertexCountOf l (suc t)) (sym (w .is)) (F .toBelow t (edgesBefore l t + w .at) (omega arith) (omega arith) (omega arith)))
+
+-- which root is in state s
+pub root-at : (l : List ℕ) (s : ℕ) → RootAt l s (first (λ v. eqb (rootState l v) s) (vertexCountOf l 0))
+root-at l s = record {
+  r-le = F .most;
+  is = λ h. eqb→eq (rootState l r) s (F .hit h);
+  none = λ h u k e. F .miss u (omega arith) (subst (λ x. T (eqb x s)) (sym e) (eqb-refl s));
+}
+  where
+    r : ℕ
+    r = first (λ v. eqb (rootState l v) s) (vertexCountOf l 0)
+
+    F : First (λ v. eqb (rootState l v) s) (vertexCountOf l 0) r
+    F = first-ok (λ v. eqb (rootState l v) s) (vertexCountOf l 0)
+
+-- ---- the chain
+
+module _ {sections starts indices received erased : List ℕ} (R : Ready sections starts indices received erased) where
+  abbrev part : ℕ → List ℕ
+  part b = sectionOf sections starts indices received erased b
+
+  abbrev prices : ℕ → ℕ → ℕ → ℕ
+  prices b = symbolCost (nOf (part b)) (getD received b 0) (getD erased b 0)
+
+  abbrev pub leastAhead : ℕ → ℕ → ℕ → ℕ → ℕ
+  leastAhead end k b s = chainLeast (wordsOf sections starts indices received erased) (endsIn end) (distanceOf sections starts indices received erased) top k b s
+
+  pub uses : (b : ℕ) → b < length indices
+      → Uses (wordsOf sections starts indices received erased) (distanceOf sections starts indices received erased) b (stepEdges (part b)) (nOf (part b))
+      (each (λ v. v) (vertexCountOf (part b) 0)) (rootState (part b)) (goalState (part b)) (prices b)
+  unfolding wordsOf sectionWords distanceOf blockDistance wordOf
+  uses b h = record {
+    words-are = refl;
+    roots-ascend = run-ordered (λ v. v) 0 (vertexCountOf (part b) 0) (λ j k a c. R .good b h .rootsAscend j k a (omega arith));
+    same-cost = λ v p m.
+        let P = whole-fits (stepEdges (part b)) (nOf (part b)) (vertexCountOf (part b) (nOf (part b))) (bounded-by (R .good b h .fits)) (R .good b h .some) v p m in
+        cost-packed (prices b) (nOf (part b)) (P .symbols-fit) 0 0 (zero-add (nOf (part b)));
+  }
+
+  pub root-listed : (b v : ℕ) → v < vertexCountOf (part b) 0 → v ∈ each (λ u. u) (vertexCountOf (part b) 0)
+  root-listed b v h = in-each (λ u. u) (vertexCountOf (part b) 0) v v h refl
+
+  pub none-listed : (b s : ℕ) → ((v : ℕ) → v < vertexCountOf (part b) 0 → rootState (part b) v ≡ s → ⊥)
+      → (v : ℕ) → v ∈ each (λ u. u) (vertexCountOf (part b) 0) → rootState (part b) v ≡ s → ⊥
+  none-listed b s h v m =
+      let w = of-run (λ u. u) 0 (vertexCountOf (part b) 0) v m in
+      h v (omega (arith, w .is, w .below))
+
+  -- block b as the code takes it: i is its section index
+  pub record BlockAt (b i : ℕ) : Type 0 where
+    pub index-lt : i < 17
+    pub inside : getD starts i 0 ≤ length sections
+    pub part-is : take (length sections - getD starts i 0) (drop (getD starts i 0) sections) ≡ part b
+    pub good : Good (take (length sections - getD starts i 0) (drop (getD starts i 0) sections))
+
+  pub block-at : {b i : ℕ} → b < length indices → i ≡ getD indices b 0 → BlockAt b i
+  unfolding sectionOf
+  block-at {b} {i} h e =
+      let a = R .indexBelow b h in
+      let c : getD starts i 0 ≡ getD starts (getD indices b 0) 0 = ap (λ j. getD starts j 0) e in
+      let d = R .inside b h in
+      let p : take (length sections - getD starts i 0) (drop (getD starts i 0) sections) ≡ part b
+            = take-all (length sections - getD starts i 0) (drop (getD starts i 0) sections) (le-of-eq (length-drop (getD starts i 0) sections))
+            ∙ ap (λ j. drop j sections) c in
+      record { index-lt = omega arith; inside = omega arith; part-is = p; good = subst Good (sym p) (R .good b h) }
+
+  -- what the table has is what is left to pay
+  pub ahead-is : {end b : ℕ} {costs : List ℕ} → Table sections starts indices received erased end b costs → b ≤ length indices → (s : ℕ) → s < 64
+      → aheadOf costs (length indices) end b s ≡ leastAhead end (length indices - b) b s
+  unfolding leastFrom aheadOf chainLeast least
+  ahead-is {end} {b} {costs} D h s k = go (decLt b (length indices))
+    where
+      go : Dec (b < length indices) → aheadOf costs (length indices) end b s ≡ leastAhead end (length indices - b) b s
+      go (yes l) = ap (λ c. cond c (getD costs (64 * b + s) 0) (cond (eqb s end) 0 top)) (lt-ltb b (length indices) l) ∙ D .at b s (omega arith) l k
+      go (no l) =
+          let e : length indices - b ≡ 0 = omega arith in
+          ap (λ c. cond c (getD costs (64 * b + s) 0) (cond (eqb s end) 0 top)) (le-ltb b (length indices) (omega arith))
+          ∙ sym (ap (λ j. leastAhead end j b s) e)
+
+  pub behind-is : {end b : ℕ} {costs : List ℕ} → Table sections starts indices received erased end (suc b) costs → b < length indices
+      → Behind (part b) costs (length indices) end (suc b) (λ g. leastAhead end (length indices - suc b) (suc b) (goalState (part b) g))
+  behind-is {end} {b} D h g k = ahead-is D h (goalState (part b) g) (R .good b h .goalsBelow g k)
+
+  -- ---- backward
+
+  pub fill-start : {end : ℕ} {costs : List ℕ} → Filled sections starts indices received erased end (length indices) costs costs
+  fill-start = record { b-le = omega arith; long = refl; table = record { at = λ c s h k. absurd (omega arith) }; kept = λ i h. refl }
+
+  pub fill-more : {end b r m : ℕ} {l old mid new : List ℕ} → Filled sections starts indices received erased end b old mid → 0 < b → l ≡ part (b - 1)
+      → r ≡ getD received (b - 1) 0 → m ≡ getD erased (b - 1) 0 → BlockTable l r m (length indices) end (b - 1) mid new
+      → Filled sections starts indices received erased end (b - 1) old new
+  unfolding leastFrom
+  fill-more {end} {b} {r} {m} {l} {old} {mid} {new} I h p q z B =
+      record { b-le = omega (arith, I .b-le); long = B .long ∙ I .long; table = record { at = at }; kept = kept }
+    where
+      c : ℕ
+      c = b - 1
+
+      inside : b - 1 < length indices
+      inside = omega (arith, I .b-le)
+
+      back : b ≡ suc (b - 1)
+      back = omega arith
+
+      D : BlockTable (part (b - 1)) (getD received (b - 1) 0) (getD erased (b - 1) 0) (length indices) end (b - 1) mid new
+      D = subst (λ x. BlockTable (part (b - 1)) (getD received (b - 1) 0) x (length indices) end (b - 1) mid new) z
+          (subst (λ x. BlockTable (part (b - 1)) x m (length indices) end (b - 1) mid new) q (subst (λ x. BlockTable x r m (length indices) end (b - 1) mid new) p B))
+
+      table : Table sections starts indices received erased end (suc (b - 1)) mid
+      table = subst (λ x. Table sections starts indices received erased end x mid) back (I .table)
+
+      here : (s : ℕ) → s < 64 → getD new (64 * (b - 1) + s) 0 ≡ leastAhead end (suc (length indices - suc (b - 1))) (b - 1) s
+      here s k = go (root-at (part (b - 1)) s) (decLt (first (λ v. eqb (rootState (part (b - 1)) v) s) (vertexCountOf (part (b - 1)) 0)) (vertexCountOf (part (b - 1)) 0))
+        where
+          v : ℕ
+          v = first (λ v. eqb (rootState (part (b - 1)) v) s) (vertexCountOf (part (b - 1)) 0)
+
+          go : RootAt (part (b - 1)) s (first (λ v. eqb (rootState (part (b - 1)) v) s) (vertexCountOf (part (b - 1)) 0))
+              → Dec (first (λ v. eqb (rootState (part (b - 1)) v) s) (vertexCountOf (part (b - 1)) 0) < vertexCountOf (part (b - 1)) 0)
+              → getD new (64 * (b - 1) + s) 0 ≡ leastAhead end (suc (length indices - suc (b - 1))) (b - 1) s
+          go A (yes y) = at-root v y (A .is y)
+            where
+              at-root : (v : ℕ) → v < vertexCountOf (part (b - 1)) 0 → rootState (part (b - 1)) v ≡ s
+                  → getD new (64 * (b - 1) + s) 0 ≡ leastAhead end (suc (length indices - suc (b - 1))) (b - 1) s
+              at-root v y e =
+                  subst (λ x. getD new (64 * (b - 1) + x) 0 ≡ leastAhead end (suc (length indices - suc (b - 1))) (b - 1) x) e
+                  (D .root (λ g. leastAhead end (length indices - suc (b - 1)) (suc (b - 1)) (goalState (part (b - 1)) g)) (behind-is table inside) v y
+                  ∙ sym (least-root (uses (b - 1) inside) (endsIn end) top (length indices - suc (b - 1)) v (root-listed (b - 1) v y)))
+          go A (no y) =
+              D .none s k (A .none (omega arith))
+              ∙ sym (least-else (uses (b - 1) inside) (endsIn end) top (length indices - suc (b - 1)) s (none-listed (b - 1) s (A .none (omega arith))))
+
+      at : (d s : ℕ) → b - 1 ≤ d → d < length indices → s < 64 → getD new (64 * d + s) 0 ≡ leastAhead end (length indices - d) d s
+      at d s a f k = go (ℕ-discrete d (b - 1))
+        where
+          go : Dec (d ≡ b - 1) → getD new (64 * d + s) 0 ≡ leastAhead end (length indices - d) d s
+          go (yes e) =
+              let j : suc (length indices - suc (b - 1)) ≡ length indices - (b - 1) = omega arith in
+              subst (λ x. getD new (64 * x + s) 0 ≡ leastAhead end (length indices - x) x s) (sym e) (here s k ∙ ap (λ n. leastAhead end n (b - 1) s) j)
+          go (no e) = D .kept (64 * d + s) (inr (omega arith)) ∙ I .table .at d s (omega arith) f k
+
+      kept : (i : ℕ) → 64 * length indices ≤ i → getD new i 0 ≡ getD old i 0
+      kept i f = D .kept i (inr (omega arith)) ∙ I .kept i f
+
+  pub fill-end : {end b : ℕ} {old new : List ℕ} → Filled sections starts indices received erased end b old new → b ≤ 0
+      → Filled sections starts indices received erased end 0 old new
+  fill-end {end} {b} {old} {new} I h = let e : b ≡ 0 = omega arith in subst (λ x. Filled sections starts indices received erased end x old new) e I
+
+pub below-last : {sections starts indices received erased old new : List ℕ} {end b : ℕ} → Filled sections starts indices received erased end b old new → 0 < b
+    → b - 1 < length indices
+below-last I h = omega (arith, I .b-le)

@@ -1,0 +1,112 @@
+-- The rows of a block: row n has what is left to pay behind the block, at the states of the goals, and from it all rows follow.
+use mathlib.Core.Path.{_≡_, refl, sym, ap, subst, _∙_}
+use mathlib.Core.Bool.{true, false, cond}
+use mathlib.Core.List.{List}
+use Prim.Native.Nat.{ℕ, zero, suc, _+_, _-_, _*_, _≤_, _<_}
+use native.Mathlib.Nat.{not-suc-le-zero, le-antisymm}
+use native.Mathlib.Decide.{ℕ-discrete}
+use native.Mathlib.Omega.{arith}
+use lib.Dec.{eqb, ltb}
+use lib.ListN.{length, getD, set, length-set}
+use lib.Seq.{getD-set-same, getD-set-other}
+use borrow.Author.Tests.{lt-ltb, le-ltb, eq-eqb, ne-eqb}
+use Rattle.trellis.specs.Layout.{nOf, vertexCountOf, rootsPlace, goalsPlace, rootState, goalState, stepEdges}
+use Rattle.paths.specs.Sections.{sectionLeast}
+use Rattle.paths.proofs.Sections.{least-last}
+use Rattle.sweep.specs.Rows.{top, Fits, Placed, Priced, Rows, Swept}
+use Rattle.passes.specs.Blocks.{Good, aheadOf}
+use Rattle.passes.specs.Loops.{Behind, InGoals, RowsOver}
+
+-- ---- what is left to pay
+
+module _ (costs : List ℕ) (blocks end b s : ℕ) where
+  pub ahead-in : b < blocks → getD costs (64 * b + s) 0 ≡ aheadOf costs blocks end b s
+  unfolding aheadOf
+  ahead-in h = sym (ap (λ c. cond c (getD costs (64 * b + s) 0) (cond (eqb s end) 0 top)) (lt-ltb b blocks h))
+
+  pub ahead-end : blocks ≤ b → s ≡ end → 0 ≡ aheadOf costs blocks end b s
+  unfolding aheadOf
+  ahead-end h e = sym (ap (λ c. cond c (getD costs (64 * b + s) 0) (cond (eqb s end) 0 top)) (le-ltb b blocks h) ∙ ap (λ c. cond c 0 top) (eq-eqb s end e))
+
+  pub ahead-off : blocks ≤ b → (s ≡ end → ⊥) → top ≡ aheadOf costs blocks end b s
+  unfolding aheadOf
+  ahead-off h e = sym (ap (λ c. cond c (getD costs (64 * b + s) 0) (cond (eqb s end) 0 top)) (le-ltb b blocks h) ∙ ap (λ c. cond c 0 top) (ne-eqb s end e))
+
+-- ---- goals and roots as they are read
+
+-- goal g of a section
+pub record GoalRead (l : List ℕ) (n goals g s : ℕ) : Type 0 where
+  pub below : g < vertexCountOf l (nOf l)
+  pub is : s ≡ goalState l g
+  pub small : s < 64
+  pub g-lt : g < 1024
+
+pub goal-read : {l : List ℕ} {n roots goals pairs symbols edges count g s : ℕ} → Good l → Placed l n roots goals pairs symbols edges
+    → count ≡ getD l (3 + n) 0 → g < count → s ≡ getD l (goals + g) 0 → GoalRead l n goals g s
+unfolding vertexCountOf goalState
+goal-read {l} {n} {goals = goals} {count = count} {g} {s} G P c h e =
+    let a : count ≡ getD l (3 + nOf l) 0 = c ∙ ap (λ k. getD l (3 + k) 0) (P .nIs) in
+    let b : g < vertexCountOf l (nOf l) = omega arith in
+    let i : s ≡ goalState l g = e ∙ ap (λ k. getD l (k + g) 0) (P .goalsIs) in
+    let z = G .goalsBelow g b in
+    let w = G .fits .verticesTo (nOf l) (omega arith) in
+    record { below = b; is = i; small = omega arith; g-lt = omega arith }
+
+-- it is there to be read
+pub goal-in : {l : List ℕ} {n roots goals pairs symbols edges count g : ℕ} → Good l → Placed l n roots goals pairs symbols edges
+    → count ≡ getD l (3 + n) 0 → g < count → goals + g < length l
+unfolding vertexCountOf
+goal-in {l} {n} {count = count} G P c h =
+    let a : count ≡ getD l (3 + nOf l) 0 = c ∙ ap (λ k. getD l (3 + k) 0) (P .nIs) in
+    let w = G .fits .goalsIn in
+    omega (arith, P .goalsIs)
+
+-- ---- row n
+
+pub goals-start : {l costs rows : List ℕ} {blocks end b : ℕ} → length rows ≡ 9216 → InGoals l costs blocks end b rows 0
+goals-start h = record { g-le = omega arith; long = h; at = λ u k. absurd (not-suc-le-zero k) }
+
+pub goals-more : {l costs rows : List ℕ} {blocks end b n goals g s x : ℕ} → Good l → n ≡ nOf l → InGoals l costs blocks end b rows g → GoalRead l n goals g s
+    → x ≡ aheadOf costs blocks end b s → InGoals l costs blocks end b (set rows (1024 * n + g) x) (g + 1)
+goals-more {l} {costs} {rows} {blocks} {end} {b} {n} {goals} {g} {s} {x} G e I R q =
+    record { g-le = omega (arith, R .below); long = simp length-set (I .long); at = at }
+  where
+    place : 1024 * n + g < length rows
+    place = omega (arith, I .long, R .g-lt, G .fits .nTo)
+
+    at : (h : ℕ) → h < g + 1 → getD (set rows (1024 * n + g) x) (1024 * nOf l + h) 0 ≡ aheadOf costs blocks end b (goalState l h)
+    at h k = go (ℕ-discrete h g)
+      where
+        go : Dec (h ≡ g) → getD (set rows (1024 * n + g) x) (1024 * nOf l + h) 0 ≡ aheadOf costs blocks end b (goalState l h)
+        go (yes z) =
+            let a : 1024 * nOf l + h ≡ 1024 * n + g = omega arith in
+            ap (λ j. getD (set rows (1024 * n + g) x) j 0) a ∙ getD-set-same rows (1024 * n + g) x 0 place ∙ q
+            ∙ ap (aheadOf costs blocks end b) (R .is ∙ ap (goalState l) (sym z))
+        go (no z) = getD-set-other rows (1024 * n + g) (1024 * nOf l + h) x 0 (λ w. z (omega arith)) ∙ I .at h (omega arith)
+
+pub goals-end : {l costs rows : List ℕ} {blocks end b n count g : ℕ} → InGoals l costs blocks end b rows g → n ≡ nOf l → count ≡ getD l (3 + n) 0 → count ≤ g
+    → InGoals l costs blocks end b rows (vertexCountOf l (nOf l))
+unfolding vertexCountOf
+goals-end {l} {costs} {rows} {blocks} {end} {b} {n} {count} {g} I e c h =
+    let a : count ≡ getD l (3 + nOf l) 0 = c ∙ ap (λ k. getD l (3 + k) 0) e in
+    let z : g ≡ getD l (3 + nOf l) 0 = le-antisymm (I .g-le) (omega arith) in
+    subst (InGoals l costs blocks end b rows) z I
+
+-- ---- all rows
+
+pub rows-over : {l prices costs mid new : List ℕ} {blocks end b : ℕ} → InGoals l costs blocks end b mid (vertexCountOf l (nOf l)) → Swept l prices mid new
+    → RowsOver l prices costs blocks end b new
+rows-over {l} {prices} {costs} {mid} {new} {blocks} {end} {b} I S = record { long = S .long; done = λ cost number P B. S .rows cost number P (last cost number B) }
+  where
+    last : (cost : ℕ → ℕ → ℕ) (number : ℕ → ℕ) → Behind l costs blocks end b number → Rows l cost number (nOf l) mid
+    last cost number B = record { at = at }
+      where
+        at : (u v : ℕ) → nOf l ≤ u → u ≤ nOf l → v < vertexCountOf l u → getD mid (1024 * u + v) 0 ≡ sectionLeast (stepEdges l) cost top number (nOf l - u) u v
+        at u v a c h =
+            let e : nOf l ≡ u = le-antisymm a c in
+            subst (λ w. v < vertexCountOf l w → getD mid (1024 * w + v) 0 ≡ sectionLeast (stepEdges l) cost top number (nOf l - w) w v) e here h
+          where
+            here : v < vertexCountOf l (nOf l) → getD mid (1024 * nOf l + v) 0 ≡ sectionLeast (stepEdges l) cost top number (nOf l - nOf l) (nOf l) v
+            here k =
+                let z : nOf l - nOf l ≡ 0 = omega arith in
+                I .at v k ∙ B v k ∙ sym (ap (λ j. sectionLeast (stepEdges l) cost top number j (nOf l) v) z ∙ least-last (stepEdges l) cost top number (nOf l) v)

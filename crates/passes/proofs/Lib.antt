@@ -1,0 +1,5 @@
+-- Laws of the two passes, lowest first.
+pub mod Goals
+pub mod Tables
+pub mod Chains
+pub mod Words

@@ -1,0 +1,145 @@
+-- The table of a block: no path from any of the 64 states, then each root's cost at its state. Root states ascend, so no root overwrites another.
+use mathlib.Core.Path.{_≡_, refl, sym, ap, subst, _∙_}
+use mathlib.Core.Logic.{_⊎_, inl, inr}
+use mathlib.Core.List.{List}
+use Prim.Native.Nat.{ℕ, zero, suc, _+_, _-_, _*_, _≤_, _<_}
+use native.Mathlib.Nat.{not-suc-le-zero, le-antisymm, sub-zero}
+use native.Mathlib.Decide.{ℕ-discrete}
+use native.Mathlib.Numerals.{add-one}
+use native.Mathlib.Omega.{arith}
+use lib.ListN.{length, getD, set, length-set}
+use lib.Seq.{getD-set-same, getD-set-other}
+use Rattle.trellis.specs.Layout.{nOf, vertexCountOf, rootsPlace, rootState, stepEdges}
+use Rattle.paths.specs.Sections.{sectionLeast}
+use Rattle.sweep.specs.Rows.{top, Fits, Placed, Priced, Rows}
+use Rattle.block.specs.Received.{symbolCost, Prices}
+use Rattle.passes.specs.Blocks.{Good}
+use Rattle.passes.specs.Loops.{Behind, RowsOver, InNone, InRoots, BlockTable, InRoot, RootAt}
+
+-- ---- no path
+
+pub none-start : {b : ℕ} {costs : List ℕ} → InNone b costs costs 0
+none-start = record { s-le = omega arith; long = refl; none = λ u h. absurd (not-suc-le-zero h); kept = λ i h. refl }
+
+pub none-more : {b s : ℕ} {old new : List ℕ} → InNone b old new s → s < 64 → 64 * b + 64 ≤ length old → InNone b old (set new (64 * b + s) top) (s + 1)
+none-more {b} {s} {old} {new} I h room = record { s-le = omega arith; long = simp length-set (I .long); none = none; kept = kept }
+  where
+    none : (u : ℕ) → u < s + 1 → getD (set new (64 * b + s) top) (64 * b + u) 0 ≡ top
+    none u k = go (ℕ-discrete u s)
+      where
+        go : Dec (u ≡ s) → getD (set new (64 * b + s) top) (64 * b + u) 0 ≡ top
+        go (yes e) = subst (λ w. getD (set new (64 * b + s) top) (64 * b + w) 0 ≡ top) (sym e) (getD-set-same new (64 * b + s) top 0 (omega (arith, I .long)))
+        go (no e) = getD-set-other new (64 * b + s) (64 * b + u) top 0 (λ z. e (omega arith)) ∙ I .none u (omega arith)
+
+    kept : (i : ℕ) → (i < 64 * b) ⊎ (64 * b + 64 ≤ i) → getD (set new (64 * b + s) top) i 0 ≡ getD old i 0
+    kept i (inl k) = getD-set-other new (64 * b + s) i top 0 (λ z. absurd (omega arith)) ∙ I .kept i (inl k)
+    kept i (inr k) = getD-set-other new (64 * b + s) i top 0 (λ z. absurd (omega arith)) ∙ I .kept i (inr k)
+
+pub none-end : {b s : ℕ} {old new : List ℕ} → InNone b old new s → 64 ≤ s → InNone b old new 64
+none-end {b} {s} {old} {new} I h = let e : s ≡ 64 = le-antisymm (I .s-le) h in subst (InNone b old new) e I
+
+-- ---- roots
+
+-- root v of a section, as it is read
+pub record RootRead (l : List ℕ) (v s : ℕ) : Type 0 where
+  pub below : v < vertexCountOf l 0
+  pub is : s ≡ rootState l v
+  pub small : s < 64
+  pub v-lt : v < 1024
+
+pub root-read : {l : List ℕ} {n roots goals pairs symbols edges count v s : ℕ} → Good l → Placed l n roots goals pairs symbols edges
+    → count ≡ getD l 3 0 → v < count → s ≡ getD l (roots + v) 0 → RootRead l v s
+unfolding vertexCountOf rootState
+root-read {l} {v = v} {s} G P c h e =
+    let b : v < vertexCountOf l 0 = omega arith in
+    let i : s ≡ rootState l v = e ∙ ap (λ k. getD l (k + v) 0) (P .rootsIs) in
+    let z = G .rootsBelow v b in
+    let w = G .fits .verticesTo 0 (omega arith) in
+    record { below = b; is = i; small = omega arith; v-lt = omega arith }
+
+pub root-in : {l : List ℕ} {n roots goals pairs symbols edges count v : ℕ} → Good l → Placed l n roots goals pairs symbols edges
+    → count ≡ getD l 3 0 → v < count → roots + v < length l
+unfolding vertexCountOf
+root-in G P c h = let w = G .fits .rootsIn in omega (arith, P .rootsIs)
+
+pub roots-start : {l rows costs : List ℕ} {b : ℕ} → InRoots l rows b costs costs 0
+roots-start = record { v-le = omega arith; long = refl; root = λ u h. absurd (not-suc-le-zero h); other = λ i h. refl }
+
+pub roots-more : {l rows old new : List ℕ} {b v s : ℕ} → Good l → InRoots l rows b old new v → RootRead l v s → 64 * b + 64 ≤ length old
+    → InRoots l rows b old (set new (64 * b + s) (getD rows v 0)) (v + 1)
+roots-more {l} {rows} {old} {new} {b} {v} {s} G I R room = record { v-le = omega (arith, R .below); long = simp length-set (I .long); root = root; other = other }
+  where
+    root : (u : ℕ) → u < v + 1 → getD (set new (64 * b + s) (getD rows v 0)) (64 * b + rootState l u) 0 ≡ getD rows u 0
+    root u k = go (ℕ-discrete u v)
+      where
+        go : Dec (u ≡ v) → getD (set new (64 * b + s) (getD rows v 0)) (64 * b + rootState l u) 0 ≡ getD rows u 0
+        go (yes e) =
+            let a : rootState l u ≡ s = ap (rootState l) e ∙ sym (R .is) in
+            ap (λ j. getD (set new (64 * b + s) (getD rows v 0)) (64 * b + j) 0) a
+            ∙ getD-set-same new (64 * b + s) (getD rows v 0) 0 (omega (arith, I .long, R .small)) ∙ ap (λ w. getD rows w 0) (sym e)
+        go (no e) =
+            let a = G .rootsAscend u v (omega arith) (R .below) in
+            getD-set-other new (64 * b + s) (64 * b + rootState l u) (getD rows v 0) 0 (λ z. absurd (omega (arith, R .is))) ∙ I .root u (omega arith)
+
+    other : (i : ℕ) → ((u : ℕ) → u < v + 1 → 64 * b + rootState l u ≡ i → ⊥) → getD (set new (64 * b + s) (getD rows v 0)) i 0 ≡ getD old i 0
+    other i h =
+        getD-set-other new (64 * b + s) i (getD rows v 0) 0 (λ z. h v (omega arith) (sym (z ∙ ap (λ w. 64 * b + w) (R .is))))
+        ∙ I .other i (λ u k. h u (omega arith))
+
+pub roots-end : {l rows old new : List ℕ} {b v count : ℕ} → InRoots l rows b old new v → count ≡ getD l 3 0 → count ≤ v
+    → InRoots l rows b old new (vertexCountOf l 0)
+unfolding vertexCountOf
+roots-end {l} {rows} {old} {new} {b} {v} I c h = let e : v ≡ getD l 3 0 = le-antisymm (I .v-le) (omega arith) in subst (InRoots l rows b old new) e I
+
+-- ---- the block
+
+pub priced-by : {l prices : List ℕ} {n received mask : ℕ} → n ≡ nOf l → Prices n received mask prices → Priced l prices (symbolCost (nOf l) received mask)
+priced-by {l} {prices} {n} {received} {mask} e P =
+    subst (λ k. ((t a : ℕ) → t < nOf l → a < 4 → getD prices (4 * t + a) 0 ≡ symbolCost k received mask t a) → Priced l prices (symbolCost (nOf l) received mask)) (sym e)
+    (λ f. record { at = f }) (λ t a h. P .at t a (omega arith))
+
+pub block-table : {l prices old mid new rows : List ℕ} {n received mask blocks end b : ℕ} → Good l → n ≡ nOf l → Prices n received mask prices
+    → RowsOver l prices old blocks end (b + 1) rows → InNone b old mid 64 → InRoots l rows b mid new (vertexCountOf l 0)
+    → BlockTable l received mask blocks end b old new
+block-table {l} {prices} {old} {mid} {new} {rows} {n} {received} {mask} {blocks} {end} {b} G e P R N I =
+    record { long = I .long ∙ N .long; root = root; none = none; kept = kept }
+  where
+    root : (number : ℕ → ℕ) → Behind l old blocks end (suc b) number → (v : ℕ) → v < vertexCountOf l 0
+        → getD new (64 * b + rootState l v) 0 ≡ sectionLeast (stepEdges l) (symbolCost (nOf l) received mask) top number (nOf l) 0 v
+    root number B v h =
+        let D = R .done (symbolCost (nOf l) received mask) number (priced-by e P) (rw (add-one b) B) in
+        let a : v ≡ 1024 * 0 + v = omega arith in
+        I .root v h ∙ ap (λ j. getD rows j 0) a ∙ D .at 0 v (omega arith) (omega arith) h
+        ∙ ap (λ k. sectionLeast (stepEdges l) (symbolCost (nOf l) received mask) top number k 0 v) (sub-zero (nOf l))
+
+    none : (s : ℕ) → s < 64 → ((v : ℕ) → v < vertexCountOf l 0 → rootState l v ≡ s → ⊥) → getD new (64 * b + s) 0 ≡ top
+    none s k h = I .other (64 * b + s) (λ u c z. h u c (omega arith)) ∙ N .none s k
+
+    kept : (i : ℕ) → (i < 64 * b) ⊎ (64 * b + 64 ≤ i) → getD new i 0 ≡ getD old i 0
+    kept i k = I .other i (λ u c z. out i k u c z (G .rootsBelow u c)) ∙ N .kept i k
+      where
+        out : (i : ℕ) → (i < 64 * b) ⊎ (64 * b + 64 ≤ i) → (u : ℕ) → u < vertexCountOf l 0 → 64 * b + rootState l u ≡ i → rootState l u < 64 → ⊥
+        out i (inl x) u c z w = omega arith
+        out i (inr x) u c z w = omega arith
+
+-- ---- the root in a state
+
+pub root-start : {l : List ℕ} {s : ℕ} → InRoot l s 0
+root-start = record { v-le = omega arith; none = λ u h. absurd (not-suc-le-zero h) }
+
+pub root-found : {l : List ℕ} {s v x : ℕ} → InRoot l s v → RootRead l v x → x ≡ s → RootAt l s v
+root-found I R e = record { r-le = I .v-le; is = λ h. sym (R .is) ∙ e; none = λ h. absurd (omega (arith, R .below)) }
+
+pub root-more : {l : List ℕ} {s v x : ℕ} → InRoot l s v → RootRead l v x → (x ≡ s → ⊥) → InRoot l s (v + 1)
+root-more {l} {s} {v} {x} I R n = record { v-le = omega (arith, R .below); none = none }
+  where
+    none : (u : ℕ) → u < v + 1 → rootState l u ≡ s → ⊥
+    none u h e = go (ℕ-discrete u v)
+      where
+        go : Dec (u ≡ v) → ⊥
+        go (yes k) = n (R .is ∙ ap (rootState l) (sym k) ∙ e)
+        go (no k) = I .none u (omega arith) e
+
+pub root-none : {l : List ℕ} {s v count : ℕ} → InRoot l s v → count ≡ getD l 3 0 → count ≤ v → RootAt l s v
+unfolding vertexCountOf
+root-none I c h = record { r-le = I .v-le; is = λ k. absurd (omega arith); none = λ k u w. I .none u (omega arith) }

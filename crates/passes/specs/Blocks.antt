@@ -1,0 +1,79 @@
+-- The blocks of a chain as they lie in lists: for each block a section index, a received label and an erasure mask; `starts` has the places where the
+-- sections begin. Block by block: its section, its words and their distances, and what the two passes leave.
+use mathlib.Core.Path.{_≡_}
+use mathlib.Core.Bool.{Bool, cond}
+use mathlib.Core.List.{List}
+use Prim.Native.Nat.{ℕ, suc, _+_, _-_, _*_, _≤_, _<_}
+use lib.Dec.{eqb, ltb}
+use lib.ListN.{length, getD, drop}
+use Rattle.trellis.specs.Word.{Word, wordAt}
+use Rattle.trellis.specs.Layout.{nOf, vertexCountOf, rootState, goalState, sectionWords}
+use Rattle.paths.specs.Chain.{chainLeast, chainTrace}
+use Rattle.sweep.specs.Rows.{top, Fits}
+use Rattle.block.specs.Received.{blockDistance, Clean}
+
+-- what the passes need to know of a section
+pub record Good (l : List ℕ) : Type 0 where
+  pub fits : Fits l
+  pub some : 0 < nOf l
+  pub rootsBelow : (v : ℕ) → v < vertexCountOf l 0 → rootState l v < 64
+  pub rootsAscend : (u v : ℕ) → u < v → v < vertexCountOf l 0 → rootState l u < rootState l v
+  pub goalsBelow : (v : ℕ) → v < vertexCountOf l (nOf l) → goalState l v < 64
+
+-- a path may end in the end state
+abbrev pub endsIn : ℕ → ℕ → Bool
+endsIn end s = eqb s end
+
+module _ (sections starts indices received erased : List ℕ) where
+  -- the section of block b, with what follows it
+  unfoldable pub sectionOf : ℕ → List ℕ
+  sectionOf b = drop (getD starts (getD indices b 0) 0) sections
+
+  unfoldable pub wordsOf : ℕ → List Word
+  wordsOf b = sectionWords (sectionOf b)
+
+  unfoldable pub distanceOf : ℕ → Word → ℕ
+  distanceOf b w = blockDistance (nOf (sectionOf b)) (getD received b 0) (getD erased b 0) (w .label)
+
+  -- the least distance from state s before block b to the end state after the last block
+  unfoldable pub leastFrom : ℕ → ℕ → ℕ → ℕ
+  leastFrom end b s = chainLeast wordsOf (endsIn end) distanceOf top (length indices - b) b s
+
+  -- the first path of least distance from there
+  unfoldable pub pathFrom : ℕ → ℕ → ℕ → List Word
+  pathFrom end b s = chainTrace wordsOf (endsIn end) distanceOf top (length indices - b) b s
+
+  pub record Ready : Type 0 where
+    pub many : length indices ≤ 256
+    pub receivedLong : length received ≡ length indices
+    pub erasedLong : length erased ≡ length indices
+    pub startsLong : length starts ≡ 17
+    pub indexBelow : (b : ℕ) → b < length indices → getD indices b 0 < 17
+    pub inside : (b : ℕ) → b < length indices → getD starts (getD indices b 0) 0 ≤ length sections
+    pub good : (b : ℕ) → b < length indices → Good (sectionOf b)
+    pub clean : (b : ℕ) → b < length indices → Clean (nOf (sectionOf b)) (getD received b 0) (getD erased b 0)
+
+  -- the cost table from block b on
+  pub record Table (end b : ℕ) (costs : List ℕ) : Type 0 where
+    pub at : (c s : ℕ) → b ≤ c → c < length indices → s < 64 → getD costs (64 * c + s) 0 ≡ leastFrom end c s
+
+  -- the table is filled from block b on, and places beyond it are as they were
+  pub record Filled (end b : ℕ) (old new : List ℕ) : Type 0 where
+    pub b-le : b ≤ length indices
+    pub long : length new ≡ length old
+    pub table : Table end b new
+    pub kept : (i : ℕ) → 64 * length indices ≤ i → getD new i 0 ≡ getD old i 0
+
+  -- the labels and goals of the first b words of the path are written, and places beyond them are as they were
+  pub record Written (end start b : ℕ) (labels newLabels goals newGoals : List ℕ) : Type 0 where
+    pub b-le : b ≤ length indices
+    pub labelsLong : length newLabels ≡ length labels
+    pub goalsLong : length newGoals ≡ length goals
+    pub labelAt : (i : ℕ) → i < b → getD newLabels i 0 ≡ wordAt (pathFrom end 0 start) i .label
+    pub goalAt : (i : ℕ) → i < b → getD newGoals i 0 ≡ wordAt (pathFrom end 0 start) i .goal
+    pub labelsKept : (i : ℕ) → b ≤ i → getD newLabels i 0 ≡ getD labels i 0
+    pub goalsKept : (i : ℕ) → b ≤ i → getD newGoals i 0 ≡ getD goals i 0
+
+-- what the table has for state s before block b; behind the last block nothing is left to pay in the end state, and there is no path elsewhere
+unfoldable pub aheadOf : List ℕ → ℕ → ℕ → ℕ → ℕ → ℕ
+aheadOf costs blocks end b s = cond (ltb b blocks) (getD costs (64 * b + s) 0) (cond (eqb s end) 0 top)

@@ -1,0 +1,3 @@
+-- The two passes over the blocks of a chain, and what their loops keep.
+pub mod Blocks
+pub mod Loops

@@ -1,0 +1,104 @@
+-- What the functions on one block leave, and what the loops keep, over raw lists and numbers. `l` has the block's section at its front; b is the block
+-- behind it.
+use mathlib.Core.Path.{_≡_}
+use mathlib.Core.Bool.{true}
+use mathlib.Core.Logic.{_⊎_}
+use mathlib.Core.List.{List}
+use Prim.Native.Nat.{ℕ, suc, _+_, _-_, _*_, _≤_, _<_}
+use lib.ListN.{length, getD, drop}
+use Rattle.trellis.specs.Section.{packOnto}
+use Rattle.trellis.specs.Layout.{nOf, vertexCountOf, rootState, goalState, stepEdges}
+use Rattle.paths.specs.Sections.{sectionLeast, sectionTrace}
+use Rattle.sweep.specs.Rows.{top, Priced, Rows}
+use Rattle.block.specs.Received.{symbolCost, blockDistance}
+use Rattle.passes.specs.Blocks.{aheadOf, pathFrom, leastFrom, Written}
+
+-- the table has the costs of ending in the goals
+abbrev pub Behind : List ℕ → List ℕ → ℕ → ℕ → ℕ → (ℕ → ℕ) → Type 0
+Behind l costs blocks end b number = (g : ℕ) → g < vertexCountOf l (nOf l) → aheadOf costs blocks end b (goalState l g) ≡ number g
+
+-- ---- the rows of a block
+
+-- the first g places of row n have the costs of ending there
+pub record InGoals (l costs : List ℕ) (blocks end b : ℕ) (rows : List ℕ) (g : ℕ) : Type 0 where
+  pub g-le : g ≤ vertexCountOf l (nOf l)
+  pub long : length rows ≡ 9216
+  pub at : (h : ℕ) → h < g → getD rows (1024 * nOf l + h) 0 ≡ aheadOf costs blocks end b (goalState l h)
+
+-- all rows are done, whatever the symbols cost
+pub record RowsOver (l prices costs : List ℕ) (blocks end b : ℕ) (rows : List ℕ) : Type 0 where
+  pub long : length rows ≡ 9216
+  pub done : (cost : ℕ → ℕ → ℕ) (number : ℕ → ℕ) → Priced l prices cost → Behind l costs blocks end b number → Rows l cost number 0 rows
+
+-- ---- the table of a block
+
+-- the first s states of block b have no path so far
+pub record InNone (b : ℕ) (old new : List ℕ) (s : ℕ) : Type 0 where
+  pub s-le : s ≤ 64
+  pub long : length new ≡ length old
+  pub none : (u : ℕ) → u < s → getD new (64 * b + u) 0 ≡ top
+  pub kept : (i : ℕ) → (i < 64 * b) ⊎ (64 * b + 64 ≤ i) → getD new i 0 ≡ getD old i 0
+
+-- the first v roots have their costs, and a state that is none of them has what it had
+pub record InRoots (l rows : List ℕ) (b : ℕ) (old new : List ℕ) (v : ℕ) : Type 0 where
+  pub v-le : v ≤ vertexCountOf l 0
+  pub long : length new ≡ length old
+  pub root : (u : ℕ) → u < v → getD new (64 * b + rootState l u) 0 ≡ getD rows u 0
+  pub other : (i : ℕ) → ((u : ℕ) → u < v → 64 * b + rootState l u ≡ i → ⊥) → getD new i 0 ≡ getD old i 0
+
+-- the least distances from the states before the block, its symbols costing what the received label and the mask say
+pub record BlockTable (l : List ℕ) (received mask : ℕ) (blocks end b : ℕ) (old new : List ℕ) : Type 0 where
+  pub long : length new ≡ length old
+  pub root : (number : ℕ → ℕ) → Behind l old blocks end (suc b) number → (v : ℕ) → v < vertexCountOf l 0
+      → getD new (64 * b + rootState l v) 0 ≡ sectionLeast (stepEdges l) (symbolCost (nOf l) received mask) top number (nOf l) 0 v
+  pub none : (s : ℕ) → s < 64 → ((v : ℕ) → v < vertexCountOf l 0 → rootState l v ≡ s → ⊥) → getD new (64 * b + s) 0 ≡ top
+  pub kept : (i : ℕ) → (i < 64 * b) ⊎ (64 * b + 64 ≤ i) → getD new i 0 ≡ getD old i 0
+
+-- ---- the word of a block
+
+-- no root before v is s
+pub record InRoot (l : List ℕ) (s v : ℕ) : Type 0 where
+  pub v-le : v ≤ vertexCountOf l 0
+  pub none : (u : ℕ) → u < v → rootState l u ≡ s → ⊥
+
+-- root r is s; r is the number of roots where none is
+pub record RootAt (l : List ℕ) (s r : ℕ) : Type 0 where
+  pub r-le : r ≤ vertexCountOf l 0
+  pub is : r < vertexCountOf l 0 → rootState l r ≡ s
+  pub none : vertexCountOf l 0 ≤ r → (u : ℕ) → u < vertexCountOf l 0 → rootState l u ≡ s → ⊥
+
+-- there is a path from state s on
+pub record Onward (l : List ℕ) (received mask : ℕ) (costs : List ℕ) (blocks end b s : ℕ) : Type 0 where
+  pub number : ℕ → ℕ
+  pub behind : Behind l costs blocks end b number
+  pub root : ℕ
+  pub rootIn : root < vertexCountOf l 0
+  pub rootIs : rootState l root ≡ s
+  pub below : sectionLeast (stepEdges l) (symbolCost (nOf l) received mask) top number (nOf l) 0 root < top
+
+-- the first word of least distance from state s on, and its own distance
+pub record WordFrom (l : List ℕ) (received mask : ℕ) (costs : List ℕ) (blocks end b s label goal distance : ℕ) : Type 0 where
+  pub root : ℕ
+  pub rootIn : root < vertexCountOf l 0
+  pub rootIs : rootState l root ≡ s
+  pub goalBelow : goal < 64
+  pub labelIs : (number : ℕ → ℕ) → Behind l costs blocks end b number
+      → label ≡ packOnto 0 (sectionTrace (stepEdges l) (symbolCost (nOf l) received mask) top number (nOf l) 0 root .symbols)
+  pub goalIs : (number : ℕ → ℕ) → Behind l costs blocks end b number
+      → goal ≡ goalState l (sectionTrace (stepEdges l) (symbolCost (nOf l) received mask) top number (nOf l) 0 root .end)
+  pub distanceIs : distance ≡ blockDistance (nOf l) received mask label
+  pub distanceTo : distance ≤ 8
+
+-- b words are written, state s is reached, and `total` is their distance; the rest of the path is the one from there
+pub record InWords (sections starts indices received erased : List ℕ) (end start : ℕ) (labels newLabels goals newGoals : List ℕ) (b s total : ℕ) : Type 0 where
+  pub written : Written sections starts indices received erased end start b labels newLabels goals newGoals
+  pub state : s < 64
+  pub few : total ≤ 8 * b
+  pub rest : drop b (pathFrom sections starts indices received erased end 0 start) ≡ pathFrom sections starts indices received erased end b s
+  pub onward : leastFrom sections starts indices received erased end b s < top
+  pub sum : total + leastFrom sections starts indices received erased end b s ≡ leastFrom sections starts indices received erased end 0 start
+
+-- the whole path is written, and `total` is its distance
+pub record Named (sections starts indices received erased : List ℕ) (end start : ℕ) (labels newLabels goals newGoals : List ℕ) (total : ℕ) : Type 0 where
+  pub written : Written sections starts indices received erased end start (length indices) labels newLabels goals newGoals
+  pub totalIs : total ≡ leastFrom sections starts indices received erased end 0 start
