@@ -16,7 +16,7 @@ allVertices n v = sum v 0 (suc n)
 unfoldable pub additions : ℕ → (ℕ → ℕ) → ℕ
 additions n e = sum e 0 n
 
--- document 01's selections, E - V + R. Nothing is cut off at 0: V ≤ E + R for every drawn section (proofs/Selections)
+-- document 01's selections, E - V + R. Nothing is cut off at 0: V ≤ E + R for every drawn section (proofs/Least)
 unfoldable pub selections : ℕ → (ℕ → ℕ) → (ℕ → ℕ) → ℕ
 selections n v e = (additions n e + v 0) - allVertices n v
 
