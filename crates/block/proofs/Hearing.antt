@@ -97,11 +97,11 @@ pub distance-heard : {n received mask label heard erased d : ℕ} → n ≤ 8 �
 unfolding blockDistance symbolCost
 distance-heard {n} {received} {mask} {label} {heard} {erased} {d} few C I e =
     let a : d ≡ sum (λ t. one-if (not (eqb (symbol n t received) (symbol n t heard)))) 0 n
-          = e ∙ distance-more n 8 received heard (C .short) (I .short) few ∙ distance-sum n received heard in
+    = e ∙ distance-more n 8 received heard (C .short) (I .short) few ∙ distance-sum n received heard in
     let s = sum-add (λ t. one-if (not (eqb (symbol n t received) (symbol n t heard)))) (λ t. one-if (erasedAt n t mask)) 0 n in
     let c = I .count in
     let f = sum-eq (λ t. costOver (erasedAt n t mask) (symbol n t received) (symbol n t label))
-          (λ t. one-if (not (eqb (symbol n t received) (symbol n t heard))) + one-if (erasedAt n t mask)) 0 n pointwise in
+    (λ t. one-if (not (eqb (symbol n t received) (symbol n t heard))) + one-if (erasedAt n t mask)) 0 n pointwise in
     omega arith
   where
     pointwise : (t : ℕ) → 0 ≤ t → t < 0 + n

@@ -94,7 +94,8 @@ module _ (indices received erased : List ℕ) (start end : ℕ) where
       let d = neither _ _ (c .1) in
       let w = within-of 1 256 (length indices) (not-false _ (a .0)) in
       record {
-        some = w .0; many = w .1;
+        some = w .0;
+        many = w .1;
         receivedLong = eqb-true (length received) (length indices) (not-false _ (b .0));
         erasedLong = eqb-true (length erased) (length indices) (not-false _ (c .0));
         startBelow = ltb-true start 64 (not-false _ (d .0));
@@ -120,8 +121,8 @@ module _ (sections indices received erased : List ℕ) (k b : ℕ) {i : ℕ} (e 
   block-fits {starts} {n} {f} h A p q =
       let z = A .part-is ∙ ap (sectionAt sections) e in
       let s : f ≡ fitsBlock (nOf (blockSection sections indices received erased b)) (getD received b 0) (getD erased b 0) (qOf (blockSection sections indices received erased b))
-            = q ∙ ap (λ j. fitsBlock j (getD received b 0) (getD erased b 0) (getD (take (length sections - getD starts i 0) (drop (getD starts i 0) sections)) 0 0)) p
-            ∙ ap (λ l. fitsBlock (getD l 1 0) (getD received b 0) (getD erased b 0) (getD l 0 0)) z in
+      = q ∙ ap (λ j. fitsBlock j (getD received b 0) (getD erased b 0) (getD (take (length sections - getD starts i 0) (drop (getD starts i 0) sections)) 0 0)) p
+      ∙ ap (λ l. fitsBlock (getD l 1 0) (getD received b 0) (getD erased b 0) (getD l 0 0)) z in
       simp (lt-ltb (getD indices b 0) k (omega arith), s)
 
 module _ (sections indices received erased : List ℕ) (k : ℕ) where

@@ -165,7 +165,7 @@ module _ {sections starts indices received erased : List ℕ} {k start end : ℕ
       let a : 64 * 0 + start ≡ start = omega arith in
       let s = R .some in
       let t : costTable W (endsIn end) D top (length indices - 0) 0 start ≡ top
-            = sym (table-at 0 start) ∙ sym (T .table .at 0 start (omega arith) (omega arith) (R .startBelow)) ∙ ap (λ j. getD new j 0) a ∙ e in
+      = sym (table-at 0 start) ∙ sym (T .table .at 0 start (omega arith) (omega arith) (R .startBelow)) ∙ ap (λ j. getD new j 0) a ∙ e in
       let u : costTable W (endsIn end) D top (length indices) 0 start ≡ top = ap (λ j. costTable W (endsIn end) D top j 0 start) (sym (sub-zero (length indices))) ∙ t in
       let m = R .many in
       let n = no-path W (endsIn end) D top 8 (distance-to sections indices received erased (sound-at F some-sections few R good)) (length indices) 0 start (omega arith) u in
@@ -268,7 +268,7 @@ module _ {sections starts : List ℕ} {k : ℕ} {indices received erased : List 
       let a : 64 * 0 + start ≡ s = omega arith in
       let m = C .frame .some in
       let c : getD new s 0 ≡ leastFrom sections starts indices received erased end 0 start
-            = ap (λ j. getD new j 0) (sym a) ∙ filled-as p T .table .at 0 start (omega arith) (omega arith) (C .frame .startBelow) in
+      = ap (λ j. getD new j 0) (sym a) ∙ filled-as p T .table .at 0 start (omega arith) (omega arith) (C .frame .startBelow) in
       let d = table-at (C .places) (C .some-k) (C .few) (C .frame) (C .good) 0 start in
       let l = table-le (blockWords sections indices received erased) (endsIn end) (wordDistance sections indices received erased) top (length indices - 0) 0 start in
       go (decLt (leastFrom sections starts indices received erased end 0 start) top) c (omega arith)

@@ -188,7 +188,7 @@ module _ (sections : List ℕ) (k : ℕ) (indices received erased : List ℕ) (s
           let j : length indices - b ≡ suc (length indices - suc b) = omega arith in
           let t : drop b ws ≡ wordAt ws b ∷ drop (suc b) ws = drop-cons ws b (word 0 0 0) (omega arith) in
           let o : bestPath W (endsIn end) dist (suc (length indices - suc b)) b (A .state) ≡ some (A .cost) (wordAt ws b ∷ drop (suc b) ws)
-                = ap (λ x. bestPath W (endsIn end) dist x b (A .state)) (sym j) ∙ A .is ∙ ap (some (A .cost)) t in
+          = ap (λ x. bestPath W (endsIn end) dist x b (A .state)) (sym j) ∙ A .is ∙ ap (some (A .cost)) t in
           let F = best-first (pathDistance dist b) (chainPaths W (endsIn end) (suc (length indices - suc b)) b (A .state)) o in
           let I = of-paths W (endsIn end) (suc (length indices - suc b)) b (A .state) (wordAt ws b ∷ drop (suc b) ws) (first-in (pathDistance dist b) F) in
           let s = short b (wordAt ws b ∷ drop (suc b) ws) in
@@ -230,7 +230,9 @@ module _ (sections : List ℕ) (k : ℕ) (indices received erased : List ℕ) (s
       won newCosts newLabels newGoals p q r =
           let B = best-wins W (endsIn end) (length indices) ordered dist (length indices) 0 start (omega arith) best in
           record {
-            words = ws; wins = B .0; distanceIs = B .1;
+            words = ws;
+            wins = B .0;
+            distanceIs = B .1;
             labelAt = λ b h. read (λ w. w .label) labels newLabels refl q b h;
             goalAt = λ b h. read (λ w. w .goal) goals newGoals refl r b h;
             inSection = in-section;

@@ -181,8 +181,11 @@ taken-at {sections} {starts} {k} {i} F h =
     let l = long-enough (sectionAt sections i) in
     let d = length-drop (sectionStart sections i) sections in
     let p : take (length sections - getD starts i 0) (drop (getD starts i 0) sections) ≡ sectionAt sections i
-          = take-all (length sections - getD starts i 0) (drop (getD starts i 0) sections) (le-of-eq (length-drop (getD starts i 0) sections)) ∙ ap (λ x. drop x sections) a in
+    = take-all (length sections - getD starts i 0) (drop (getD starts i 0) sections) (le-of-eq (length-drop (getD starts i 0) sections)) ∙ ap (λ x. drop x sections) a in
     record {
-      inside = omega arith; part-is = p; sound = S; sound-taken = subst Sound (sym p) S;
+      inside = omega arith;
+      part-is = p;
+      sound = S;
+      sound-taken = subst Sound (sym p) S;
       two = subst (λ x. 1 < length x) (sym p) (omega arith);
     }

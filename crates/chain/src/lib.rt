@@ -12,7 +12,6 @@ ghost use Rattle.chain.specs.Decoding.{left, neededOf, decoding};
 ghost use Rattle.chain.specs.Answer.{decodedOutcome, partLength};
 ghost use Rattle.chain.specs.Meaning.{Meaning};
 ghost use Rattle.chain.specs.Loops.{Found, FirstUnusable};
-
 use section_file::Part;
 use sweep::TOP;
 
@@ -97,7 +96,15 @@ fn frame_bad(indices: &[u8], received: &[u16], erased: &[u8], start: u8, end: u8
     end >= 64
 }
 
-fn block_bad(sections: &[u16], starts: &[usize; 17], k: usize, indices: &[u8], received: &[u16], erased: &[u8], b: usize) -> bool
+fn block_bad(
+    sections: &[u16],
+    starts: &[usize; 17],
+    k: usize,
+    indices: &[u8],
+    received: &[u16],
+    erased: &[u8],
+    b: usize,
+) -> bool
     requires { ⌜ Found (now sections) (now starts) k × (k ≤ 16) × (b < length (now indices)) × (length (now received) ≡ length (now indices)) × (length (now erased) ≡ length (now indices)) ⌝ }
     ensures { λ r. ⌜ r ≡ blockBad (now (sections .entry)) (now (indices .entry)) (now (received .entry)) (now (erased .entry)) k b ⌝ }
 {
@@ -111,7 +118,14 @@ fn block_bad(sections: &[u16], starts: &[usize; 17], k: usize, indices: &[u8], r
 }
 
 // The first bad block, or the number of blocks.
-fn first_bad(sections: &[u16], starts: &[usize; 17], k: usize, indices: &[u8], received: &[u16], erased: &[u8]) -> usize
+fn first_bad(
+    sections: &[u16],
+    starts: &[usize; 17],
+    k: usize,
+    indices: &[u8],
+    received: &[u16],
+    erased: &[u8],
+) -> usize
     requires { ⌜ Found (now sections) (now starts) k × (k ≤ 16) × (length (now received) ≡ length (now indices)) × (length (now erased) ≡ length (now indices)) ⌝ }
     ensures { λ r. ⌜ r ≡ first (blockBad (now (sections .entry)) (now (indices .entry)) (now (received .entry)) (now (erased .entry)) k) (length (now (indices .entry))) ⌝ }
 {
@@ -177,10 +191,29 @@ pub fn decode(
     if short > 0 {
         return Decoded::Short(short);
     }
-    passes::fill_table(sections, &starts, indices, received, erased, widened(end), costs);
+    passes::fill_table(
+        sections,
+        &starts,
+        indices,
+        received,
+        erased,
+        widened(end),
+        costs,
+    );
     if costs[widened(start)] == TOP {
         return Decoded::NoPath;
     }
-    let distance = passes::name_words(sections, &starts, indices, received, erased, widened(start), widened(end), costs, labels, goals);
+    let distance = passes::name_words(
+        sections,
+        &starts,
+        indices,
+        received,
+        erased,
+        widened(start),
+        widened(end),
+        costs,
+        labels,
+        goals,
+    );
     Decoded::Distance(distance)
 }

@@ -123,8 +123,8 @@ module _ {sections starts indices received erased : List ℕ} (R : Ready section
       let c : getD starts i 0 ≡ getD starts (getD indices b 0) 0 = ap (λ j. getD starts j 0) e in
       let d = R .inside b h in
       let p : take (length sections - getD starts i 0) (drop (getD starts i 0) sections) ≡ part b
-            = take-all (length sections - getD starts i 0) (drop (getD starts i 0) sections) (le-of-eq (length-drop (getD starts i 0) sections))
-            ∙ ap (λ j. drop j sections) c in
+      = take-all (length sections - getD starts i 0) (drop (getD starts i 0) sections) (le-of-eq (length-drop (getD starts i 0) sections))
+      ∙ ap (λ j. drop j sections) c in
       record { index-lt = omega arith; inside = omega arith; part-is = p; good = subst Good (sym p) (R .good b h) }
 
   -- what the table has is what is left to pay

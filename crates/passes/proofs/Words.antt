@@ -69,8 +69,8 @@ word-open {l} {prices} {costs} {rows} {n} {received} {mask} {blocks} {end} {b} {
     below =
         let a : v ≡ 1024 * 0 + v = omega arith in
         let i : getD rows v 0 ≡ sectionLeast (stepEdges l) (symbolCost (nOf l) received mask) top (O .number) (nOf l) 0 v
-              = ap (λ j. getD rows j 0) a ∙ D .at 0 v (omega arith) (omega arith) inside
-              ∙ ap (λ k. sectionLeast (stepEdges l) (symbolCost (nOf l) received mask) top (O .number) k 0 v) (sub-zero (nOf l)) in
+        = ap (λ j. getD rows j 0) a ∙ D .at 0 v (omega arith) (omega arith) inside
+        ∙ ap (λ k. sectionLeast (stepEdges l) (symbolCost (nOf l) received mask) top (O .number) k 0 v) (sub-zero (nOf l)) in
         subst (λ x. x < top) (sym i)
         (subst (λ w. sectionLeast (stepEdges l) (symbolCost (nOf l) received mask) top (O .number) (nOf l) 0 w < top) same (O .below))
 
@@ -132,11 +132,19 @@ module _ {sections starts indices received erased : List ℕ} (R : Ready section
       → InWords sections starts indices received erased end start labels labels goals goals 0 start 0
   words-start h k = record {
     written = record {
-      b-le = omega arith; labelsLong = refl; goalsLong = refl;
-      labelAt = λ i l. absurd (not-suc-le-zero l); goalAt = λ i l. absurd (not-suc-le-zero l);
-      labelsKept = λ i l. refl; goalsKept = λ i l. refl;
+      b-le = omega arith;
+      labelsLong = refl;
+      goalsLong = refl;
+      labelAt = λ i l. absurd (not-suc-le-zero l);
+      goalAt = λ i l. absurd (not-suc-le-zero l);
+      labelsKept = λ i l. refl;
+      goalsKept = λ i l. refl;
     };
-    state = h; few = omega arith; rest = refl; onward = k; sum = omega arith;
+    state = h;
+    few = omega arith;
+    rest = refl;
+    onward = k;
+    sum = omega arith;
   }
 
   -- ---- the block that is next
@@ -253,7 +261,9 @@ module _ {sections starts indices received erased : List ℕ} (R : Ready section
       (rw (add-one b)
       (record {
         written = record {
-          b-le = h; labelsLong = simp length-set (Z .labelsLong); goalsLong = simp length-set (Z .goalsLong);
+          b-le = h;
+          labelsLong = simp length-set (Z .labelsLong);
+          goalsLong = simp length-set (Z .goalsLong);
           labelAt = λ i k. put (λ w. w .label) labels newLabels label (Z .labelsLong) x (N .labelIs) (Z .labelAt) i k;
           goalAt = λ i k. put (λ w. w .goal) goals newGoals goal (Z .goalsLong) y (N .goalIs) (Z .goalAt) i k;
           labelsKept = λ i k. getD-set-other newLabels b i label 0 (λ j. absurd (omega arith)) ∙ Z .labelsKept i (omega arith);

@@ -8,7 +8,6 @@ ghost use Rattle.sweep.specs.Rows.{top, Placed};
 ghost use Rattle.block.specs.Received.{Clean};
 ghost use Rattle.passes.specs.Blocks.{Good, Ready, Table, Filled, aheadOf, leastFrom};
 ghost use Rattle.passes.specs.Loops.{InGoals, RowsOver, InNone, InRoots, BlockTable, RootAt, Onward, WordFrom, Named};
-
 use sweep::Places;
 use sweep::TOP;
 
@@ -36,7 +35,15 @@ fn ahead(costs: &[u32], blocks: usize, end: usize, b: usize, s: usize) -> u32
 }
 
 // Row n: what it costs to end in each goal.
-fn put_goals(l: &[u16], at: Places, costs: &[u32], blocks: usize, end: usize, b: usize, rows: &mut [u32; 9216])
+fn put_goals(
+    l: &[u16],
+    at: Places,
+    costs: &[u32],
+    blocks: usize,
+    end: usize,
+    b: usize,
+    rows: &mut [u32; 9216],
+)
     requires { ⌜ Good (now l) × Placed (now l) (at .n) (at .roots) (at .goals) (at .pairs) (at .symbols) (at .edges) × (64 * blocks ≤ length (now costs)) × (blocks ≤ 256) × (length (now rows) ≡ 9216) ⌝ }
     ensures { λ _. ⌜ InGoals (now (l .entry)) (now (costs .entry)) blocks end b (now (rows .exit)) (vertexCountOf (now (l .entry)) (nOf (now (l .entry)))) ⌝ }
 {
@@ -51,7 +58,16 @@ fn put_goals(l: &[u16], at: Places, costs: &[u32], blocks: usize, end: usize, b:
     }
 }
 
-fn fill_rows(l: &[u16], at: Places, prices: &[u32; 32], costs: &[u32], blocks: usize, end: usize, b: usize, rows: &mut [u32; 9216])
+fn fill_rows(
+    l: &[u16],
+    at: Places,
+    prices: &[u32; 32],
+    costs: &[u32],
+    blocks: usize,
+    end: usize,
+    b: usize,
+    rows: &mut [u32; 9216],
+)
     requires { ⌜ Good (now l) × Placed (now l) (at .n) (at .roots) (at .goals) (at .pairs) (at .symbols) (at .edges) × (64 * blocks ≤ length (now costs)) × (blocks ≤ 256) × (length (now rows) ≡ 9216) ⌝ }
     ensures { λ _. ⌜ RowsOver (now (l .entry)) (now (prices .entry)) (now (costs .entry)) blocks end b (now (rows .exit)) ⌝ }
 {
@@ -86,7 +102,16 @@ fn put_roots(l: &[u16], at: Places, rows: &[u32; 9216], b: usize, costs: &mut [u
 }
 
 // The table of block b, from the table behind it.
-fn table_block(l: &[u16], received: u16, mask: u8, blocks: usize, end: usize, b: usize, rows: &mut [u32; 9216], costs: &mut [u32])
+fn table_block(
+    l: &[u16],
+    received: u16,
+    mask: u8,
+    blocks: usize,
+    end: usize,
+    b: usize,
+    rows: &mut [u32; 9216],
+    costs: &mut [u32],
+)
     requires { ⌜ Good (now l) × (64 * blocks ≤ length (now costs)) × (blocks ≤ 256) × (b < blocks) × (length (now rows) ≡ 9216) ⌝ }
     ensures { λ _. ⌜ BlockTable (now (l .entry)) received mask blocks end b (now (costs .entry)) (now (costs .exit)) × (length (now (rows .exit)) ≡ 9216) ⌝ }
 {
@@ -98,7 +123,15 @@ fn table_block(l: &[u16], received: u16, mask: u8, blocks: usize, end: usize, b:
 }
 
 // Backward: the cost table of all blocks.
-pub fn fill_table(sections: &[u16], starts: &[usize; 17], indices: &[u8], received: &[u16], erased: &[u8], end: usize, costs: &mut [u32])
+pub fn fill_table(
+    sections: &[u16],
+    starts: &[usize; 17],
+    indices: &[u8],
+    received: &[u16],
+    erased: &[u8],
+    end: usize,
+    costs: &mut [u32],
+)
     requires { ⌜ Ready (now sections) (now starts) (now indices) (now received) (now erased) × (64 * length (now indices) ≤ length (now costs)) ⌝ }
     ensures { λ _. ⌜ Filled (now (sections .entry)) (now (starts .entry)) (now (indices .entry)) (now (received .entry)) (now (erased .entry)) end 0 (now (costs .entry)) (now (costs .exit)) ⌝ }
 {
@@ -137,7 +170,17 @@ struct Step {
 }
 
 // The first word of least distance from state s on.
-fn word_from(l: &[u16], received: u16, mask: u8, costs: &[u32], blocks: usize, end: usize, b: usize, s: usize, rows: &mut [u32; 9216]) -> Step
+fn word_from(
+    l: &[u16],
+    received: u16,
+    mask: u8,
+    costs: &[u32],
+    blocks: usize,
+    end: usize,
+    b: usize,
+    s: usize,
+    rows: &mut [u32; 9216],
+) -> Step
     requires { ⌜ Good (now l) × Clean (nOf (now l)) received mask × Onward (now l) received mask (now costs) blocks end b s × (64 * blocks ≤ length (now costs)) × (blocks ≤ 256) × (length (now rows) ≡ 9216) ⌝ }
     ensures { λ r. ⌜ WordFrom (now (l .entry)) received mask (now (costs .entry)) blocks end b s (r .label) (r .goal) (r .distance) × (length (now (rows .exit)) ≡ 9216) ⌝ }
 {
@@ -183,7 +226,17 @@ pub fn name_words(
     while b < blocks {
         let at = starts[widened(indices[b])];
         let l = &sections[at..];
-        let step = word_from(l, received[b], erased[b], costs, blocks, end, b + 1, s, &mut rows);
+        let step = word_from(
+            l,
+            received[b],
+            erased[b],
+            costs,
+            blocks,
+            end,
+            b + 1,
+            s,
+            &mut rows,
+        );
         labels[b] = step.label;
         goals[b] = step.goal;
         total += step.distance;

@@ -82,7 +82,7 @@ module _ (words : ℕ → List Word) (ends : ℕ → Bool) (dist : ℕ → Word 
         let i : w ≡ O .edge = cc in
         let j : ws ≡ X .path = cc in
         let f : bestPath words ends dist k (suc b) (w .goal) ≡ some (X .cost) ws
-              = ap (λ x. bestPath words ends dist k (suc b) (x .goal)) i ∙ sym (ahead-is k (suc b) (O .edge .goal)) ∙ X .had ∙ ap (some (X .cost)) (sym j) in
+        = ap (λ x. bestPath words ends dist k (suc b) (x .goal)) i ∙ sym (ahead-is k (suc b) (O .edge .goal)) ∙ X .had ∙ ap (some (X .cost)) (sym j) in
         let a = capped-is top (bestPath words ends dist (suc k) b s) e h in
         let l = X .cost-is in
         let m = ap (dist b) i in

@@ -27,5 +27,5 @@ cost-packed cost n {k = suc k} {us = a ∷ rest} (one-more p s) t x h =
     let e : n - suc t ≡ k = omega arith in
     let m : (x * 4 + a) % 4 ≡ a = omega arith in
     let f : packOnto (x * 4 + a) rest / 4 ^ (n - suc t) % 4 ≡ a
-          = ap (λ j. packOnto (x * 4 + a) rest / 4 ^ j % 4) e ∙ ap (λ y. y % 4) (pack-front s (x * 4 + a)) ∙ m in
+    = ap (λ j. packOnto (x * 4 + a) rest / 4 ^ j % 4) e ∙ ap (λ y. y % 4) (pack-front s (x * 4 + a)) ∙ m in
     ap₂ (λ y z. y + z) (ap (cost t) f) (cost-packed cost n s (suc t) (x * 4 + a) (omega arith))

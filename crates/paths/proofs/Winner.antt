@@ -87,9 +87,11 @@ module _ (words : ℕ → List Word) (ends : ℕ → Bool) where
     unfolding bestPath
     best-wins dist k b s h {c} {p} o =
         let F = best-first (pathDistance dist b) (chainPaths words ends k b s) o in
-        let e = F .is in
-        (record {
-          listed = first-in (pathDistance dist b) F;
-          shortest = λ q m. let i = first-least (pathDistance dist b) F q m in omega arith;
-          earliest = λ q m i. first-in-order (chains-ordered k b s h) F q m (omega arith);
-        }, e)
+        let e = F .is in (
+          record {
+            listed = first-in (pathDistance dist b) F;
+            shortest = λ q m. let i = first-least (pathDistance dist b) F q m in omega arith;
+            earliest = λ q m i. first-in-order (chains-ordered k b s h) F q m (omega arith);
+          },
+          e,
+        )

@@ -38,7 +38,8 @@ unfolding edgeNumber
 skip-more {l} {pairs} {lo = lo} {hi} {v} {i} {from} R I h p n =
     let a : edgeNumber l i .from ≡ from = sym (p ∙ ap (λ x. getD l (x + 2 * i) 0) (R .pairsIs)) in
     record {
-      lo-le = omega (arith, I .lo-le); r-le = omega arith;
+      lo-le = omega (arith, I .lo-le);
+      r-le = omega arith;
       same = I .same ∙ ap (leaving v) (between-more l h) ∙ leaving-other (edgeNumber l i) (between l (i + 1) hi) v (λ k. n (sym a ∙ k));
     }
 
@@ -65,8 +66,8 @@ module _ {l prices rows : List ℕ} {t lo hi v total i from symbol to s here : �
   next-turn I h A o p q =
       let a : 1024 * (t + 1) ≡ 1024 * suc t = omega arith in
       let g : here ≡ through prices rows t (edgeNumber l i)
-            = p ∙ ap (λ k. plus top (getD prices (4 * t + s) 0) (getD rows (k + to) 0)) a
-            ∙ ap₂ (λ z d. plus top (getD prices (4 * t + z) 0) (getD rows (1024 * suc t + d) 0)) (o ∙ A .symbol-is) (A .to-is) in
+      = p ∙ ap (λ k. plus top (getD prices (4 * t + s) 0) (getD rows (k + to) 0)) a
+      ∙ ap₂ (λ z d. plus top (getD prices (4 * t + z) 0) (getD rows (1024 * suc t + d) 0)) (o ∙ A .symbol-is) (A .to-is) in
       I .left ∙ ap (λ es. firstWith (λ e. eqb (through prices rows t e) total) (leaving v es)) (between-more l h)
       ∙ first-cons (through prices rows t) v total (edgeNumber l i) (between l (i + 1) hi)
       ∙ ap (λ c. cond c (just (edgeNumber l i)) (firstEdge l prices rows t (i + 1) hi v total)) (sym (q ∙ ap₂ (λ f d. hitAt f v d total) (A .from-is) g))
@@ -86,7 +87,8 @@ pub next-none : {l prices rows : List ℕ} {t lo hi v total i : ℕ} → InNext 
 unfolding firstWith leaving keep
 next-none {l} {prices} {rows} {t} {lo} {hi} {v} {total} {i} I h =
     record {
-      lo-le = I .lo-le; r-le = I .i-le;
+      lo-le = I .lo-le;
+      r-le = I .i-le;
       found = I .left ∙ ap (λ es. firstWith (λ e. eqb (through prices rows t e) total) (leaving v es)) (between-none l h)
           ∙ sym (ap (λ c. cond c (just (edgeNumber l i)) nothing) (le-ltb i hi h));
     }

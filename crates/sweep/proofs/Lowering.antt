@@ -126,12 +126,12 @@ lower-more {l} {prices} {old} {rows} {t} {lo} {hi} {i = i} {from} {symbol} {to} 
             let a = here-is v z in
             let b = gives in
             let c : minAll top (through prices old t) (leaving v (edgeNumber l i ∷ between l (i + 1) hi)) ≡ min (through prices old t (edgeNumber l i)) (minAll top (through prices old t) (leaving v (between l (i + 1) hi)))
-                  = ap (minAll top (through prices old t)) (leaving-here (edgeNumber l i) (between l (i + 1) hi) v (sym (A .from-is) ∙ z)) ∙ min-cons (through prices old t) (edgeNumber l i) (leaving v (between l (i + 1) hi)) in
+            = ap (minAll top (through prices old t)) (leaving-here (edgeNumber l i) (between l (i + 1) hi) v (sym (A .from-is) ∙ z)) ∙ min-cons (through prices old t) (edgeNumber l i) (leaving v (between l (i + 1) hi)) in
             omega arith
         go (no z) f m =
             let a = other-is v z in
             let c : minAll top (through prices old t) (leaving v (edgeNumber l i ∷ between l (i + 1) hi)) ≡ minAll top (through prices old t) (leaving v (between l (i + 1) hi))
-                  = ap (minAll top (through prices old t)) (leaving-other (edgeNumber l i) (between l (i + 1) hi) v (λ k. z (A .from-is ∙ k))) in
+            = ap (minAll top (through prices old t)) (leaving-other (edgeNumber l i) (between l (i + 1) hi) v (λ k. z (A .from-is ∙ k))) in
             omega arith
 
 pub lower-end : {l prices old rows : List ℕ} {t lo hi i : ℕ} → InLower l prices t lo hi old rows i → hi ≤ i → Lowered l prices t lo hi old rows

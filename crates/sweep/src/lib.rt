@@ -102,7 +102,16 @@ fn clear(t: usize, count: usize, rows: &mut [u32; 9216])
 }
 
 // Lowers row t to the least that its edges give, over row t + 1.
-fn lower(l: &[u16], pairs: usize, symbols: usize, lo: usize, hi: usize, t: usize, prices: &[u32; 32], rows: &mut [u32; 9216])
+fn lower(
+    l: &[u16],
+    pairs: usize,
+    symbols: usize,
+    lo: usize,
+    hi: usize,
+    t: usize,
+    prices: &[u32; 32],
+    rows: &mut [u32; 9216],
+)
     requires { ⌜ Reads (now l) pairs symbols × InStep (now l) t lo hi × Clear (now l) t (now rows) ⌝ }
     ensures { λ _. ⌜ Lowered (now (l .entry)) (now (prices .entry)) t lo hi (now (rows .entry)) (now (rows .exit)) ⌝ }
 {
@@ -159,7 +168,18 @@ fn hit(from: usize, v: usize, here: u32, total: u32) -> bool
 }
 
 // The first edge of step t that leaves v and gives the total, or hi.
-fn next_edge(l: &[u16], pairs: usize, symbols: usize, lo: usize, hi: usize, t: usize, prices: &[u32; 32], rows: &[u32; 9216], v: usize, total: u32) -> usize
+fn next_edge(
+    l: &[u16],
+    pairs: usize,
+    symbols: usize,
+    lo: usize,
+    hi: usize,
+    t: usize,
+    prices: &[u32; 32],
+    rows: &[u32; 9216],
+    v: usize,
+    total: u32,
+) -> usize
     requires { ⌜ Reads (now l) pairs symbols × InStep (now l) t lo hi ⌝ }
     ensures { λ r. ⌜ NextAt (now (l .entry)) (now (prices .entry)) (now (rows .entry)) t lo hi v total r ⌝ }
 {
@@ -198,7 +218,18 @@ pub fn name_word(l: &[u16], at: Places, prices: &[u32; 32], rows: &[u32; 9216], 
     let mut t: usize = 0;
     while t < n {
         let hi = lo + wide(l[4 + n + t]);
-        let i = next_edge(l, pairs, symbols, lo, hi, t, prices, rows, v, rows[1024 * t + v]);
+        let i = next_edge(
+            l,
+            pairs,
+            symbols,
+            lo,
+            hi,
+            t,
+            prices,
+            rows,
+            v,
+            rows[1024 * t + v],
+        );
         let e = edge_at(l, pairs, symbols, i);
         label = label::append(label, e.symbol);
         v = e.to;
