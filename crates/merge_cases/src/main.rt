@@ -1,0 +1,188 @@
+// Runs document 01's marked cases of merging, 1 to 6 and 9, and prints each answer's number and values and both buffers, whose places were all 9; then
+// the answers on each side of the four bounds on words, states, n and q.
+ghost use Prim.Native.Nat.{_+_, _*_, _≤_};
+ghost use lib.ListN.{length};
+use merge::Merged;
+
+fn put_number(x: u64) {
+    io::write_all(1, b" ");
+    io::print_decimal(1, x);
+}
+
+fn put_value(number: u64, value: usize) {
+    put_number(number);
+    put_number(value as u64);
+}
+
+fn put_witness(depth: usize, i: usize, j: usize, k: usize) {
+    put_value(6, depth);
+    put_number(i as u64);
+    put_number(j as u64);
+    put_number(k as u64);
+}
+
+// Document 01's number and values of an answer.
+fn put_answer(answer: Merged) {
+    io::write_all(1, b"answer");
+    match answer {
+        Merged::Section(length) => put_value(0, length),
+        Merged::Length(length) => put_value(1, length),
+        Merged::Size(place) => put_value(2, place),
+        Merged::Word(index) => put_value(3, index),
+        Merged::Order(index) => put_value(4, index),
+        Merged::ShortMap(needed) => put_value(5, needed),
+        Merged::NotRectangular(depth, i, j, k) => put_witness(depth, i, j, k),
+        Merged::ShortSection(needed) => put_value(7, needed),
+    }
+    io::write_all(1, b"\n");
+}
+
+fn put_place(x: u16) {
+    put_number(x as u64);
+}
+
+fn put_buffer(name: &[u8], buffer: &[u16]) {
+    io::write_all(1, name);
+    let mut i: usize = 0;
+    while i < buffer.len() {
+        put_place(buffer[i]);
+        i += 1;
+    }
+    io::write_all(1, b"\n");
+}
+
+fn run_case(name: &[u8], file: &[u8], map: &mut [u16], section: &mut [u16]) {
+    io::write_all(1, name);
+    put_answer(merge::merge(file, map, section));
+    put_buffer(b"map", map);
+    put_buffer(b"section", section);
+}
+
+// The labels 00, 01, 10, 11.
+fn case_1() {
+    let file =
+        b"\x02\x02\x01\x04\x00\x00\x00\x00\x00\x00\x00\x00\x00\x00\x00\x01\x00\x04\x00\x05\x00";
+    let mut map = [9u16; 13];
+    let mut section = [9u16; 23];
+    run_case(b"case 1\n", file, &mut map, &mut section);
+}
+
+// Case 1 without 11.
+fn case_2() {
+    let file = b"\x02\x02\x01\x03\x00\x00\x00\x00\x00\x00\x00\x00\x00\x01\x00\x04\x00";
+    let mut map = [9u16; 10];
+    let mut section = [9u16; 23];
+    run_case(b"case 2\n", file, &mut map, &mut section);
+}
+
+// The labels 00 and 11.
+fn case_3() {
+    let file = b"\x02\x02\x01\x02\x00\x00\x00\x00\x00\x00\x00\x05\x00";
+    let mut map = [9u16; 7];
+    let mut section = [9u16; 23];
+    run_case(b"case 3\n", file, &mut map, &mut section);
+}
+
+// Two states and three words of one symbol.
+fn case_4() {
+    let file = b"\x02\x01\x02\x03\x00\x00\x00\x00\x01\x01\x00\x00\x00\x00\x00\x00\x00";
+    let mut map = [9u16; 7];
+    let mut section = [9u16; 20];
+    run_case(b"case 4\n", file, &mut map, &mut section);
+}
+
+// Case 1, and a section buffer of 21 numbers.
+fn case_5() {
+    let file =
+        b"\x02\x02\x01\x04\x00\x00\x00\x00\x00\x00\x00\x00\x00\x00\x00\x01\x00\x04\x00\x05\x00";
+    let mut map = [9u16; 13];
+    let mut section = [9u16; 21];
+    run_case(b"case 5\n", file, &mut map, &mut section);
+}
+
+// No word.
+fn case_6() {
+    let mut map = [9u16; 3];
+    let mut section = [9u16; 3];
+    run_case(b"case 6\n", b"\x02\x02\x01\x00\x00", &mut map, &mut section);
+}
+
+// The rate 2/3 section of document 004.
+fn case_9() {
+    let file =
+        b"\x02\x03\x04\x10\x00\x00\x00\x00\x03\x00\x02\x00\x01\x01\x00\x01\x03\x01\x02\x01\x01\x02\x01\x02\x02\x02\x03\x02\x00\x03\x01\x03\x02\x03\x03\x03\x00\x00\x00\x05\x00\x11\x00\x14\x00\x01\x00\x04\x00\x10\x00\x15\x00\x01\x00\x04\x00\x10\x00\x15\x00\x00\x00\x05\x00\x11\x00\x14\x00";
+    let mut map = [9u16; 65];
+    let mut section = [9u16; 115];
+    run_case(b"case 9\n", file, &mut map, &mut section);
+}
+
+fn run_bound(name: &[u8], file: &[u8]) {
+    let mut map = [0u16; 9216];
+    let mut section = [0u16; 128];
+    io::write_all(1, name);
+    put_answer(merge::merge(file, &mut map, &mut section));
+}
+
+fn low(x: usize) -> u8 {
+    (x % 256) as u8
+}
+
+fn high(x: usize) -> u8 {
+    (x / 256 % 256) as u8
+}
+
+// The labels 0, 1, 2 and so on, two bytes each, from place `from` on.
+fn put_labels(file: &mut [u8], from: usize, count: usize)
+    requires { ⌜ from + 2 * count ≤ length (now file) ⌝ }
+{
+    let mut i: usize = 0;
+    while i < count {
+        file[from + 2 * i] = low(i);
+        file[from + 2 * i + 1] = high(i);
+        i += 1;
+    }
+}
+
+// Tables of one root, one goal, n 8 and the labels 0, 1, 2 and so on.
+fn bound_words() {
+    let mut most = [0u8; 4101];
+    put_labels(&mut most, 2053, 1024);
+    most[0] = 4;
+    most[1] = 8;
+    most[2] = 1;
+    most[4] = 4;
+    run_bound(b"1024 words\n", &most);
+    let mut over = [0u8; 4105];
+    put_labels(&mut over, 2055, 1025);
+    over[0] = 4;
+    over[1] = 8;
+    over[2] = 1;
+    over[3] = 1;
+    over[4] = 4;
+    run_bound(b"1025 words\n", &over);
+}
+
+fn bound_states() {
+    run_bound(b"64 states\n", b"\x02\x01\x40\x01\x00\x3f\x3f\x00\x00");
+    run_bound(b"65 states\n", b"\x02\x01\x41\x01\x00\x40\x40\x00\x00");
+}
+
+fn bound_symbols() {
+    run_bound(b"n 8\n", b"\x02\x08\x01\x01\x00\x00\x00\x55\x55");
+    run_bound(b"n 9\n", b"\x02\x09\x01\x01\x00\x00\x00\x55\x55");
+    run_bound(b"q 4\n", b"\x04\x01\x01\x01\x00\x00\x00\x03\x00");
+    run_bound(b"q 5\n", b"\x05\x01\x01\x01\x00\x00\x00\x03\x00");
+}
+
+fn main() {
+    case_1();
+    case_2();
+    case_3();
+    case_4();
+    case_5();
+    case_6();
+    case_9();
+    bound_words();
+    bound_states();
+    bound_symbols();
+}
