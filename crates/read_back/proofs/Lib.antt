@@ -6,3 +6,4 @@ pub mod Writing
 pub mod Sections
 pub mod Depths
 pub mod Outcomes
+pub mod Again

@@ -11,7 +11,7 @@ use lib.Seq.{getD-append-add, ext-getD}
 use Rattle.trellis.specs.Lists.{run, each, sum}
 use Rattle.trellis.specs.Word.{Word}
 use Rattle.trellis.specs.Own.{Edge, edge, keys, vertexCount, edgesAt, edgeCount}
-use Rattle.trellis.specs.Layout.{nOf, vertexCountOf, edgeCountOf, edgesBefore, rootsPlace, goalsPlace, pairsPlace, symbolsPlace, sectionLength, rootState, goalState, edgeNumber, stepEdges, joinedUp, pairOf, symbolOf, sectionOf}
+use Rattle.trellis.specs.Layout.{qOf, nOf, statesOf, vertexCountOf, edgeCountOf, edgesBefore, rootsPlace, goalsPlace, pairsPlace, symbolsPlace, sectionLength, rootState, goalState, edgeNumber, stepEdges, joinedUp, pairOf, symbolOf, sectionOf}
 use Rattle.trellis.proofs.Lists.{length-run, run-at, each-at, sum-eq}
 use Rattle.trellis.proofs.Paths.{edge-eq}
 
@@ -150,9 +150,17 @@ module _ (q n S : ℕ) (table : List Word) where
   edge-counts-long : length edgeCounts ≡ n
   edge-counts-long = length-run (edgeCount n table) 0 n
 
+  pub own-q : qOf l ≡ q
+  unfolding sectionOf
+  own-q = refl
+
   pub own-n : nOf l ≡ n
   unfolding sectionOf
   own-n = refl
+
+  pub own-states : statesOf l ≡ S
+  unfolding sectionOf
+  own-states = refl
 
   pub own-vertex-count : (t : ℕ) → t ≤ n → vertexCountOf l t ≡ vertexCount n table t
   unfolding vertexCountOf sectionOf

@@ -1,3 +1,4 @@
+-- `read_back::first_level` meets its contract. The loop's invariant: the vertices passed are put. The measure is what is left of them.
 use native.Mathlib.Omega.{arith}
 use Prim.Native.Nat.{_-_}
 use Rattle.read_back.proofs.Growing.{Rooted, rooted-start, rooted-next, rooted-all}

@@ -1,3 +1,4 @@
+-- `read_back::further` meets its contract, by what its calls ensure.
 use Rattle.read_back.proofs.Growing.{further-is}
 use borrow.Author.Needs.{needs}
 use Rattle.read_back.proofs.further.Statement.{statement}

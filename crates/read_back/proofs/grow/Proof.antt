@@ -1,3 +1,4 @@
+-- `read_back::grow` meets its contract. The loop's invariant: the beginnings passed are put one step further. The measure is what is left of them.
 use native.Mathlib.Omega.{arith}
 use Prim.Native.Nat.{_-_}
 use Rattle.trellis.specs.Lists.{run}

@@ -1,3 +1,5 @@
+-- `read_back::grow_one` meets its contract. The loop's invariant: what is filled, and the edges of the vertex from k on, are all that is to be put there.
+-- The measure is what is left of the edges.
 use mathlib.Core.Path.{sym, _∙_}
 use native.Mathlib.Omega.{arith}
 use Prim.Native.Nat.{_-_}

@@ -1,3 +1,4 @@
+-- `read_back::is_section` meets its contract, by what `usable_at` answers.
 use mathlib.Core.Path.{sym, _∙_}
 use Rattle.read_back.proofs.Sections.{is-usable, not-usable}
 use borrow.Author.Needs.{needs}

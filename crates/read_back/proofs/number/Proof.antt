@@ -1,3 +1,4 @@
+-- `read_back::number` meets its contract: past the end of a list there is 0.
 use Rattle.section_file.proofs.Reading.{past-end}
 use borrow.Author.Needs.{needs}
 use Rattle.read_back.proofs.number.Statement.{statement}

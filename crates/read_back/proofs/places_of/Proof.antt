@@ -1,3 +1,4 @@
+-- `read_back::places_of` meets its contract: a third of what stands behind the place of the pairs counts the edges.
 use Rattle.read_back.proofs.Sections.{pairs-inside, places-are}
 use borrow.Author.Needs.{needs}
 use Rattle.read_back.proofs.places_of.Statement.{statement}

@@ -1,3 +1,4 @@
+-- `read_back::put_file` meets its contract: the three pieces, one behind another, are the file.
 use native.Mathlib.Omega.{arith}
 use Rattle.read_back.proofs.Writing.{pairs-end, labels-room, file-put}
 use borrow.Author.Needs.{needs}

@@ -1,3 +1,4 @@
+-- `read_back::put_labels` meets its contract. The loop's invariant: the labels passed are written. The measure is what is left of them.
 use native.Mathlib.Omega.{arith}
 use Prim.Native.Nat.{_-_}
 use lib.ListN.{length-set}

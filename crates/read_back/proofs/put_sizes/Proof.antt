@@ -1,3 +1,4 @@
+-- `read_back::put_sizes` meets its contract: five bytes, one behind another.
 use native.Mathlib.Omega.{arith}
 use lib.ListN.{length-set}
 use Rattle.read_back.proofs.Writing.{sizes-put}

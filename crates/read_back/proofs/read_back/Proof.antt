@@ -1,3 +1,5 @@
+-- `read_back::read_back` meets its contract: the definition makes the same checks in the same order, so each way out is the case that the tests before it
+-- leave.
 use mathlib.Core.Path.{refl, _∙_}
 use Rattle.section_file.proofs.Usable.{usable-sound}
 use Rattle.read_back.proofs.Sections.{section-sound}

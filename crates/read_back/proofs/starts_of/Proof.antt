@@ -1,3 +1,4 @@
+-- `read_back::starts_of` meets its contract. The loop's invariant: the edges from k on are noted. The measure is k.
 use mathlib.Core.Path.{refl}
 use native.Mathlib.Omega.{arith}
 use Prim.Native.Nat.{_-_, _<_}

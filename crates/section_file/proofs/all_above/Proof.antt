@@ -1,3 +1,4 @@
+-- `section_file::all_above` meets its contract. The loop's invariant: each edge passed is above the one before it. The measure is what is left of them.
 use Prim.Native.Nat.{_-_}
 use Rattle.section_file.specs.Usable.{above}
 use Rattle.section_file.specs.Answer.{edgeAt}

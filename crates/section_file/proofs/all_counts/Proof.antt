@@ -1,3 +1,4 @@
+-- `section_file::all_counts` meets its contract. The loop's invariant: all counts passed are in bounds. The measure is what is left of them.
 use mathlib.Core.Path.{_∙_, ap}
 use Prim.Native.Nat.{_+_, _-_}
 use lib.ListN.{getD}

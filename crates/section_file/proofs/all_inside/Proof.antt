@@ -1,3 +1,4 @@
+-- `section_file::all_inside` meets its contract. The loop's invariant: all edges passed are within bounds. The measure is what is left of them.
 use Prim.Native.Nat.{_-_}
 use Rattle.section_file.specs.Usable.{inside}
 use Rattle.section_file.specs.Answer.{edgeAt}

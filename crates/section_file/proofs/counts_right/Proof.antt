@@ -1,3 +1,4 @@
+-- `section_file::counts_right` meets its contract: the vertex counts decide, and else the edge counts.
 use Rattle.section_file.proofs.Reading.{vertices-wrong, counts-by-edges}
 use borrow.Author.Needs.{needs}
 use Rattle.section_file.proofs.counts_right.Statement.{statement}

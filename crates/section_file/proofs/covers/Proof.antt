@@ -1,3 +1,4 @@
+-- `section_file::covers` meets its contract. The loop's invariant: all vertices passed are met. The measure is what is left of them.
 use Prim.Native.Nat.{_+_, _-_, _*_}
 use lib.ListN.{getD}
 use lib.Dec.{eqb}

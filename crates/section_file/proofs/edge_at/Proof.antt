@@ -1,3 +1,4 @@
+-- `section_file::edge_at` meets its contract: it reads the three places that the definition names.
 use Rattle.section_file.proofs.Reading.{edge-is}
 use borrow.Author.Needs.{needs}
 use Rattle.section_file.proofs.edge_at.Statement.{statement}

@@ -1,3 +1,4 @@
+-- `section_file::front_part` meets its contract: the first condition of usable that fails decides, and where none fails the section is usable.
 use mathlib.Core.Path.{_∙_}
 use native.Mathlib.Omega.{arith}
 use Rattle.section_file.proofs.Steps.{n-few, counted, part-sizes, part-counts, part-cut, part-states, part-steps, part-usable}

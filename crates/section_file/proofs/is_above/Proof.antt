@@ -1,3 +1,4 @@
+-- `section_file::is_above` meets its contract: the first edge has none before it.
 use Rattle.section_file.proofs.Reading.{no-edge-before, above-is}
 use borrow.Author.Needs.{needs}
 use Rattle.section_file.proofs.is_above.Statement.{statement}

@@ -1,3 +1,4 @@
+-- `section_file::is_higher` meets its contract: the first vertex has none before it.
 use Rattle.section_file.proofs.Reading.{no-vertex-before, higher-is}
 use borrow.Author.Needs.{needs}
 use Rattle.section_file.proofs.is_higher.Statement.{statement}

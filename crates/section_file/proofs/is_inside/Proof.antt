@@ -1,3 +1,4 @@
+-- `section_file::is_inside` meets its contract, by the three tests of the definition.
 use Rattle.section_file.proofs.Reading.{from-outside, symbol-outside, inside-by-to}
 use borrow.Author.Needs.{needs}
 use Rattle.section_file.proofs.is_inside.Statement.{statement}

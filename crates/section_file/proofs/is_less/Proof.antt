@@ -1,3 +1,4 @@
+-- `section_file::is_less` meets its contract: each way out is the case of the order that the tests before it leave.
 use Rattle.section_file.proofs.Reading.{from-less, from-other, symbol-less, symbol-other, less-by-to}
 use borrow.Author.Needs.{needs}
 use Rattle.section_file.proofs.is_less.Statement.{statement}

@@ -1,3 +1,4 @@
+-- `section_file::is_rising` meets its contract. The loop's invariant: all states passed are below the bound and ascend. The measure is what is left of them.
 use mathlib.Core.Bool.{_&&_}
 use Prim.Native.Nat.{_+_, _-_}
 use lib.Dec.{ltb}

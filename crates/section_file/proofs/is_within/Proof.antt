@@ -1,3 +1,4 @@
+-- `section_file::is_within` meets its contract, by the two tests of the definition.
 use Rattle.section_file.proofs.Reading.{below-low, from-low-on}
 use Rattle.section_file.proofs.is_within.Statement.{statement}
 use Rattle.section_file.proofs.is_within.Tie as tie

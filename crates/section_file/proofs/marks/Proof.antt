@@ -1,3 +1,4 @@
+-- `section_file::marks` meets its contract. The loop's invariant: just the vertices passed are marked. The measure is what is left of them.
 use mathlib.Core.Path.{refl}
 use native.Mathlib.Omega.{arith}
 use Prim.Native.Nat.{_+_, _-_, _*_}

@@ -1,3 +1,4 @@
+-- `section_file::number` meets its contract: past the end of a list there is 0.
 use Rattle.section_file.proofs.Reading.{past-end}
 use borrow.Author.Needs.{needs}
 use Rattle.section_file.proofs.number.Statement.{statement}

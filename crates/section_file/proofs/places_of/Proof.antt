@@ -1,3 +1,4 @@
+-- `section_file::places_of` meets its contract: each place is the one before it and the length of what stands between.
 use Rattle.section_file.proofs.Reading.{places-are}
 use borrow.Author.Needs.{needs}
 use Rattle.section_file.proofs.places_of.Statement.{statement}

@@ -1,3 +1,4 @@
+-- `section_file::sizes_right` meets its contract: the first size out of bounds decides, and else the last one.
 use Rattle.section_file.proofs.Reading.{q-wrong, n-wrong, sizes-by-states}
 use borrow.Author.Needs.{needs}
 use Rattle.section_file.proofs.sizes_right.Statement.{statement}

@@ -1,3 +1,4 @@
+-- `section_file::state_right` meets its contract, by the two tests of the definition.
 use Rattle.section_file.proofs.Reading.{state-wrong, state-by-higher}
 use borrow.Author.Needs.{needs}
 use Rattle.section_file.proofs.state_right.Statement.{statement}

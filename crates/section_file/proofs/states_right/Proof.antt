@@ -1,3 +1,4 @@
+-- `section_file::states_right` meets its contract: the root states decide, and else the goal states.
 use Rattle.section_file.proofs.Reading.{counted-at, roots-wrong, states-by-goals}
 use borrow.Author.Needs.{needs}
 use Rattle.section_file.proofs.states_right.Statement.{statement}

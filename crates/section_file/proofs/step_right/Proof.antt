@@ -1,8 +1,17 @@
+-- `section_file::step_right` meets its contract: the first condition that fails decides, and else the last one. That the edges are within bounds is what
+-- the later checks require.
 use native.Mathlib.Omega.{arith}
-use Rattle.section_file.proofs.Steps.{step-read, froms-few, tos-few, inside-wrong, from-vertices, to-vertices, the-symbols, above-wrong, onward-wrong, inward-wrong, forward-wrong, by-backward}
+use Rattle.section_file.proofs.Steps.{StepRead, step-read, froms-few, tos-few, inside-wrong, from-vertices, to-vertices, the-symbols, above-wrong, onward-wrong, inward-wrong, forward-wrong, by-backward}
 use borrow.Author.Needs.{needs}
 use Rattle.section_file.proofs.step_right.Statement.{statement}
 use Rattle.section_file.proofs.step_right.Tie as tie
+
+-- what is read of the step, once its numbers are
+read : (m : tie.After-number4) → let a = m .before .before .before .before .before .before .args in
+    StepRead (a .l .now) (a .n) (a .t) (a .pairs) (a .symbols) (m .before .before .before .wide .result) (m .number4 .result) (m .before .before .number2 .result) (m .before .number3 .result)
+read m =
+    let w = m .before .before .before in
+    step-read (w .before .before .before .pre) (w .before .number .ensures) (w .wide .ensures) (m .before .before .number2 .ensures) (m .before .number3 .ensures) (m .number4 .ensures)
 
 add-number : tie.Need-add-number
 add-number c = search needs
@@ -35,31 +44,34 @@ number-requires-4 : tie.Need-number-requires-4
 number-requires-4 c κs = search needs
 
 all-inside-requires : tie.Need-all-inside-requires
-all-inside-requires c κs = let m = c in let n3 = m .before in let n2 = n3 .before in let w = n2 .before in let n = w .before in let r = step-read (n .before .before .pre) (n .number .ensures) (w .wide .ensures) (n2 .number2 .ensures) (n3 .number3 .ensures) (m .number4 .ensures) in
-    (omega (arith, r .at .pairsTo), omega (arith, r .at .symbolsTo), r .few)
+all-inside-requires c κs =
+    let r = read c in (omega (arith, r .at .pairsTo), omega (arith, r .at .symbolsTo), r .few)
 
 returns : tie.Need-returns
-returns c = let A = c .before in let m = A .before in let n3 = m .before in let n2 = n3 .before in let w = n2 .before in let n = w .before in let r = step-read (n .before .before .pre) (n .number .ensures) (w .wide .ensures) (n2 .number2 .ensures) (n3 .number3 .ensures) (m .number4 .ensures) in
-    inside-wrong r (A .all-inside .ensures) (c .if1 .taken)
+returns c =
+    inside-wrong (read (c .before .before)) (c .before .all-inside .ensures) (c .if1 .taken)
 
 all-above-requires : tie.Need-all-above-requires
-all-above-requires c κs = let e1 = c in let A = e1 .before in let m = A .before in let n3 = m .before in let n2 = n3 .before in let w = n2 .before in let n = w .before in let r = step-read (n .before .before .pre) (n .number .ensures) (w .wide .ensures) (n2 .number2 .ensures) (n3 .number3 .ensures) (m .number4 .ensures) in
-    (omega (arith, r .at .pairsTo), omega (arith, r .at .symbolsTo), r .few)
+all-above-requires c κs =
+    let r = read (c .before .before) in (omega (arith, r .at .pairsTo), omega (arith, r .at .symbolsTo), r .few)
 
 returns-2 : tie.Need-returns-2
-returns-2 c = let AA = c .before in let e1 = AA .before in let A = e1 .before in let m = A .before in let n3 = m .before in let n2 = n3 .before in let w = n2 .before in let n = w .before in let r = step-read (n .before .before .pre) (n .number .ensures) (w .wide .ensures) (n2 .number2 .ensures) (n3 .number3 .ensures) (m .number4 .ensures) in
-    above-wrong r (A .all-inside .ensures) (e1 .if1 .left) (AA .all-above .ensures) (c .if2 .taken)
+returns-2 c =
+    let AA = c .before in let e1 = AA .before in let A = e1 .before in
+    above-wrong (read (A .before)) (A .all-inside .ensures) (e1 .if1 .left) (AA .all-above .ensures) (c .if2 .taken)
 
 wide-requires-2 : tie.Need-wide-requires-2
 wide-requires-2 c κs = search needs
 
 covers-requires : tie.Need-covers-requires
-covers-requires c κs = let w2 = c in let e2 = w2 .before in let AA = e2 .before in let e1 = AA .before in let A = e1 .before in let m = A .before in let n3 = m .before in let n2 = n3 .before in let w = n2 .before in let n = w .before in let r = step-read (n .before .before .pre) (n .number .ensures) (w .wide .ensures) (n2 .number2 .ensures) (n3 .number3 .ensures) (m .number4 .ensures) in
-    (from-vertices r (A .all-inside .ensures) (e1 .if1 .left), omega (arith, froms-few r, w2 .wide2 .ensures .0))
+covers-requires c κs =
+    let w2 = c in let e2 = w2 .before in let AA = e2 .before in let e1 = AA .before in let A = e1 .before in
+    (from-vertices (read (A .before)) (A .all-inside .ensures) (e1 .if1 .left), omega (arith, froms-few (read (A .before)), w2 .wide2 .ensures .0))
 
 returns-3 : tie.Need-returns-3
-returns-3 c = let C = c .before in let w2 = C .before in let e2 = w2 .before in let AA = e2 .before in let e1 = AA .before in let A = e1 .before in let m = A .before in let n3 = m .before in let n2 = n3 .before in let w = n2 .before in let n = w .before in let r = step-read (n .before .before .pre) (n .number .ensures) (w .wide .ensures) (n2 .number2 .ensures) (n3 .number3 .ensures) (m .number4 .ensures) in
-    onward-wrong r (A .all-inside .ensures) (e1 .if1 .left) (AA .all-above .ensures) (e2 .if2 .left) (w2 .wide2 .ensures) (C .covers .ensures) (c .if3 .taken)
+returns-3 c =
+    let C = c .before in let w2 = C .before in let e2 = w2 .before in let AA = e2 .before in let e1 = AA .before in let A = e1 .before in
+    onward-wrong (read (A .before)) (A .all-inside .ensures) (e1 .if1 .left) (AA .all-above .ensures) (e2 .if2 .left) (w2 .wide2 .ensures) (C .covers .ensures) (c .if3 .taken)
 
 add-covers : tie.Need-add-covers
 add-covers c = search needs
@@ -68,12 +80,14 @@ wide-requires-3 : tie.Need-wide-requires-3
 wide-requires-3 c κs = search needs
 
 covers-requires-2 : tie.Need-covers-requires-2
-covers-requires-2 c κs = let w3 = c in let e3 = w3 .before in let C = e3 .before in let w2 = C .before in let e2 = w2 .before in let AA = e2 .before in let e1 = AA .before in let A = e1 .before in let m = A .before in let n3 = m .before in let n2 = n3 .before in let w = n2 .before in let n = w .before in let r = step-read (n .before .before .pre) (n .number .ensures) (w .wide .ensures) (n2 .number2 .ensures) (n3 .number3 .ensures) (m .number4 .ensures) in
-    (to-vertices r (A .all-inside .ensures) (e1 .if1 .left), omega (arith, tos-few r, w3 .wide3 .ensures .0))
+covers-requires-2 c κs =
+    let w3 = c in let e3 = w3 .before in let C = e3 .before in let w2 = C .before in let e2 = w2 .before in let AA = e2 .before in let e1 = AA .before in let A = e1 .before in
+    (to-vertices (read (A .before)) (A .all-inside .ensures) (e1 .if1 .left), omega (arith, tos-few (read (A .before)), w3 .wide3 .ensures .0))
 
 returns-4 : tie.Need-returns-4
-returns-4 c = let C2 = c .before in let w3 = C2 .before in let e3 = w3 .before in let C = e3 .before in let w2 = C .before in let e2 = w2 .before in let AA = e2 .before in let e1 = AA .before in let A = e1 .before in let m = A .before in let n3 = m .before in let n2 = n3 .before in let w = n2 .before in let n = w .before in let r = step-read (n .before .before .pre) (n .number .ensures) (w .wide .ensures) (n2 .number2 .ensures) (n3 .number3 .ensures) (m .number4 .ensures) in
-    inward-wrong r (A .all-inside .ensures) (e1 .if1 .left) (AA .all-above .ensures) (e2 .if2 .left) (w2 .wide2 .ensures) (C .covers .ensures) (e3 .if3 .left) (w3 .wide3 .ensures) (C2 .covers2 .ensures) (c .if4 .taken)
+returns-4 c =
+    let C2 = c .before in let w3 = C2 .before in let e3 = w3 .before in let C = e3 .before in let w2 = C .before in let e2 = w2 .before in let AA = e2 .before in let e1 = AA .before in let A = e1 .before in
+    inward-wrong (read (A .before)) (A .all-inside .ensures) (e1 .if1 .left) (AA .all-above .ensures) (e2 .if2 .left) (w2 .wide2 .ensures) (C .covers .ensures) (e3 .if3 .left) (w3 .wide3 .ensures) (C2 .covers2 .ensures) (c .if4 .taken)
 
 add-twins-right : tie.Need-add-twins-right
 add-twins-right c = search needs
@@ -82,23 +96,27 @@ add-twins-right-2 : tie.Need-add-twins-right-2
 add-twins-right-2 c = search needs
 
 twins-right-requires : tie.Need-twins-right-requires
-twins-right-requires c κs = let e4 = c in let C2 = e4 .before in let w3 = C2 .before in let e3 = w3 .before in let C = e3 .before in let w2 = C .before in let e2 = w2 .before in let AA = e2 .before in let e1 = AA .before in let A = e1 .before in let m = A .before in let n3 = m .before in let n2 = n3 .before in let w = n2 .before in let n = w .before in let r = step-read (n .before .before .pre) (n .number .ensures) (w .wide .ensures) (n2 .number2 .ensures) (n3 .number3 .ensures) (m .number4 .ensures) in
-    (from-vertices r (A .all-inside .ensures) (e1 .if1 .left), to-vertices r (A .all-inside .ensures) (e1 .if1 .left), the-symbols r (A .all-inside .ensures) (e1 .if1 .left))
+twins-right-requires c κs =
+    let e4 = c in let C2 = e4 .before in let w3 = C2 .before in let e3 = w3 .before in let C = e3 .before in let w2 = C .before in let e2 = w2 .before in let AA = e2 .before in let e1 = AA .before in let A = e1 .before in
+    (from-vertices (read (A .before)) (A .all-inside .ensures) (e1 .if1 .left), to-vertices (read (A .before)) (A .all-inside .ensures) (e1 .if1 .left), the-symbols (read (A .before)) (A .all-inside .ensures) (e1 .if1 .left))
 
 returns-5 : tie.Need-returns-5
-returns-5 c = let T = c .before in let e4 = T .before in let C2 = e4 .before in let w3 = C2 .before in let e3 = w3 .before in let C = e3 .before in let w2 = C .before in let e2 = w2 .before in let AA = e2 .before in let e1 = AA .before in let A = e1 .before in let m = A .before in let n3 = m .before in let n2 = n3 .before in let w = n2 .before in let n = w .before in let r = step-read (n .before .before .pre) (n .number .ensures) (w .wide .ensures) (n2 .number2 .ensures) (n3 .number3 .ensures) (m .number4 .ensures) in
-    forward-wrong r (A .all-inside .ensures) (e1 .if1 .left) (AA .all-above .ensures) (e2 .if2 .left) (w2 .wide2 .ensures) (C .covers .ensures) (e3 .if3 .left) (w3 .wide3 .ensures) (C2 .covers2 .ensures) (e4 .if4 .left) (T .twins-right .ensures) (c .if5 .taken)
+returns-5 c =
+    let T = c .before in let e4 = T .before in let C2 = e4 .before in let w3 = C2 .before in let e3 = w3 .before in let C = e3 .before in let w2 = C .before in let e2 = w2 .before in let AA = e2 .before in let e1 = AA .before in let A = e1 .before in
+    forward-wrong (read (A .before)) (A .all-inside .ensures) (e1 .if1 .left) (AA .all-above .ensures) (e2 .if2 .left) (w2 .wide2 .ensures) (C .covers .ensures) (e3 .if3 .left) (w3 .wide3 .ensures) (C2 .covers2 .ensures) (e4 .if4 .left) (T .twins-right .ensures) (c .if5 .taken)
 
 add-twins-right-3 : tie.Need-add-twins-right-3
 add-twins-right-3 c = search needs
 
 twins-right-requires-2 : tie.Need-twins-right-requires-2
-twins-right-requires-2 c κs = let e5 = c in let T = e5 .before in let e4 = T .before in let C2 = e4 .before in let w3 = C2 .before in let e3 = w3 .before in let C = e3 .before in let w2 = C .before in let e2 = w2 .before in let AA = e2 .before in let e1 = AA .before in let A = e1 .before in let m = A .before in let n3 = m .before in let n2 = n3 .before in let w = n2 .before in let n = w .before in let r = step-read (n .before .before .pre) (n .number .ensures) (w .wide .ensures) (n2 .number2 .ensures) (n3 .number3 .ensures) (m .number4 .ensures) in
-    (to-vertices r (A .all-inside .ensures) (e1 .if1 .left), from-vertices r (A .all-inside .ensures) (e1 .if1 .left), the-symbols r (A .all-inside .ensures) (e1 .if1 .left))
+twins-right-requires-2 c κs =
+    let e5 = c in let T = e5 .before in let e4 = T .before in let C2 = e4 .before in let w3 = C2 .before in let e3 = w3 .before in let C = e3 .before in let w2 = C .before in let e2 = w2 .before in let AA = e2 .before in let e1 = AA .before in let A = e1 .before in
+    (to-vertices (read (A .before)) (A .all-inside .ensures) (e1 .if1 .left), from-vertices (read (A .before)) (A .all-inside .ensures) (e1 .if1 .left), the-symbols (read (A .before)) (A .all-inside .ensures) (e1 .if1 .left))
 
 returns-6 : tie.Need-returns-6
-returns-6 c = let e5 = c .before in let T = e5 .before in let e4 = T .before in let C2 = e4 .before in let w3 = C2 .before in let e3 = w3 .before in let C = e3 .before in let w2 = C .before in let e2 = w2 .before in let AA = e2 .before in let e1 = AA .before in let A = e1 .before in let m = A .before in let n3 = m .before in let n2 = n3 .before in let w = n2 .before in let n = w .before in let r = step-read (n .before .before .pre) (n .number .ensures) (w .wide .ensures) (n2 .number2 .ensures) (n3 .number3 .ensures) (m .number4 .ensures) in
-    by-backward r (A .all-inside .ensures) (e1 .if1 .left) (AA .all-above .ensures) (e2 .if2 .left) (w2 .wide2 .ensures) (C .covers .ensures) (e3 .if3 .left) (w3 .wide3 .ensures) (C2 .covers2 .ensures) (e4 .if4 .left) (T .twins-right .ensures) (e5 .if5 .left) (c .twins-right2 .ensures)
+returns-6 c =
+    let e5 = c .before in let T = e5 .before in let e4 = T .before in let C2 = e4 .before in let w3 = C2 .before in let e3 = w3 .before in let C = e3 .before in let w2 = C .before in let e2 = w2 .before in let AA = e2 .before in let e1 = AA .before in let A = e1 .before in
+    by-backward (read (A .before)) (A .all-inside .ensures) (e1 .if1 .left) (AA .all-above .ensures) (e2 .if2 .left) (w2 .wide2 .ensures) (C .covers .ensures) (e3 .if3 .left) (w3 .wide3 .ensures) (C2 .covers2 .ensures) (e4 .if4 .left) (T .twins-right .ensures) (e5 .if5 .left) (c .twins-right2 .ensures)
 
 pub step-right-spec : {M : Type 1} → statement M
 step-right-spec =

@@ -1,3 +1,4 @@
+-- `section_file::total` meets its contract. The loop's invariant: the sum is that of the numbers passed. The measure is what is left of them.
 use Prim.Native.Nat.{_+_, _-_}
 use lib.ListN.{getD}
 use Rattle.section_file.proofs.Reading.{Summed, summed-start, summed-next, summed-all}

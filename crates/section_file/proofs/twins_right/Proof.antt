@@ -1,3 +1,4 @@
+-- `section_file::twins_right` meets its contract: where the depth is not an inner one, nothing is asked.
 use Rattle.section_file.proofs.Tests.{if-so}
 use borrow.Author.Needs.{needs}
 use Rattle.section_file.proofs.twins_right.Statement.{statement}

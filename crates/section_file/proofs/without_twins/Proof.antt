@@ -1,3 +1,5 @@
+-- `section_file::without_twins` meets its contract. The loop's invariant: no two edges passed make twins, and for each vertex and symbol that they have the
+-- array has their one vertex at the other end. The measure is what is left of them.
 use mathlib.Core.Path.{refl}
 use native.Mathlib.Omega.{arith}
 use Prim.Native.Nat.{_+_, _-_, _*_}
