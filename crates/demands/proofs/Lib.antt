@@ -1,0 +1,2 @@
+pub mod SameDrawing
+pub mod Demanded

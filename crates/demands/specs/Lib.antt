@@ -1,0 +1,2 @@
+-- What the three demands say of merging.
+pub mod Merged
