@@ -11,18 +11,13 @@ use lib.Dec.{T, eqb, lit<}
 use borrow.Author.Tests.{eq-eqb, ne-eqb}
 use Rattle.trellis.specs.Lists.{one-if, sum}
 use Rattle.trellis.specs.Label.{symbol, distance}
-use Rattle.trellis.proofs.Lists.{sum-add, sum-eq}
+use Rattle.trellis.proofs.Lists.{sum-add, sum-eq, sum-last}
 use Rattle.label.specs.Labels.{appended}
 use Rattle.label.proofs.Appending.{appended-short, appended-last, appended-before}
 use Rattle.label.proofs.Differing.{distance-more, distance-sum, distance-le}
 use Rattle.label.proofs.Digits.{symbol-small}
 use Rattle.block.specs.Received.{erasedAt, costOver, symbolCost, blockDistance, Clean}
 use Rattle.block.specs.Loops.{InHeard}
-
-sum-last : (f : ℕ → ℕ) (at k : ℕ) → sum f at (suc k) ≡ sum f at k + f (at + k)
-unfolding sum
-sum-last f at zero = let e : f (at + 0) ≡ f at = ap f (omega arith) in omega arith
-sum-last f at (suc k) = let h = sum-last f (suc at) k in let e : f (suc at + k) ≡ f (at + suc k) = ap f (omega arith) in omega arith
 
 pub heard-start : {n mask label : ℕ} → InHeard n mask label 0 0 0
 unfolding sum

@@ -13,6 +13,7 @@ use lib.Dec.{lit<, eqb}
 use borrow.Author.Tests.{eq-eqb, ne-eqb}
 use Rattle.trellis.specs.Lists.{one-if, sum}
 use Rattle.trellis.specs.Label.{symbol, distance}
+use Rattle.trellis.proofs.Lists.{sum-last}
 use Rattle.label.proofs.Digits.{four-pos, drop-short, symbol-last, symbol-drop}
 
 -- 1 where two symbols differ
@@ -45,11 +46,6 @@ distance-more (suc n) (suc m) x y a b h =
     (distance-more n m (x / 4) (y / 4) (drop-short n a) (drop-short n b) (omega arith))
 
 -- ---- symbol by symbol
-
-sum-last : (f : ℕ → ℕ) (at n : ℕ) → sum f at (suc n) ≡ sum f at n + f (at + n)
-unfolding sum
-sum-last f at zero = omega (arith, ap f (add-zero at))
-sum-last f at (suc n) = omega (arith, sum-last f (suc at) n, ap f (suc-add at n ∙ sym (add-suc at n)))
 
 sum-alike : (f g : ℕ → ℕ) (at n : ℕ) → ((t : ℕ) → t < at + n → f t ≡ g t) → sum f at n ≡ sum g at n
 unfolding sum

@@ -9,10 +9,9 @@ use native.Mathlib.Numerals.{add-one}
 use lib.ListN.{length, getD, take, length-map}
 use Rattle.trellis.specs.Lists.{sum, run, each}
 use Rattle.trellis.specs.Layout.{nOf, statesOf, vertexCountOf, edgeCountOf, edgesBefore, rootsPlace, pairsPlace, symbolsPlace, rootState, stepEdges}
-use Rattle.trellis.proofs.Lists.{length-run}
+use Rattle.trellis.proofs.Lists.{length-run, sum-last}
 use Rattle.section_file.specs.Sound.{Sound}
 use Rattle.section_file.specs.Answer.{edgeAt}
-use Rattle.section_file.proofs.Reading.{sum-last}
 use Rattle.read_back.specs.Levels.{begun, level, code, coded, grownCodes}
 use Rattle.read_back.specs.Growing.{Made, StepIn, Gathered, FirstLevel, RootCodes}
 use Rattle.read_back.proofs.Levels.{levels-rise, level-coded}

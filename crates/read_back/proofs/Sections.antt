@@ -14,13 +14,13 @@ use borrow.Author.Tests.{eqb-true, not-false}
 use Rattle.trellis.specs.Lists.{sum, run, each, byFirst, bySecond, byThird}
 use Rattle.trellis.specs.Own as own
 use Rattle.trellis.specs.Layout.{qOf, nOf, statesOf, vertexCountOf, edgeCountOf, edgesBefore, rootsPlace, goalsPlace, pairsPlace, symbolsPlace, sectionLength, rootState, edgeNumber, stepEdges, sectionWords}
+use Rattle.trellis.proofs.Lists.{sum-last}
 use Rattle.section_file.specs.Usable.{stepEdge, usable}
 use Rattle.section_file.specs.Sound.{EdgeBefore, Sound}
 use Rattle.section_file.specs.Answer.{edgeAt, partOf}
 use Rattle.section_file.specs.declared.Part.{Part}
 use Rattle.section_file.specs.declared.Part.the-variants.{Usable, Unusable}
 use Rattle.section_file.proofs.Tests.{left-of, right-of}
-use Rattle.section_file.proofs.Reading.{sum-last}
 use Rattle.section_file.proofs.Steps.{edges-at}
 use Rattle.read_back.specs.ReadingBack.{isSection}
 use Rattle.read_back.specs.Levels.{Begun, begun, level, code, coded, grownCodes}

@@ -16,6 +16,8 @@ ghost use Rattle.read_back.specs.ReadingBack.{readBackOutcome, leaves, i
 ghost use Rattle.read_back.specs.Levels.{code, rootOf, vertexOf, labelOf, furtherCode, grownCodes};
 ghost use Rattle.read_back.specs.Growing.{Made, StepIn, BeginsAt, Starts, PlacesOf, Gathered, FirstLevel, RootCodes, byteOf, pairOfCode, labelOfCode, fileOfCodes};
 use label::append;
+use numbers::number;
+use numbers::wide;
 use section_file::Part;
 use section_file::usable_at;
 
@@ -32,23 +34,10 @@ struct Places {
     symbols: usize,
 }
 
-fn wide(x: u16) -> usize
-    ensures { λ r. ⌜ (r ≡ x) × (r < 65536) ⌝ }
-{
-    x as usize
-}
-
 fn wider(x: u16) -> u32
     ensures { λ r. ⌜ (r ≡ x) × (r < 65536) ⌝ }
 {
     x as u32
-}
-
-// A number past the end reads as 0.
-fn number(s: &[u16], i: usize) -> u16
-    ensures { λ r. ⌜ r ≡ getD (now (s .entry)) i 0 ⌝ }
-{
-    if i < s.len() { s[i] } else { 0 }
 }
 
 fn byte(x: usize) -> u8

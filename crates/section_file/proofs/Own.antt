@@ -21,6 +21,7 @@ use Rattle.trellis.proofs.Paths.{edges-order}
 use Rattle.trellis.proofs.Vertices.{Numbering, own-numbering, key-root, key-goal, vertex-below}
 use Rattle.trellis.proofs.OwnPaths.{symbolAt}
 use Rattle.trellis.proofs.OwnDrawn.{vertex-of, edge-of, edge-in}
+use Rattle.trellis.proofs.OwnFew.{vertices-few, edges-few}
 use Rattle.trellis.proofs.OwnTwins.{forward-one, backward-one}
 use Rattle.trellis.proofs.OwnLaid.{own-n, own-vertex-count, own-edge-count, own-length, own-root, own-goal, own-step-edge}
 use Rattle.section_file.specs.Usable.{stepEdge, usable}
@@ -57,14 +58,6 @@ module _ (q n S : ℕ) (table : List Word) (A : Fitting q n S table) where
   O = own-numbering n table (A .table .some) (A .rectangular)
 
   -- ---- counts
-
-  vertices-few : (t : ℕ) → vertexCount n table t ≤ length table
-  unfolding vertexCount keys
-  vertices-few t = omega (arith, ascending-length ltb numbers (each (key n table t) (length table)), length-run (key n table t) 0 (length table))
-
-  edges-few : (t : ℕ) → edgeCount n table t ≤ length table
-  unfolding edgeCount edgesAt
-  edges-few t = omega (arith, ascending-length edgeLess edges-order (each (edgeOf n table t) (length table)), length-run (edgeOf n table t) 0 (length table))
 
   edges-some : (t : ℕ) → 1 ≤ edgeCount n table t
   unfolding ours edgeCount
@@ -143,9 +136,9 @@ module _ (q n S : ℕ) (table : List Word) (A : Fitting q n S table) where
     statesFrom = A .statesFrom;
     statesTo = A .statesTo;
     verticesFrom = λ t h. omega (arith, vc t (shallow h), vertex-below n table t 0 (A .some));
-    verticesTo = λ t h. omega (arith, vc t (shallow h), vertices-few t, A .few);
+    verticesTo = λ t h. omega (arith, vc t (shallow h), vertices-few n table t, A .few);
     edgesFrom = λ t h. omega (arith, ec t (deep h), edges-some t);
-    edgesTo = λ t h. omega (arith, ec t (deep h), edges-few t, A .few);
+    edgesTo = λ t h. omega (arith, ec t (deep h), edges-few n table t, A .few);
     whole = omega (arith, own-length q n S table);
     rootsBelow = λ v h. let b : v < vertexCount n table 0 = omega (arith, vc 0 (omega arith)) in omega (arith, own-root q n S table v b, state-at 0 v (λ w. w .root) (key-root n table) (A .rootsBelow) b);
     rootsAscend = λ u v h k.

@@ -18,9 +18,6 @@ use Rattle.section_file.specs.Places.{PlacesOf, Counted}
 use Rattle.section_file.specs.Answer.{edgeAt, held, meant}
 use Rattle.section_file.specs.declared.Edge.{Edge}
 
-pub past-end : (l : List ℕ) (i : ℕ) → length l ≤ i → 0 ≡ getD l i 0
-past-end l i h = sym (List·getD-eq-default l 0 h)
-
 -- ---- bounds
 
 module _ (low high : ℕ) {x : ℕ} where
@@ -68,32 +65,6 @@ module _ (l : List ℕ) {n : ℕ} {a : Bool} (n-is : n ≡ nOf l) (a-is : a ≡ 
   counts-by-edges {b} t b-is =
       let e : all (λ t. within 1 1024 (getD l (3 + t) 0)) (nOf l + 1) ≡ true = rw (← n-is) (sym a-is ∙ not-false _ t) in
       b-is ∙ rw (e, ← n-is)
-
--- ---- sums
-
-pub sum-last : (f : ℕ → ℕ) (at n : ℕ) → sum f at (suc n) ≡ sum f at n + f (at + n)
-unfolding sum
-sum-last f at zero = omega (arith, ap f (add-zero at))
-sum-last f at (suc n) = omega (arith, sum-last f (suc at) n, ap f (suc-add at n ∙ sym (add-suc at n)))
-
-pub record Summed (f : ℕ → ℕ) (count total t : ℕ) : Type 0 where
-  pub inside : t ≤ count
-  pub is : total ≡ sum f 0 t
-  pub small : total ≤ 65535 * t
-
-pub summed-start : (f : ℕ → ℕ) (count : ℕ) → Summed f count 0 0
-unfolding sum
-summed-start f count = record { inside = omega arith; is = refl; small = omega arith }
-
-pub summed-next : {f : ℕ → ℕ} {count total t x y : ℕ} → Summed f count total t → t < count → x ≡ f t → (y ≡ x) × (y < 65536) → Summed f count (total + y) (t + 1)
-summed-next {f} {count} {total} {t} {x} {y} s h e g = record {
-  inside = omega arith;
-  is = let a : sum f 0 (t + 1) ≡ sum f 0 t + f t = rw (add-one t) (sum-last f 0 t ∙ rw (zero-add t)) in omega (arith, s .is, g .0);
-  small = omega (arith, s .small, g .1);
-}
-
-pub summed-all : {f : ℕ → ℕ} {count total t : ℕ} → Summed f count total t → count ≤ t → (total ≡ sum f 0 count) × (total ≤ 65535 * count)
-summed-all {f} {count} {total} {t} s h = let e : count ≡ t = omega (arith, s .inside) in (rw e (s .is), rw e (s .small))
 
 -- ---- places
 

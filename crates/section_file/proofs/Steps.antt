@@ -14,13 +14,14 @@ use borrow.Author.Tests.{ltb-true, not-true, not-false, le-leb, lt-leb}
 use Rattle.trellis.specs.Lists.{sum}
 use Rattle.trellis.specs.Own as own
 use Rattle.trellis.specs.Layout.{qOf, nOf, statesOf, vertexCountOf, edgeCountOf, edgesBefore, pairsPlace, symbolsPlace, sectionLength, edgeNumber}
+use Rattle.trellis.proofs.Lists.{sum-last}
 use Rattle.section_file.specs.Usable.{all, within, inside, above, covered, noTwins, noForwardTwins, noBackwardTwins, stepGood, stepEdge, sizesRight, countsRight, whole, statesRight, stepRight, usable}
 use Rattle.section_file.specs.Places.{PlacesOf, Counted, StepAt, Vertices, Symbols}
 use Rattle.section_file.specs.Answer.{partOf, edgeAt}
 use Rattle.section_file.specs.declared.Part.{Part}
 use Rattle.section_file.specs.declared.Part.the-variants.{Usable, Unusable}
 use Rattle.section_file.proofs.Tests.{left-of, right-of, from-low, to-high, all-at, Passed, passed-start, passed-next, passed-fails, passed-all}
-use Rattle.section_file.proofs.Reading.{sum-last, counted-edges}
+use Rattle.section_file.proofs.Reading.{counted-edges}
 
 -- ---- one step
 

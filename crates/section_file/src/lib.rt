@@ -5,12 +5,14 @@ ghost use mathlib.Core.Bool.{not, _||_, _&&_};
 ghost use Prim.Native.Nat.{_+_, _*_, _<_, _≤_};
 ghost use lib.Dec.{ltb, eqb};
 ghost use lib.ListN.{length, getD, drop};
-ghost use Rattle.trellis.specs.Lists.{sum};
 ghost use Rattle.trellis.specs.Own.{edgeLess};
 ghost use Rattle.trellis.specs.Layout.{nOf, rootsPlace, goalsPlace, pairsPlace, symbolsPlace};
 ghost use Rattle.section_file.specs.Usable.{all, within, higher, rising, inside, above, covered, noTwins, sizesRight, countsRight, statesRight, stepRight};
 ghost use Rattle.section_file.specs.Places.{PlacesOf, Counted, StepAt, Vertices, Symbols, Marks};
 ghost use Rattle.section_file.specs.Answer.{partOf, edgeAt, held, meant};
+use numbers::number;
+use numbers::total;
+use numbers::wide;
 
 // The part of a slice that a usable section takes up is as long as its counts say.
 pub enum Part {
@@ -30,19 +32,6 @@ struct Places {
     pairs: usize,
     symbols: usize,
     end: usize,
-}
-
-fn wide(x: u16) -> usize
-    ensures { λ r. ⌜ (r ≡ x) × (r < 65536) ⌝ }
-{
-    x as usize
-}
-
-// A number past the end reads as 0, so that every check is total.
-fn number(l: &[u16], i: usize) -> u16
-    ensures { λ r. ⌜ r ≡ getD (now (l .entry)) i 0 ⌝ }
-{
-    if i < l.len() { l[i] } else { 0 }
 }
 
 fn is_within(low: u16, high: u16, x: u16) -> bool
@@ -86,19 +75,6 @@ fn counts_right(l: &[u16], n: usize) -> bool
         return false;
     }
     all_counts(l, 4 + n, n)
-}
-
-fn total(l: &[u16], at: usize, count: usize) -> usize
-    requires { ⌜ (at ≤ 100) × (count ≤ 8) ⌝ }
-    ensures { λ r. ⌜ (r ≡ sum (λ t. getD (now (l .entry)) (at + t) 0) 0 count) × (r ≤ 65535 * count) ⌝ }
-{
-    let mut sum: usize = 0;
-    let mut t: usize = 0;
-    while t < count {
-        sum += wide(number(l, at + t));
-        t += 1;
-    }
-    sum
 }
 
 fn places_of(l: &[u16], n: usize) -> Places

@@ -9,16 +9,11 @@ use lib.ListN.{length, getD}
 use Rattle.trellis.specs.Lists.{_∈_, run, sum}
 use Rattle.trellis.specs.Own.{Edge}
 use Rattle.trellis.specs.Section.{leaving}
-use Rattle.trellis.proofs.Lists.{of-run}
+use Rattle.trellis.proofs.Lists.{of-run, sum-last}
 use Rattle.paths.proofs.Sections.{from-of, listed-of}
 use Rattle.trellis.specs.Layout.{nOf, vertexCountOf, edgeCountOf, edgesBefore, allEdges, rootsPlace, goalsPlace, pairsPlace, symbolsPlace, edgeNumber, stepEdges}
 use Rattle.sweep.specs.Rows.{Fits, Placed}
 use Rattle.sweep.specs.Loops.{between, InStep, Reads, EdgeAt, InTotal}
-
-sum-last : (f : ℕ → ℕ) (at k : ℕ) → sum f at (suc k) ≡ sum f at k + f (at + k)
-unfolding sum
-sum-last f at zero = let e : f (at + 0) ≡ f at = ap f (add-zero at) in omega arith
-sum-last f at (suc k) = let h = sum-last f (suc at) k in let e : f (suc at + k) ≡ f (at + suc k) = ap f (suc-add at k ∙ sym (add-suc at k)) in omega arith
 
 module _ (l : List ℕ) where
   pub before-none : edgesBefore l 0 ≡ 0

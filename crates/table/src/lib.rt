@@ -45,7 +45,7 @@ fn two_bytes(low: u8, high: u8) -> u16
     (low as u16) + 256 * (high as u16)
 }
 
-fn word_count(file: &[u8]) -> u16
+pub fn word_count(file: &[u8]) -> u16
     ensures { λ r. ⌜ r ≡ wordCount (now (file .entry)) ⌝ }
 {
     two_bytes(byte_at(file, 3), byte_at(file, 4))

@@ -17,5 +17,7 @@ pub mod Demand
 pub mod Witness
 pub mod EdgeOrder
 pub mod Write
+pub mod Joined
 pub mod OwnLaid
+pub mod OwnFew
 pub mod OwnTwins

@@ -180,3 +180,8 @@ pub sum-suc : (f : ℕ → ℕ) (t k : ℕ) → sum (λ u. f (suc u)) t k ≡ su
 unfolding sum
 sum-suc f t zero = refl
 sum-suc f t (suc k) = let h = sum-suc f (suc t) k in omega arith
+
+pub sum-last : (f : ℕ → ℕ) (at n : ℕ) → sum f at (suc n) ≡ sum f at n + f (at + n)
+unfolding sum
+sum-last f at zero = omega (arith, ap f (add-zero at))
+sum-last f at (suc n) = omega (arith, sum-last f (suc at) n, ap f (suc-add at n ∙ sym (add-suc at n)))

@@ -12,49 +12,9 @@ use Rattle.trellis.specs.Lists.{run, each, sum}
 use Rattle.trellis.specs.Word.{Word}
 use Rattle.trellis.specs.Own.{Edge, edge, keys, vertexCount, edgesAt, edgeCount}
 use Rattle.trellis.specs.Layout.{qOf, nOf, statesOf, vertexCountOf, edgeCountOf, edgesBefore, rootsPlace, goalsPlace, pairsPlace, symbolsPlace, sectionLength, rootState, goalState, edgeNumber, stepEdges, joinedUp, pairOf, symbolOf, sectionOf}
-use Rattle.trellis.proofs.Lists.{length-run, run-at, each-at, sum-eq}
+use Rattle.trellis.proofs.Lists.{length-run, run-at, each-at, sum-eq, sum-last}
+use Rattle.trellis.proofs.Joined.{lengthsBefore, lengths-suc, joined-length, lengths-le, joined-at}
 use Rattle.trellis.proofs.Paths.{edge-eq}
-
--- ---- lists one behind another
-
-sum-last : (f : ℕ → ℕ) (at n : ℕ) → sum f at (suc n) ≡ sum f at n + f (at + n)
-unfolding sum
-sum-last f at zero = omega (arith, ap f (add-zero at))
-sum-last f at (suc n) = omega (arith, sum-last f (suc at) n, ap f (suc-add at n ∙ sym (add-suc at n)))
-
-module _ {A : Type 0} (f : ℕ → List A) where
-  abbrev lengthsBefore : ℕ → ℕ
-  lengthsBefore t = sum (λ u. length (f u)) 0 t
-
-  lengths-suc : (t : ℕ) → lengthsBefore (suc t) ≡ lengthsBefore t + length (f t)
-  lengths-suc t = sum-last (λ u. length (f u)) 0 t ∙ ap (λ u. lengthsBefore t + length (f u)) (zero-add t)
-
-  joined-length : (count : ℕ) → length (joinedUp f count) ≡ lengthsBefore count
-  unfolding joinedUp sum
-  joined-length zero = refl
-  joined-length (suc count) = length-append (joinedUp f count) (f count) ∙ ap (λ k. k + length (f count)) (joined-length count) ∙ sym (lengths-suc count)
-
-  lengths-le : (k t : ℕ) → lengthsBefore t ≤ lengthsBefore (t + k)
-  lengths-le zero t = rw (add-zero t) (omega arith)
-  lengths-le (suc k) t = rw (add-suc t k) (omega (arith, lengths-le k t, lengths-suc (t + k)))
-
-  -- an element of piece t
-  joined-at : (count t k : ℕ) (d : A) → t < count → k < length (f t) → getD (joinedUp f count) (lengthsBefore t + k) d ≡ getD (f t) k d
-  unfolding joinedUp
-  joined-at zero t k d h l = absurd (not-suc-le-zero h)
-  joined-at (suc count) t k d h l = go (ℕ-discrete t count) (joined-at count t k d)
-    where
-      go : Dec (t ≡ count) → (t < count → k < length (f t) → getD (joinedUp f count) (lengthsBefore t + k) d ≡ getD (f t) k d)
-          → getD (joinedUp f count ++ f count) (lengthsBefore t + k) d ≡ getD (f t) k d
-      go (yes e) r =
-          let q : lengthsBefore t + k ≡ length (joinedUp f count) + k = ap (λ u. lengthsBefore u + k) e ∙ ap (λ m. m + k) (sym (joined-length count)) in
-          ap (λ i. getD (joinedUp f count ++ f count) i d) q ∙ getD-append-add (joinedUp f count) (f count) k d ∙ ap (λ u. getD (f u) k d) (sym e)
-      go (no e) r =
-          let m : t < count = omega arith in
-          let a = lengths-le (count - suc t) (suc t) in
-          let b : suc t + (count - suc t) ≡ count = omega arith in
-          let w : lengthsBefore (suc t) ≤ lengthsBefore count = subst (λ u. lengthsBefore (suc t) ≤ lengthsBefore u) b a in
-          List·getD-append (joinedUp f count) (f count) d (lengthsBefore t + k) (omega (arith, w, lengths-suc t, joined-length count)) ∙ r m l
 
 -- pairs of numbers
 pairs-length : (es : List Edge) → length (flatMap pairOf es) ≡ 2 * length es

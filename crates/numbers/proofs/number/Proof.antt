@@ -1,8 +1,8 @@
--- `read_back::number` meets its contract: past the end of a list there is 0.
-use Rattle.section_file.proofs.Reading.{past-end}
+-- `numbers::number` meets its contract: past the end of a list there is 0.
+use Rattle.numbers.proofs.Sums.{past-end}
 use borrow.Author.Needs.{needs}
-use Rattle.read_back.proofs.number.Statement.{statement}
-use Rattle.read_back.proofs.number.Tie as tie
+use Rattle.numbers.proofs.number.Statement.{statement}
+use Rattle.numbers.proofs.number.Tie as tie
 
 mul-result : tie.Need-mul-result
 mul-result c = search needs
@@ -14,7 +14,7 @@ returns : tie.Need-returns
 returns c = search needs
 
 returns-2 : tie.Need-returns-2
-returns-2 c = past-end (c .before .args .s .now) (c .before .args .i) (search needs)
+returns-2 c = past-end (c .before .args .l .now) (c .before .args .i) (search needs)
 
 pub number-spec : {M : Type 1} → statement M
 number-spec = tie.close (tie.spec mul-result shared-slice-read-result returns returns-2)

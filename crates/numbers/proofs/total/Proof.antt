@@ -1,10 +1,10 @@
--- `section_file::total` meets its contract. The loop's invariant: the sum is that of the numbers passed. The measure is what is left of them.
+-- `numbers::total` meets its contract. The loop's invariant: the sum is that of the numbers passed. The measure is what is left of them.
 use Prim.Native.Nat.{_+_, _-_}
 use lib.ListN.{getD}
-use Rattle.section_file.proofs.Reading.{Summed, summed-start, summed-next, summed-all}
+use Rattle.numbers.proofs.Sums.{Summed, summed-start, summed-next, summed-all}
 use borrow.Author.Needs.{needs}
-use Rattle.section_file.proofs.total.Statement.{statement}
-use Rattle.section_file.proofs.total.Tie as tie
+use Rattle.numbers.proofs.total.Statement.{statement}
+use Rattle.numbers.proofs.total.Tie as tie
 
 abbrev Inv-loop : tie.InvT-loop
 Inv-loop l at count sum₀ t₀ sum t = Summed (λ t. getD l (at + t) 0) count sum t

@@ -1,0 +1,2 @@
+-- Laws of reading numbers past the end and of summing them.
+pub mod Sums
