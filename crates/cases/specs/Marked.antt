@@ -12,12 +12,13 @@ use Rattle.merge.specs.Merging.{Merging, merging}
 use Rattle.read_back.specs.ReadingBack.{ReadingBack, readingBack}
 use Rattle.chain.specs.Decoding.{Decoding, decoding}
 
--- merging a table file, with the places of the two lent buffers; reading back the section that a call left, with the places of the file's buffer; and
--- decoding from state 0 to state 0 where each block has the section that a call left, by the received labels and the erasure masks of the blocks, with
--- buffers that are just long enough
 pub data Call : Type 0 where
+  -- merging a table file, with the places of the map and of the section
   merge : List ℕ → ℕ → ℕ → Call
+  -- reading back the section that a call left, with the places of the file
   readBack : Call → ℕ → Call
+  -- decoding from state 0 to state 0, where each block has the section that a call left: the blocks' received labels and erasure masks. The buffers have
+  -- the places that are needed
   decode : Call → List ℕ → List ℕ → Call
 
 -- what a call leaves; a buffer that is not lent to it is empty
