@@ -5,17 +5,31 @@ use Rattle.trellis.specs.Lists.{run, sum, first, isIn, keep, rank, insert, asce
 use Rattle.trellis.specs.Label.{symbol, front, back, spliced, symbolsBelow, isLabel}
 use Rattle.trellis.specs.Own.{shares, firstSharing, key, keys, vertexOf, vertexCount, edgesAt, edgeCount}
 use Rattle.trellis.specs.Section.{leaving, pathsFrom, packOnto, wordOf, wordsOf}
-use Rattle.trellis.specs.Layout.{vertexCountOf, edgeCountOf, edgesBefore, rootsPlace, goalsPlace, pairsPlace, symbolsPlace, rootState, goalState, edgeNumber, stepEdges, sectionWords, joinedUp, sectionOf}
+use Rattle.trellis.specs.Layout.{vertexCountOf, edgeCountOf, edgesBefore, rootsPlace, goalsPlace, pairsPlace, symbolsPlace, rootState, goalState, edgeNumber, stepEdges, sectionWords, joinedUp, sectionOf, sectionLength}
 use Rattle.trellis.specs.Demand.{allVertices, additions, selections}
 use Rattle.trellis.specs.Witness.{refutes, firstOf, overK, overJ, witnessAt, witness}
 use Rattle.table.specs.File.{wordCount, fileWord, fileWords, lengthBad, outside, sizeOutside, wordOutside, wordBad, orderBad, tableFile}
 use Rattle.merge.specs.Merging.{mapOf, written, merged, mergedTable, mergedFile, merging}
-use Rattle.cases.specs.Marked.{shown, AllShown}
+use Rattle.section_file.specs.Usable.{all, any, within, higher, rising, inside, above, covered, apart, noTwins, noForwardTwins, noBackwardTwins, stepGood, stepEdge, sizesRight, countsRight, whole, statesRight, stepRight, usable}
+use Rattle.read_back.specs.TableBytes.{tableBytes}
+use Rattle.read_back.specs.ReadingBack.{isSection, readingBack}
+use Rattle.paths.specs.Choice.{choose, chooseAll, best}
+use Rattle.paths.specs.Graph.{paths}
+use Rattle.paths.specs.Costs.{capped}
+use Rattle.paths.specs.Chain.{rootedAt, chainPaths, pathDistance, bestPath, costTable}
+use Rattle.block.specs.Received.{erasedAt, symbolCost, blockDistance, stray, fitsBlock}
+use Rattle.chain.specs.Sections.{sectionStart, sectionAt, unusable, sectionsBad, badSectionOf}
+use Rattle.chain.specs.Frame.{frameBad, blockWords, wordDistance, blockBad}
+use Rattle.chain.specs.Decoding.{neededOf, bestOf, tableOf, found, fitted, framed, decoding}
+use Rattle.cases.specs.Marked.{left, shown, AllShown}
 
 pub all-shown : AllShown
-unfolding run sum first isIn keep rank insert ascending lower alike symbol front back spliced symbolsBelow isLabel shares firstSharing key keys
-    vertexOf vertexCount edgesAt edgeCount leaving pathsFrom packOnto wordOf wordsOf vertexCountOf edgeCountOf edgesBefore rootsPlace goalsPlace
-    pairsPlace symbolsPlace rootState goalState edgeNumber stepEdges sectionWords joinedUp sectionOf allVertices additions selections refutes
-    firstOf overK overJ witnessAt witness wordCount fileWord fileWords lengthBad outside sizeOutside wordOutside wordBad orderBad tableFile
-    mapOf written merged mergedTable mergedFile merging shown flatMap
+unfolding run sum first isIn keep rank insert ascending lower alike symbol front back spliced symbolsBelow isLabel shares firstSharing key keys vertexOf
+    vertexCount edgesAt edgeCount leaving pathsFrom packOnto wordOf wordsOf vertexCountOf edgeCountOf edgesBefore rootsPlace goalsPlace pairsPlace
+    symbolsPlace rootState goalState edgeNumber stepEdges sectionWords joinedUp sectionOf allVertices additions selections refutes firstOf overK overJ
+    witnessAt witness wordCount fileWord fileWords lengthBad outside sizeOutside wordOutside wordBad orderBad tableFile mapOf written merged
+    mergedTable mergedFile merging sectionLength all any within higher rising inside above covered apart noTwins noForwardTwins noBackwardTwins
+    stepGood stepEdge sizesRight countsRight whole statesRight stepRight usable tableBytes isSection readingBack choose chooseAll best paths capped
+    rootedAt chainPaths pathDistance bestPath costTable erasedAt symbolCost blockDistance stray fitsBlock sectionStart sectionAt unusable sectionsBad
+    badSectionOf frameBad blockWords wordDistance blockBad neededOf bestOf tableOf found fitted framed decoding left shown flatMap
 all-shown = refl

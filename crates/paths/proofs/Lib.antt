@@ -13,4 +13,3 @@ pub mod Chain
 pub mod Winner
 pub mod Block
 pub mod Blocks
-pub mod Cases

@@ -1,11 +1,11 @@
--- `merge_cases::put_labels` writes two places for each label, and no write changes the file's length.
+-- `marked_cases::merging::put_labels` writes two places for each label, and no write changes the file's length.
 use mathlib.Core.Path.{_≡_}
 use Prim.Native.Nat.{_≤_, _-_}
 use lib.ListN.{length, length-set}
 use native.Mathlib.Omega.{arith}
 use borrow.Author.Needs.{needs}
-use Rattle.merge_cases.proofs.put_labels.Statement.{statement}
-use Rattle.merge_cases.proofs.put_labels.Tie as tie
+use Rattle.marked_cases.proofs.merging.put_labels.Statement.{statement}
+use Rattle.marked_cases.proofs.merging.put_labels.Tie as tie
 
 abbrev Inv-loop : tie.InvT-loop
 Inv-loop file₀ from count i₀ file i = length file ≡ length file₀

@@ -1,9 +1,9 @@
--- `merge_cases::put_buffer` goes over the buffer's places, which its loop stays within.
+-- `marked_cases::print::put_costs` goes over the buffer's places, which its loop stays within.
 use Prim.Native.Nat.{_≤_, _-_}
 use lib.ListN.{length}
 use borrow.Author.Needs.{needs}
-use Rattle.merge_cases.proofs.put_buffer.Statement.{statement}
-use Rattle.merge_cases.proofs.put_buffer.Tie as tie
+use Rattle.marked_cases.proofs.print.put_costs.Statement.{statement}
+use Rattle.marked_cases.proofs.print.put_costs.Tie as tie
 
 abbrev Inv-loop : tie.InvT-loop
 Inv-loop name buffer i₀ t4 i = i ≤ length buffer
@@ -17,14 +17,14 @@ write-all-requires c κs = search needs
 loop-holds : tie.Need-loop-holds Inv-loop μ-loop
 loop-holds c = search needs
 
-mul-put-place : tie.Need-mul-put-place Inv-loop μ-loop
-mul-put-place c = search needs
+mul-put-cost : tie.Need-mul-put-cost Inv-loop μ-loop
+mul-put-cost c = search needs
 
-shared-slice-read-put-place : tie.Need-shared-slice-read-put-place Inv-loop μ-loop
-shared-slice-read-put-place c = search needs
+shared-slice-read-put-cost : tie.Need-shared-slice-read-put-cost Inv-loop μ-loop
+shared-slice-read-put-cost c = search needs
 
-put-place-requires : tie.Need-put-place-requires Inv-loop μ-loop
-put-place-requires c κs = search needs
+put-cost-requires : tie.Need-put-cost-requires Inv-loop μ-loop
+put-cost-requires c κs = search needs
 
 add-i : tie.Need-add-i Inv-loop μ-loop
 add-i c = search needs
@@ -44,17 +44,17 @@ write-all-requires-2 c κs = search needs
 returns : tie.Need-returns Inv-loop μ-loop
 returns c = search needs
 
-pub put-buffer-spec : {M : Type 1} → statement M
-put-buffer-spec =
+pub put-costs-spec : {M : Type 1} → statement M
+put-costs-spec =
     tie.close
     (tie.spec
     Inv-loop
     μ-loop
     write-all-requires
     loop-holds
-    mul-put-place
-    shared-slice-read-put-place
-    put-place-requires
+    mul-put-cost
+    shared-slice-read-put-cost
+    put-cost-requires
     add-i
     loop-less
     loop-again

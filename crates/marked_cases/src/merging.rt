@@ -1,18 +1,12 @@
-// Runs document 01's marked cases of merging, 1 to 6 and 9, and prints each answer's number and values and both buffers, whose places were all 9; then
-// the answers on each side of the four bounds on words, states, n and q.
+// The marked cases of merging, 1 to 6 and 9, and the round trip: what merging leaves is read back. And the bounds on words, states, n and q.
 ghost use Prim.Native.Nat.{_+_, _*_, _≤_};
 ghost use lib.ListN.{length};
+use crate::print::put_buffer;
+use crate::print::put_bytes;
+use crate::print::put_number;
+use crate::print::put_value;
 use merge::Merged;
-
-fn put_number(x: u64) {
-    io::write_all(1, b" ");
-    io::print_decimal(1, x);
-}
-
-fn put_value(number: u64, value: usize) {
-    put_number(number);
-    put_number(value as u64);
-}
+use read_back::ReadBack;
 
 fn put_witness(depth: usize, i: usize, j: usize, k: usize) {
     put_value(6, depth);
@@ -37,16 +31,14 @@ fn put_answer(answer: Merged) {
     io::write_all(1, b"\n");
 }
 
-fn put_place(x: u16) {
-    put_number(x as u64);
-}
-
-fn put_buffer(name: &[u8], buffer: &[u16]) {
-    io::write_all(1, name);
-    let mut i: usize = 0;
-    while i < buffer.len() {
-        put_place(buffer[i]);
-        i += 1;
+// Document 01's number and values of an answer of reading back.
+fn put_read(answer: ReadBack) {
+    io::write_all(1, b"read back");
+    match answer {
+        ReadBack::File(length) => put_value(0, length),
+        ReadBack::Unusable => put_value(8, 0),
+        ReadBack::Short(needed) => put_value(10, needed),
+        ReadBack::TooMany => put_number(12),
     }
     io::write_all(1, b"\n");
 }
@@ -58,6 +50,13 @@ fn run_case(name: &[u8], file: &[u8], map: &mut [u16], section: &mut [u16]) {
     put_buffer(b"section", section);
 }
 
+// Merges into a section buffer that the section is to fill, and reads it back.
+fn read_again(file: &[u8], map: &mut [u16], section: &mut [u16], again: &mut [u8]) {
+    merge::merge(file, map, section);
+    put_read(read_back::read_back(section, again));
+    put_bytes(b"file", again);
+}
+
 // The labels 00, 01, 10, 11.
 fn case_1() {
     let file =
@@ -65,6 +64,9 @@ fn case_1() {
     let mut map = [9u16; 13];
     let mut section = [9u16; 23];
     run_case(b"case 1\n", file, &mut map, &mut section);
+    let mut exact = [9u16; 22];
+    let mut again = [9u8; 22];
+    read_again(file, &mut map, &mut exact, &mut again);
 }
 
 // Case 1 without 11.
@@ -81,6 +83,9 @@ fn case_3() {
     let mut map = [9u16; 7];
     let mut section = [9u16; 23];
     run_case(b"case 3\n", file, &mut map, &mut section);
+    let mut exact = [9u16; 22];
+    let mut again = [9u8; 14];
+    read_again(file, &mut map, &mut exact, &mut again);
 }
 
 // Two states and three words of one symbol.
@@ -89,6 +94,9 @@ fn case_4() {
     let mut map = [9u16; 7];
     let mut section = [9u16; 20];
     run_case(b"case 4\n", file, &mut map, &mut section);
+    let mut exact = [9u16; 19];
+    let mut again = [9u8; 18];
+    read_again(file, &mut map, &mut exact, &mut again);
 }
 
 // Case 1, and a section buffer of 21 numbers.
@@ -114,6 +122,9 @@ fn case_9() {
     let mut map = [9u16; 65];
     let mut section = [9u16; 115];
     run_case(b"case 9\n", file, &mut map, &mut section);
+    let mut exact = [9u16; 114];
+    let mut again = [9u8; 70];
+    read_again(file, &mut map, &mut exact, &mut again);
 }
 
 fn run_bound(name: &[u8], file: &[u8]) {
@@ -174,7 +185,7 @@ fn bound_symbols() {
     run_bound(b"q 5\n", b"\x05\x01\x01\x01\x00\x00\x00\x03\x00");
 }
 
-fn main() {
+pub fn run_cases() {
     case_1();
     case_2();
     case_3();
@@ -182,6 +193,9 @@ fn main() {
     case_5();
     case_6();
     case_9();
+}
+
+pub fn run_bounds() {
     bound_words();
     bound_states();
     bound_symbols();

@@ -1,0 +1,117 @@
+// The marked cases of decoding, 7 and 8, and a tie over two blocks, over sections that merging leaves. And the bound on blocks.
+use crate::print::put_buffer;
+use crate::print::put_bytes;
+use crate::print::put_costs;
+use crate::print::put_number;
+use crate::print::put_value;
+use chain::Decoded;
+
+fn put_distance(distance: u32) {
+    put_number(0);
+    put_number(distance as u64);
+}
+
+// Document 01's number and values of an answer.
+fn put_answer(answer: Decoded) {
+    io::write_all(1, b"answer");
+    match answer {
+        Decoded::Distance(distance) => put_distance(distance),
+        Decoded::Section(index) => put_value(8, index),
+        Decoded::Block(index) => put_value(9, index),
+        Decoded::Short(needed) => put_value(10, needed),
+        Decoded::NoPath => put_number(11),
+    }
+    io::write_all(1, b"\n");
+}
+
+// One section for each block, from state 0 to state 0. The buffers have a place more than two blocks take.
+fn run_case(name: &[u8], section: &[u16], indices: &[u8], received: &[u16], erased: &[u8]) {
+    let mut costs = [9u32; 129];
+    let mut labels = [9u16; 3];
+    let mut goals = [9u8; 3];
+    io::write_all(1, name);
+    put_answer(chain::decode(
+        section,
+        1,
+        indices,
+        received,
+        erased,
+        0,
+        0,
+        &mut costs,
+        &mut labels,
+        &mut goals,
+    ));
+    put_buffer(b"labels", &labels);
+    put_bytes(b"goals", &goals);
+    put_costs(b"costs", &costs);
+}
+
+// The section of case 3, labels 00 and 11, which has 22 numbers.
+fn merge_two_words(section: &mut [u16]) {
+    let mut map = [9u16; 6];
+    merge::merge(
+        b"\x02\x02\x01\x02\x00\x00\x00\x00\x00\x00\x00\x05\x00",
+        &mut map,
+        section,
+    );
+}
+
+// Received 01 and 11, none erased.
+fn case_7() {
+    let mut section = [9u16; 22];
+    merge_two_words(&mut section);
+    let received = [1u16, 5];
+    run_case(b"case 7\n", &section, b"\x00\x00", &received, b"\x00\x00");
+}
+
+// Received 00, the second symbol erased.
+fn case_8() {
+    let mut section = [9u16; 22];
+    merge_two_words(&mut section);
+    let received = [0u16; 1];
+    run_case(b"case 8\n", &section, b"\x00", &received, b"\x01");
+}
+
+// The words (0,0,1), (0,1,0), (1,0,0), received 0 and 1: labels 0, 0 and labels 1, 1 are at the same distance, and the first block settles it.
+fn tie() {
+    let mut map = [9u16; 6];
+    let mut section = [9u16; 19];
+    let file = b"\x02\x01\x02\x03\x00\x00\x01\x00\x00\x01\x00\x00\x00\x01\x00\x00\x00";
+    merge::merge(file, &mut map, &mut section);
+    let received = [0u16, 1];
+    run_case(b"tie\n", &section, b"\x00\x00", &received, b"\x00\x00");
+}
+
+fn run_bound(name: &[u8], indices: &[u8], received: &[u16], erased: &[u8]) {
+    let mut section = [9u16; 22];
+    merge_two_words(&mut section);
+    let mut costs = [0u32; 16448];
+    let mut labels = [0u16; 257];
+    let mut goals = [0u8; 257];
+    io::write_all(1, name);
+    put_answer(chain::decode(
+        &section,
+        1,
+        indices,
+        received,
+        erased,
+        0,
+        0,
+        &mut costs,
+        &mut labels,
+        &mut goals,
+    ));
+}
+
+pub fn run_cases() {
+    case_7();
+    case_8();
+    tie();
+}
+
+// Case 3 in every block, received 01, none erased.
+pub fn run_bounds() {
+    run_bound(b"256 blocks\n", &[0u8; 256], &[1u16; 256], &[0u8; 256]);
+    run_bound(b"257 blocks\n", &[0u8; 257], &[1u16; 257], &[0u8; 257]);
+}
