@@ -52,7 +52,7 @@ loop-again c =
     let at-label = c .before in
     let at-root = at-label .before in
     let at-wide = at-root .before in
-    copy-more (at-wide .before .before .loop .inv) (at-wide .wide .ensures) (at-root .root-at .ensures) (at-label .label-at .ensures) (c .goal-at .ensures) (search needs)
+    copy-more (at-wide .before .before .loop .inv) (at-wide .wide .ensures .0) (at-root .root-at .ensures) (at-label .label-at .ensures) (c .goal-at .ensures) (search needs)
 
 returns : tie.Need-returns Inv-loop μ-loop
 returns c = copy-end (c .before .loop .inv) (search needs)
