@@ -1,4 +1,4 @@
--- `section_file::is_rising` meets its contract. The loop's invariant: all states passed are below the bound and ascend. The measure is what is left of them.
+-- `section_file::states::is_rising` meets its contract. The loop's invariant: all states passed are below the bound and ascend. The measure is what is left of them.
 use mathlib.Core.Bool.{_&&_}
 use Prim.Native.Nat.{_+_, _-_}
 use lib.Dec.{ltb}
@@ -6,8 +6,8 @@ use lib.ListN.{getD}
 use Rattle.section_file.specs.Usable.{higher, rising}
 use Rattle.section_file.proofs.Tests.{Passed, passed-start, passed-next, passed-fails, passed-all}
 use borrow.Author.Needs.{needs}
-use Rattle.section_file.proofs.is_rising.Statement.{statement}
-use Rattle.section_file.proofs.is_rising.Tie as tie
+use Rattle.section_file.proofs.states.is_rising.Statement.{statement}
+use Rattle.section_file.proofs.states.is_rising.Tie as tie
 
 abbrev Inv-loop : tie.InvT-loop
 Inv-loop l at count bound v₀ v = Passed (λ v. ltb (getD l (at + v) 0) bound && higher (λ u. getD l (at + u) 0) v) count v

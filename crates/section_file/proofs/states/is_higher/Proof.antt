@@ -1,8 +1,8 @@
--- `section_file::is_higher` meets its contract: the first vertex has none before it.
+-- `section_file::states::is_higher` meets its contract: the first vertex has none before it.
 use Rattle.section_file.proofs.Reading.{no-vertex-before, higher-is}
 use borrow.Author.Needs.{needs}
-use Rattle.section_file.proofs.is_higher.Statement.{statement}
-use Rattle.section_file.proofs.is_higher.Tie as tie
+use Rattle.section_file.proofs.states.is_higher.Statement.{statement}
+use Rattle.section_file.proofs.states.is_higher.Tie as tie
 
 returns : tie.Need-returns
 returns c = no-vertex-before (c .before .before .args .l .now) (c .before .before .args .at) (c .if1 .taken)

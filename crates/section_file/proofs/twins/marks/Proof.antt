@@ -1,12 +1,12 @@
--- `section_file::marks` meets its contract. The loop's invariant: just the vertices passed are marked. The measure is what is left of them.
+-- `section_file::twins::marks` meets its contract. The loop's invariant: just the vertices passed are marked. The measure is what is left of them.
 use mathlib.Core.Path.{refl}
 use native.Mathlib.Omega.{arith}
 use Prim.Native.Nat.{_+_, _-_, _*_}
 use lib.ListN.{getD}
 use Rattle.section_file.proofs.Marking.{Marking, vertex-small, marking-start, marking-next, marking-all}
 use borrow.Author.Needs.{needs}
-use Rattle.section_file.proofs.marks.Statement.{statement}
-use Rattle.section_file.proofs.marks.Tie as tie
+use Rattle.section_file.proofs.twins.marks.Statement.{statement}
+use Rattle.section_file.proofs.twins.marks.Tie as tie
 
 abbrev Inv-loop : tie.InvT-loop
 Inv-loop l at count marks₀ k₀ marks k = Marking (λ k. getD l (at + 2 * k) 0) count marks k

@@ -1,8 +1,8 @@
--- `section_file::state_right` meets its contract, by the two tests of the definition.
+-- `section_file::states::state_right` meets its contract, by the two tests of the definition.
 use Rattle.section_file.proofs.Reading.{state-wrong, state-by-higher}
 use borrow.Author.Needs.{needs}
-use Rattle.section_file.proofs.state_right.Statement.{statement}
-use Rattle.section_file.proofs.state_right.Tie as tie
+use Rattle.section_file.proofs.states.state_right.Statement.{statement}
+use Rattle.section_file.proofs.states.state_right.Tie as tie
 
 add-number : tie.Need-add-number
 add-number c = search needs

@@ -1,4 +1,4 @@
--- `section_file::without_twins` meets its contract. The loop's invariant: no two edges passed make twins, and for each vertex and symbol that they have the
+-- `section_file::twins::without_twins` meets its contract. The loop's invariant: no two edges passed make twins, and for each vertex and symbol that they have the
 -- array has their one vertex at the other end. The measure is what is left of them.
 use mathlib.Core.Path.{refl}
 use native.Mathlib.Omega.{arith}
@@ -6,8 +6,8 @@ use Prim.Native.Nat.{_+_, _-_, _*_}
 use lib.ListN.{getD}
 use Rattle.section_file.proofs.Marking.{Apart, small-of, slot-of, vertex-small, apart-start, slot-small, twins-found, twins-not, twins-none}
 use borrow.Author.Needs.{needs}
-use Rattle.section_file.proofs.without_twins.Statement.{statement}
-use Rattle.section_file.proofs.without_twins.Tie as tie
+use Rattle.section_file.proofs.twins.without_twins.Statement.{statement}
+use Rattle.section_file.proofs.twins.without_twins.Tie as tie
 
 abbrev Inv-loop : tie.InvT-loop
 Inv-loop l one symbols other count seen₀ k₀ seen k = Apart (λ k. getD l (one + 2 * k) 0) (λ k. getD l (symbols + k) 0) (λ k. getD l (other + 2 * k) 0) count seen k

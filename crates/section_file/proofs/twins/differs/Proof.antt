@@ -1,9 +1,9 @@
--- `section_file::differs` meets its contract, by the two tests of the definition.
+-- `section_file::twins::differs` meets its contract, by the two tests of the definition.
 use mathlib.Core.Path.{sym}
 use borrow.Author.Tests.{eq-eqb, ne-eqb}
 use borrow.Author.Needs.{needs}
-use Rattle.section_file.proofs.differs.Statement.{statement}
-use Rattle.section_file.proofs.differs.Tie as tie
+use Rattle.section_file.proofs.twins.differs.Statement.{statement}
+use Rattle.section_file.proofs.twins.differs.Tie as tie
 
 returns : tie.Need-returns
 returns c = simp (eq-eqb _ _ (c .if1 .taken))

@@ -1,4 +1,4 @@
--- `section_file::covers` meets its contract. The loop's invariant: all vertices passed are met. The measure is what is left of them.
+-- `section_file::twins::covers` meets its contract. The loop's invariant: all vertices passed are met. The measure is what is left of them.
 use Prim.Native.Nat.{_+_, _-_, _*_}
 use lib.ListN.{getD}
 use lib.Dec.{eqb}
@@ -6,8 +6,8 @@ use Rattle.section_file.specs.Usable.{any}
 use Rattle.section_file.proofs.Tests.{Passed, passed-start}
 use Rattle.section_file.proofs.Marking.{covered-fails, covered-next, covered-all}
 use borrow.Author.Needs.{needs}
-use Rattle.section_file.proofs.covers.Statement.{statement}
-use Rattle.section_file.proofs.covers.Tie as tie
+use Rattle.section_file.proofs.twins.covers.Statement.{statement}
+use Rattle.section_file.proofs.twins.covers.Tie as tie
 
 abbrev Inv-loop : tie.InvT-loop
 Inv-loop l at count vertices marks v₀ v = Passed (λ v. any (λ k. eqb (getD l (at + 2 * k) 0) v) count) vertices v

@@ -1,8 +1,8 @@
--- `section_file::states_right` meets its contract: the root states decide, and else the goal states.
+-- `section_file::states::states_right` meets its contract: the root states decide, and else the goal states.
 use Rattle.section_file.proofs.Reading.{counted-at, roots-wrong, states-by-goals}
 use borrow.Author.Needs.{needs}
-use Rattle.section_file.proofs.states_right.Statement.{statement}
-use Rattle.section_file.proofs.states_right.Tie as tie
+use Rattle.section_file.proofs.states.states_right.Statement.{statement}
+use Rattle.section_file.proofs.states.states_right.Tie as tie
 
 number-requires : tie.Need-number-requires
 number-requires c κs = search needs

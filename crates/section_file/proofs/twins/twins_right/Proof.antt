@@ -1,8 +1,8 @@
--- `section_file::twins_right` meets its contract: where the depth is not an inner one, nothing is asked.
+-- `section_file::twins::twins_right` meets its contract: where the depth is not an inner one, nothing is asked.
 use Rattle.section_file.proofs.Tests.{if-so}
 use borrow.Author.Needs.{needs}
-use Rattle.section_file.proofs.twins_right.Statement.{statement}
-use Rattle.section_file.proofs.twins_right.Tie as tie
+use Rattle.section_file.proofs.twins.twins_right.Statement.{statement}
+use Rattle.section_file.proofs.twins.twins_right.Tie as tie
 
 returns : tie.Need-returns
 returns c = search needs
