@@ -1,8 +1,10 @@
--- `merge_c::in_numbers` writes each case of the answer as its outcome's number and values.
-use Rattle.merge_c.specs.Numbers.{numbered-by}
+-- `answers::merged` has each case of merging's answer as its outcome.
+use mathlib.Core.Path.{ap}
+use Rattle.merge.specs.Answer.{outcomeOf}
+use Rattle.link_kit.proofs.Numbering.{numbered-by}
 use borrow.Author.Needs.{needs}
-use Rattle.merge_c.proofs.in_numbers.Statement.{statement}
-use Rattle.merge_c.proofs.in_numbers.Tie as tie
+use Rattle.link_kit.proofs.answers.merged.Statement.{statement}
+use Rattle.link_kit.proofs.answers.merged.Tie as tie
 
 enum-known-answer : tie.Need-enum-known-answer
 enum-known-answer c = search needs
@@ -53,31 +55,31 @@ one-value-requires-7 : tie.Need-one-value-requires-7
 one-value-requires-7 c κs = search needs
 
 returns : tie.Need-returns
-returns c = numbered-by (c .before .before .answer .given .1) (c .one-value .ensures)
+returns c = numbered-by (ap outcomeOf (c .before .before .answer .given .1)) (c .one-value .ensures)
 
 returns-2 : tie.Need-returns-2
-returns-2 c = numbered-by (c .before .before .answer2 .given .1) (c .one-value2 .ensures)
+returns-2 c = numbered-by (ap outcomeOf (c .before .before .answer2 .given .1)) (c .one-value2 .ensures)
 
 returns-3 : tie.Need-returns-3
-returns-3 c = numbered-by (c .before .before .answer3 .given .1) (c .one-value3 .ensures)
+returns-3 c = numbered-by (ap outcomeOf (c .before .before .answer3 .given .1)) (c .one-value3 .ensures)
 
 returns-4 : tie.Need-returns-4
-returns-4 c = numbered-by (c .before .before .answer4 .given .1) (c .one-value4 .ensures)
+returns-4 c = numbered-by (ap outcomeOf (c .before .before .answer4 .given .1)) (c .one-value4 .ensures)
 
 returns-5 : tie.Need-returns-5
-returns-5 c = numbered-by (c .before .before .answer5 .given .1) (c .one-value5 .ensures)
+returns-5 c = numbered-by (ap outcomeOf (c .before .before .answer5 .given .1)) (c .one-value5 .ensures)
 
 returns-6 : tie.Need-returns-6
-returns-6 c = numbered-by (c .before .before .answer6 .given .1) (c .one-value6 .ensures)
+returns-6 c = numbered-by (ap outcomeOf (c .before .before .answer6 .given .1)) (c .one-value6 .ensures)
 
 returns-7 : tie.Need-returns-7
-returns-7 c = numbered-by (c .before .before .answer7 .given .1) (c .four-values .ensures)
+returns-7 c = numbered-by (ap outcomeOf (c .before .before .answer7 .given .1)) (c .four-values .ensures)
 
 returns-8 : tie.Need-returns-8
-returns-8 c = numbered-by (c .before .before .answer8 .given .1) (c .one-value7 .ensures)
+returns-8 c = numbered-by (ap outcomeOf (c .before .before .answer8 .given .1)) (c .one-value7 .ensures)
 
-pub in-numbers-spec : {M : Type 1} → statement M
-in-numbers-spec =
+pub merged-spec : {M : Type 1} → statement M
+merged-spec =
     tie.close
     (tie.spec
     enum-known-answer
