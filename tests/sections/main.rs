@@ -44,24 +44,28 @@ impl Tally {
             .compare(&(answer, wanted), &(given, got), || format!("{numbers:?}"));
     }
 
+    fn same(&mut self, wanted: u32, got: u32, what: &str) {
+        self.differing.compare(&wanted, &got, || what.to_string());
+    }
+
     fn report(&self, what: &str) {
         println!("{what}: {} sections, outcomes {:?}", self.sections, self.outcomes);
     }
 }
 
 /// The section that merging a rectangular table leaves.
-fn merged(table: &Table) -> Vec<u16> {
+fn merged(tally: &mut Tally, table: &Table) -> Vec<u16> {
     let mut map = vec![0; table.map_length()];
     let mut section = vec![0; 30_000];
     let answer = archive::merge(&table.file(), &mut map, &mut section);
-    assert_eq!(answer.number, 0, "a rectangular table is accepted");
+    tally.same(0, answer.number, "a rectangular table is accepted");
     section.truncate(answer.value());
     section
 }
 
 /// A table's section gives its file again, also when it is numbered in another way, and a short buffer is refused.
 fn read_again(tally: &mut Tally, table: &Table, numbers: &mut Numbers) {
-    let section = merged(table);
+    let section = merged(tally, table);
     let file = table.file();
     let success = archive::Answer::new(0, &[file.len()]);
     tally.expect(&section, success.clone(), &file);
@@ -75,7 +79,7 @@ fn read_again(tally: &mut Tally, table: &Table, numbers: &mut Numbers) {
 
 /// A table's section cut short, continued, and with a number changed.
 fn spoiled(tally: &mut Tally, table: &Table, numbers: &mut Numbers) {
-    let mut section = merged(table);
+    let mut section = merging::section_of(table);
     tally.compare(&section[..numbers.below(section.len())], 4200);
     tally.compare(&section[..section.len() - 1], 3);
     section.push(numbers.below(3) as u16);
@@ -120,7 +124,7 @@ fn with_words(n: u16, roots: u16, first: u16, goals: u16) -> Section {
 /// Sections of 1,024 words, of more, and of 268 million.
 fn many_words(tally: &mut Tally) {
     let most = tally.compare(&with_words(3, 16, 4, 1).numbers(), 4200);
-    assert_eq!((most.number, most.value()), (0, 4101));
+    tally.same(4101, most.values[0], "1,024 words are written");
     for section in [
         with_words(2, 16, 4, 16),
         with_words(3, 64, 4, 1),
@@ -129,7 +133,7 @@ fn many_words(tally: &mut Tally) {
     ] {
         for length in [0, 4200] {
             let refused = tally.compare(&section.numbers(), length);
-            assert_eq!(refused.number, 12);
+            tally.same(12, refused.number, "more than 1,024 words are refused");
         }
     }
 }
