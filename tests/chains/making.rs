@@ -102,43 +102,31 @@ pub fn chain(k: usize, blocks: usize, most_paths: usize, numbers: &mut Numbers) 
     frame
 }
 
+/// Replaces an element of a list, if it has any.
+fn put<T>(list: &mut [T], value: T, numbers: &mut Numbers) {
+    if !list.is_empty() {
+        list[numbers.below(list.len())] = value;
+    }
+}
+
 /// Puts a fault of any kind into a chain or its buffers' lengths; some leave it without fault.
 pub fn spoil(frame: &mut Frame, lengths: &mut [usize; 3], numbers: &mut Numbers) {
-    let block = numbers.below(frame.indices.len().max(1));
-    let place = numbers.below(frame.sections.len().max(1));
-    match numbers.below(12) {
+    let low_bits = numbers.below(16);
+    let number = (numbers.below(65_536) >> low_bits) as u16;
+    let byte = (numbers.below(256) >> (low_bits / 2)) as u8;
+    match numbers.below(14) {
         0 => frame.k = [0, 17, usize::MAX, 5_000_000_000][numbers.below(4)],
         1 => frame.k = (frame.k + numbers.below(3)).saturating_sub(1),
-        2 => frame.sections.push(numbers.below(4) as u16),
+        2 => frame.sections.push(number),
         3 => drop(frame.sections.pop()),
-        4 => frame
-            .sections
-            .iter_mut()
-            .skip(place)
-            .take(1)
-            .for_each(|x| *x = numbers.below(6) as u16),
-        5 => frame
-            .indices
-            .iter_mut()
-            .skip(block)
-            .take(1)
-            .for_each(|x| *x = numbers.below(20) as u8),
-        6 => frame
-            .received
-            .iter_mut()
-            .skip(block)
-            .take(1)
-            .for_each(|x| *x = numbers.below(65_536) as u16 >> numbers.below(16)),
-        7 => frame
-            .erased
-            .iter_mut()
-            .skip(block)
-            .take(1)
-            .for_each(|x| *x = numbers.below(256) as u8 >> numbers.below(8)),
-        8 if numbers.one_in(2) => drop(frame.received.pop()),
-        8 => frame.erased.push(0),
-        9 => frame.start = numbers.below(256) as u8 >> numbers.below(3),
-        10 => frame.end = numbers.below(256) as u8 >> numbers.below(3),
+        4 => put(&mut frame.sections, number, numbers),
+        5 => put(&mut frame.indices, byte, numbers),
+        6 => put(&mut frame.received, number, numbers),
+        7 => put(&mut frame.erased, byte, numbers),
+        8 => drop(frame.received.pop()),
+        9 => frame.erased.push(0),
+        10 => frame.start = byte,
+        11 => frame.end = byte,
         _ => {
             let which = numbers.below(3);
             lengths[which] = lengths[which].saturating_sub(numbers.from_to(1, 20));

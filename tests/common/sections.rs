@@ -85,45 +85,51 @@ impl Section {
 
     /// The rules of a usable section that this one breaks.
     pub fn broken(&self) -> BTreeSet<Rule> {
-        let mut broken = BTreeSet::new();
-        let mut rule = |rule, holds: bool| {
-            if !holds {
-                broken.insert(rule);
-            }
-        };
-        rule(Rule::Q, (2..=4).contains(&self.q));
-        rule(Rule::N, (1..=8).contains(&self.n));
-        rule(Rule::States, (1..=64).contains(&self.states));
-        rule(Rule::VertexCount, self.vertices.iter().all(|c| (1..=1024).contains(c)));
-        rule(
-            Rule::EdgeCount,
-            self.steps.iter().all(|s| (1..=1024).contains(&s.len())),
-        );
+        let mut rules = vec![
+            (Rule::Q, (2..=4).contains(&self.q)),
+            (Rule::N, (1..=8).contains(&self.n)),
+            (Rule::States, (1..=64).contains(&self.states)),
+            (Rule::VertexCount, self.vertices.iter().all(|c| (1..=1024).contains(c))),
+            (
+                Rule::EdgeCount,
+                self.steps.iter().all(|s| (1..=1024).contains(&s.len())),
+            ),
+        ];
         for states in [&self.roots, &self.goals] {
-            rule(Rule::StateBelow, states.iter().all(|&s| s < self.states));
-            rule(Rule::StatesAscend, states.is_sorted_by(|a, b| a < b));
+            rules.push((Rule::StateBelow, states.iter().all(|&s| s < self.states)));
+            rules.push((Rule::StatesAscend, states.is_sorted_by(|a, b| a < b)));
         }
-        for (t, step) in self.steps.iter().enumerate() {
-            let (froms, tos) = (self.vertices[t], self.vertices[t + 1]);
-            rule(Rule::From, step.iter().all(|e| e.0 < froms));
-            rule(Rule::Symbol, step.iter().all(|e| e.1 < self.q));
-            rule(Rule::To, step.iter().all(|e| e.2 < tos));
-            rule(Rule::EdgesAscend, step.is_sorted_by(|a, b| a < b));
-            let left: BTreeSet<u16> = step.iter().map(|e| e.0).collect();
-            let reached: BTreeSet<u16> = step.iter().map(|e| e.2).collect();
-            rule(Rule::Onward, (0..froms).all(|v| left.contains(&v)));
-            rule(Rule::Inward, (0..tos).all(|v| reached.contains(&v)));
-            let inner_to = t + 1 < self.steps.len();
-            rule(
+        rules.extend((0..self.steps.len()).flat_map(|t| self.step_rules(t)));
+        rules
+            .into_iter()
+            .filter(|(_, holds)| !holds)
+            .map(|(rule, _)| rule)
+            .collect()
+    }
+
+    /// The rules of the step from depth t to depth t + 1, and whether each holds. Twins count where the depth that they would stand at is inner.
+    fn step_rules(&self, t: usize) -> [(Rule, bool); 8] {
+        let step = &self.steps[t];
+        let (froms, tos) = (self.vertices[t], self.vertices[t + 1]);
+        let left: BTreeSet<u16> = step.iter().map(|e| e.0).collect();
+        let reached: BTreeSet<u16> = step.iter().map(|e| e.2).collect();
+        let (inner_from, inner_to) = (t > 0, t + 1 < self.steps.len());
+        [
+            (Rule::From, step.iter().all(|e| e.0 < froms)),
+            (Rule::Symbol, step.iter().all(|e| e.1 < self.q)),
+            (Rule::To, step.iter().all(|e| e.2 < tos)),
+            (Rule::EdgesAscend, step.is_sorted_by(|a, b| a < b)),
+            (Rule::Onward, (0..froms).all(|v| left.contains(&v))),
+            (Rule::Inward, (0..tos).all(|v| reached.contains(&v))),
+            (
                 Rule::ForwardTwins,
                 !inner_to || alone(step.iter().map(|e| ((e.0, e.1), e.2))),
-            );
-            rule(
+            ),
+            (
                 Rule::BackwardTwins,
-                t == 0 || alone(step.iter().map(|e| ((e.2, e.1), e.0))),
-            );
-        }
-        broken
+                !inner_from || alone(step.iter().map(|e| ((e.2, e.1), e.0))),
+            ),
+        ]
     }
 
     /// How many paths there are. No two paths of a usable section carry the same word.
