@@ -9,8 +9,9 @@ use Rattle.merge.specs.Stages.{Ends}
 use Rattle.merge.specs.declared.Merged.{Merged}
 use Rattle.read_back.specs.ReadingBack.{ReadingBack, leaves}
 use Rattle.chain.specs.Decoding.{Decoding, left}
+use Rattle.listing.specs.Listing as printed
 use Rattle.link_kit.specs.Numbers.{stored, fourOf, Numbered}
-use Rattle.link_kit.specs.Left.{MergeLeft, ReadBackLeft, DecodeLeft}
+use Rattle.link_kit.specs.Left.{MergeLeft, ReadBackLeft, DecodeLeft, ListingLeft}
 
 pub no-values : (number : ℕ) → Numbered (outcome number []) number (0 ∷ 0 ∷ 0 ∷ 0 ∷ [])
 unfolding fourOf
@@ -59,3 +60,10 @@ decode-left e N =
       labelsAre = ap (λ m. m .labels) e;
       goalsAre = ap (λ m. m .goals) e;
     }
+
+pub listing-left :
+    {o : Outcome} {m : printed.Listing} {number : ℕ} {text values : List ℕ} →
+    printed.leaves o text ≡ m →
+    Numbered o number values →
+    ListingLeft m number text values
+listing-left e N = record { answerIs = numbered-by (sym (ap (λ m. m .outcome) e)) N; textIs = ap (λ m. m .text) e }

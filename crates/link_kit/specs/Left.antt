@@ -5,6 +5,7 @@ use Prim.Native.Nat.{ℕ}
 use Rattle.merge.specs.Merging.{Merging}
 use Rattle.read_back.specs.ReadingBack.{ReadingBack}
 use Rattle.chain.specs.Decoding.{Decoding}
+use Rattle.listing.specs.Listing.{Listing}
 use Rattle.link_kit.specs.Numbers.{Numbered}
 
 pub record MergeLeft (m : Merging) (number : ℕ) (map section values : List ℕ) : Type 0 where
@@ -21,3 +22,7 @@ pub record DecodeLeft (m : Decoding) (number : ℕ) (costs labels goals values :
   pub costsAre : costs ≡ m .costs
   pub labelsAre : labels ≡ m .labels
   pub goalsAre : goals ≡ m .goals
+
+pub record ListingLeft (m : Listing) (number : ℕ) (text values : List ℕ) : Type 0 where
+  pub answerIs : Numbered (m .outcome) number values
+  pub textIs : text ≡ m .text

@@ -5,8 +5,10 @@ ghost use Rattle.trellis.specs.Outcome.{outcome};
 ghost use Rattle.merge.specs.Answer.{outcomeOf};
 ghost use Rattle.read_back.specs.ReadingBack.{readBackOutcome};
 ghost use Rattle.chain.specs.Answer.{decodedOutcome};
+ghost use Rattle.listing.specs.Listing.{listedOutcome};
 ghost use Rattle.link_kit.specs.Numbers.{stored, Numbered};
 use chain::Decoded;
+use listing::Listed;
 use merge::Merged;
 use read_back::ReadBack;
 
@@ -85,5 +87,14 @@ pub fn decoded(answer: Decoded) -> Numbers
         Decoded::Block(block) => one_value(9, block),
         Decoded::Short(needed) => one_value(10, needed),
         Decoded::NoPath => no_value(11),
+    }
+}
+
+pub fn listed(answer: Listed) -> Numbers
+    ensures { λ r. ⌜ Numbered (listedOutcome answer) (r .number) (r .values) ⌝ }
+{
+    match answer {
+        Listed::Text(length) => one_value(0, length),
+        Listed::Short(needed) => one_value(10, needed),
     }
 }

@@ -4,13 +4,16 @@
 ghost use Rattle.merge.specs.Merging.{merging};
 ghost use Rattle.read_back.specs.ReadingBack.{readingBack};
 ghost use Rattle.chain.specs.Decoding.{decoding};
-ghost use Rattle.link_kit.specs.Left.{MergeLeft, ReadBackLeft, DecodeLeft};
+ghost use Rattle.listing.specs.Listing.{listing};
+ghost use Rattle.link_kit.specs.Left.{MergeLeft, ReadBackLeft, DecodeLeft, ListingLeft};
 
 mod answers;
 
 pub use chain::Decoded;
 pub use chain::decode;
 pub use label::distance as label_distance;
+pub use listing::Listed;
+pub use listing::listing;
 pub use merge::Merged;
 pub use merge::merge;
 pub use read_back::ReadBack;
@@ -72,6 +75,17 @@ pub extern "C" fn link_decode(
         labels,
         goals,
     ));
+    let four = answer.values;
+    *values = four;
+    answer.number
+}
+
+// Writes the printed sizes of the table in `file` into `text`.
+#[no_mangle]
+pub extern "C" fn link_listing(file: &[u8], text: &mut [u8], values: &mut [u32; 4]) -> u32
+    ensures { λ r. ⌜ ListingLeft (listing (now (file .entry)) (now (text .entry))) r (now (text .exit)) (now (values .exit)) ⌝ }
+{
+    let answer = answers::listed(listing::listing(file, text));
     let four = answer.values;
     *values = four;
     answer.number
