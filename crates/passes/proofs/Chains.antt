@@ -109,12 +109,16 @@ module _ {sections starts indices received erased : List ℕ} (R : Ready section
       let w = of-run (λ u. u) 0 (vertexCountOf (part b) 0) v m in
       h v (omega (arith, w .is, w .below))
 
+  -- section i and what follows it, as the code takes it
+  abbrev pub partAt : ℕ → List ℕ
+  partAt i = take (length sections - getD starts i 0) (drop (getD starts i 0) sections)
+
   -- block b as the code takes it: i is its section index
   pub record BlockAt (b i : ℕ) : Type 0 where
     pub index-lt : i < 17
     pub inside : getD starts i 0 ≤ length sections
-    pub part-is : take (length sections - getD starts i 0) (drop (getD starts i 0) sections) ≡ part b
-    pub good : Good (take (length sections - getD starts i 0) (drop (getD starts i 0) sections))
+    pub part-is : partAt i ≡ part b
+    pub good : Good (partAt i)
 
   pub block-at : {b i : ℕ} → b < length indices → i ≡ getD indices b 0 → BlockAt b i
   unfolding sectionOf
@@ -122,7 +126,7 @@ module _ {sections starts indices received erased : List ℕ} (R : Ready section
       let a = R .indexBelow b h in
       let c : getD starts i 0 ≡ getD starts (getD indices b 0) 0 = ap (λ j. getD starts j 0) e in
       let d = R .inside b h in
-      let p : take (length sections - getD starts i 0) (drop (getD starts i 0) sections) ≡ part b
+      let p : partAt i ≡ part b
       = take-all (length sections - getD starts i 0) (drop (getD starts i 0) sections) (le-of-eq (length-drop (getD starts i 0) sections))
       ∙ ap (λ j. drop j sections) c in
       record { index-lt = omega arith; inside = omega arith; part-is = p; good = subst Good (sym p) (R .good b h) }
@@ -149,11 +153,11 @@ module _ {sections starts indices received erased : List ℕ} (R : Ready section
   pub fill-start : {end : ℕ} {costs : List ℕ} → Filled sections starts indices received erased end (length indices) costs costs
   fill-start = record { b-le = omega arith; long = refl; table = record { at = λ c s h k. absurd (omega arith) }; kept = λ i h. refl }
 
-  pub fill-more : {end b r m : ℕ} {l old mid new : List ℕ} → Filled sections starts indices received erased end b old mid → 0 < b → l ≡ part (b - 1)
-      → r ≡ getD received (b - 1) 0 → m ≡ getD erased (b - 1) 0 → BlockTable l r m (length indices) end (b - 1) mid new
+  pub fill-more : {end b i : ℕ} {old mid new : List ℕ} → Filled sections starts indices received erased end b old mid → 0 < b → BlockAt (b - 1) i
+      → BlockTable (partAt i) (getD received (b - 1) 0) (getD erased (b - 1) 0) (length indices) end (b - 1) mid new
       → Filled sections starts indices received erased end (b - 1) old new
   unfolding leastFrom
-  fill-more {end} {b} {r} {m} {l} {old} {mid} {new} I h p q z B =
+  fill-more {end} {b} {old = old} {mid} {new} I h A B =
       record { b-le = omega (arith, I .b-le); long = B .long ∙ I .long; table = record { at = at }; kept = kept }
     where
       c : ℕ
@@ -166,8 +170,7 @@ module _ {sections starts indices received erased : List ℕ} (R : Ready section
       back = omega arith
 
       D : BlockTable (part (b - 1)) (getD received (b - 1) 0) (getD erased (b - 1) 0) (length indices) end (b - 1) mid new
-      D = subst (λ x. BlockTable (part (b - 1)) (getD received (b - 1) 0) x (length indices) end (b - 1) mid new) z
-          (subst (λ x. BlockTable (part (b - 1)) x m (length indices) end (b - 1) mid new) q (subst (λ x. BlockTable x r m (length indices) end (b - 1) mid new) p B))
+      D = subst (λ l. BlockTable l (getD received (b - 1) 0) (getD erased (b - 1) 0) (length indices) end (b - 1) mid new) (A .part-is) B
 
       table : Table sections starts indices received erased end (suc (b - 1)) mid
       table = subst (λ x. Table sections starts indices received erased end x mid) back (I .table)

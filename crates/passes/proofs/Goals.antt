@@ -32,47 +32,54 @@ module _ (costs : List ℕ) (blocks end b s : ℕ) where
   unfolding aheadOf
   ahead-off h e = sym (ap (λ c. cond c (getD costs (64 * b + s) 0) (cond (eqb s end) 0 top)) (le-ltb b blocks h) ∙ ap (λ c. cond c 0 top) (ne-eqb s end e))
 
--- ---- goals and roots as they are read
+-- ---- goals as they are read
 
--- goal g of a section
-pub record GoalRead (l : List ℕ) (n goals g s : ℕ) : Type 0 where
+-- goal g stands in the list, its state is small, and there is a place for it in row n
+pub record GoalAt (l : List ℕ) (goals g : ℕ) : Type 0 where
   pub below : g < vertexCountOf l (nOf l)
-  pub is : s ≡ goalState l g
-  pub small : s < 64
   pub g-lt : g < 1024
+  pub inside : goals + g < length l
+  pub is : getD l (goals + g) 0 ≡ goalState l g
+  pub small : getD l (goals + g) 0 < 64
+  pub place : 1024 * nOf l + g < 9216
 
-pub goal-read : {l : List ℕ} {n roots goals pairs symbols edges count g s : ℕ} → Good l → Placed l n roots goals pairs symbols edges
-    → count ≡ getD l (3 + n) 0 → g < count → s ≡ getD l (goals + g) 0 → GoalRead l n goals g s
-unfolding vertexCountOf goalState
-goal-read {l} {n} {goals = goals} {count = count} {g} {s} G P c h e =
-    let a : count ≡ getD l (3 + nOf l) 0 = c ∙ ap (λ k. getD l (3 + k) 0) (P .nIs) in
-    let b : g < vertexCountOf l (nOf l) = omega arith in
-    let i : s ≡ goalState l g = e ∙ ap (λ k. getD l (k + g) 0) (P .goalsIs) in
-    let z = G .goalsBelow g b in
-    let w = G .fits .verticesTo (nOf l) (omega arith) in
-    record { below = b; is = i; small = omega arith; g-lt = omega arith }
+pub goal-at : {l : List ℕ} {n roots goals pairs symbols edges g : ℕ} → Good l → Placed l n roots goals pairs symbols edges → g < vertexCountOf l (nOf l)
+    → GoalAt l goals g
+unfolding goalState
+goal-at {l} {goals = goals} {g = g} G P h =
+    let i : getD l (goals + g) 0 ≡ goalState l g = ap (λ k. getD l (k + g) 0) (P .goalsIs) in
+    let s = G .goalsBelow g h in
+    let v = G .fits .verticesTo (nOf l) (omega arith) in
+    let e = G .fits .goalsIn in
+    record {
+      below = h;
+      g-lt = omega arith;
+      inside = omega (arith, P .goalsIs);
+      is = i;
+      small = omega arith;
+      place = omega (arith, G .fits .nTo);
+    }
 
--- it is there to be read
-pub goal-in : {l : List ℕ} {n roots goals pairs symbols edges count g : ℕ} → Good l → Placed l n roots goals pairs symbols edges
-    → count ≡ getD l (3 + n) 0 → g < count → goals + g < length l
+-- a goal below their number, as the number is read
+pub goal-read : {l : List ℕ} {n roots goals pairs symbols edges count g : ℕ} → Good l → Placed l n roots goals pairs symbols edges
+    → count ≡ getD l (3 + n) 0 → g < count → GoalAt l goals g
 unfolding vertexCountOf
-goal-in {l} {n} {count = count} G P c h =
+goal-read {l} {count = count} G P c h =
     let a : count ≡ getD l (3 + nOf l) 0 = c ∙ ap (λ k. getD l (3 + k) 0) (P .nIs) in
-    let w = G .fits .goalsIn in
-    omega (arith, P .goalsIs)
+    goal-at G P (omega arith)
 
 -- ---- row n
 
 pub goals-start : {l costs rows : List ℕ} {blocks end b : ℕ} → length rows ≡ 9216 → InGoals l costs blocks end b rows 0
 goals-start h = record { g-le = omega arith; long = h; at = λ u k. absurd (not-suc-le-zero k) }
 
-pub goals-more : {l costs rows : List ℕ} {blocks end b n goals g s x : ℕ} → Good l → n ≡ nOf l → InGoals l costs blocks end b rows g → GoalRead l n goals g s
-    → x ≡ aheadOf costs blocks end b s → InGoals l costs blocks end b (set rows (1024 * n + g) x) (g + 1)
-goals-more {l} {costs} {rows} {blocks} {end} {b} {n} {goals} {g} {s} {x} G e I R q =
+pub goals-more : {l costs rows : List ℕ} {blocks end b n goals g s x : ℕ} → Good l → n ≡ nOf l → InGoals l costs blocks end b rows g → GoalAt l goals g
+    → s ≡ getD l (goals + g) 0 → x ≡ aheadOf costs blocks end b s → InGoals l costs blocks end b (set rows (1024 * n + g) x) (g + 1)
+goals-more {l} {costs} {rows} {blocks} {end} {b} {n} {goals} {g} {s} {x} G e I R p q =
     record { g-le = omega (arith, R .below); long = simp length-set (I .long); at = at }
   where
     place : 1024 * n + g < length rows
-    place = omega (arith, I .long, R .g-lt, G .fits .nTo)
+    place = omega (arith, I .long, R .place)
 
     at : (h : ℕ) → h < g + 1 → getD (set rows (1024 * n + g) x) (1024 * nOf l + h) 0 ≡ aheadOf costs blocks end b (goalState l h)
     at h k = go (ℕ-discrete h g)
@@ -81,7 +88,7 @@ goals-more {l} {costs} {rows} {blocks} {end} {b} {n} {goals} {g} {s} {x} G e I R
         go (yes z) =
             let a : 1024 * nOf l + h ≡ 1024 * n + g = omega arith in
             ap (λ j. getD (set rows (1024 * n + g) x) j 0) a ∙ getD-set-same rows (1024 * n + g) x 0 place ∙ q
-            ∙ ap (aheadOf costs blocks end b) (R .is ∙ ap (goalState l) (sym z))
+            ∙ ap (aheadOf costs blocks end b) (p ∙ R .is ∙ ap (goalState l) (sym z))
         go (no z) = getD-set-other rows (1024 * n + g) (1024 * nOf l + h) x 0 (λ w. z (omega arith)) ∙ I .at h (omega arith)
 
 pub goals-end : {l costs rows : List ℕ} {blocks end b n count g : ℕ} → InGoals l costs blocks end b rows g → n ≡ nOf l → count ≡ getD l (3 + n) 0 → count ≤ g

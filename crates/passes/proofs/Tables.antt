@@ -40,50 +40,51 @@ none-end {b} {s} {old} {new} I h = let e : s ≡ 64 = le-antisymm (I .s-le) h in
 
 -- ---- roots
 
--- root v of a section, as it is read
-pub record RootRead (l : List ℕ) (v s : ℕ) : Type 0 where
+-- root v stands in the list, and its state is small
+pub record RootIn (l : List ℕ) (roots v : ℕ) : Type 0 where
   pub below : v < vertexCountOf l 0
-  pub is : s ≡ rootState l v
-  pub small : s < 64
   pub v-lt : v < 1024
+  pub inside : roots + v < length l
+  pub is : getD l (roots + v) 0 ≡ rootState l v
+  pub small : getD l (roots + v) 0 < 64
 
-pub root-read : {l : List ℕ} {n roots goals pairs symbols edges count v s : ℕ} → Good l → Placed l n roots goals pairs symbols edges
-    → count ≡ getD l 3 0 → v < count → s ≡ getD l (roots + v) 0 → RootRead l v s
+-- a root below their number, as the number is read
+pub root-read : {l : List ℕ} {n roots goals pairs symbols edges count v : ℕ} → Good l → Placed l n roots goals pairs symbols edges
+    → count ≡ getD l 3 0 → v < count → RootIn l roots v
 unfolding vertexCountOf rootState
-root-read {l} {v = v} {s} G P c h e =
+root-read {l} {roots = roots} {v = v} G P c h =
     let b : v < vertexCountOf l 0 = omega arith in
-    let i : s ≡ rootState l v = e ∙ ap (λ k. getD l (k + v) 0) (P .rootsIs) in
-    let z = G .rootsBelow v b in
+    let i : getD l (roots + v) 0 ≡ rootState l v = ap (λ k. getD l (k + v) 0) (P .rootsIs) in
+    let s = G .rootsBelow v b in
     let w = G .fits .verticesTo 0 (omega arith) in
-    record { below = b; is = i; small = omega arith; v-lt = omega arith }
-
-pub root-in : {l : List ℕ} {n roots goals pairs symbols edges count v : ℕ} → Good l → Placed l n roots goals pairs symbols edges
-    → count ≡ getD l 3 0 → v < count → roots + v < length l
-unfolding vertexCountOf
-root-in G P c h = let w = G .fits .rootsIn in omega (arith, P .rootsIs)
+    let e = G .fits .rootsIn in
+    record { below = b; v-lt = omega arith; inside = omega (arith, P .rootsIs); is = i; small = omega arith }
 
 pub roots-start : {l rows costs : List ℕ} {b : ℕ} → InRoots l rows b costs costs 0
 roots-start = record { v-le = omega arith; long = refl; root = λ u h. absurd (not-suc-le-zero h); other = λ i h. refl }
 
-pub roots-more : {l rows old new : List ℕ} {b v s : ℕ} → Good l → InRoots l rows b old new v → RootRead l v s → 64 * b + 64 ≤ length old
-    → InRoots l rows b old (set new (64 * b + s) (getD rows v 0)) (v + 1)
-roots-more {l} {rows} {old} {new} {b} {v} {s} G I R room = record { v-le = omega (arith, R .below); long = simp length-set (I .long); root = root; other = other }
+pub roots-more : {l rows old new : List ℕ} {roots b v s : ℕ} → Good l → InRoots l rows b old new v → RootIn l roots v → s ≡ getD l (roots + v) 0
+    → 64 * b + 64 ≤ length old → InRoots l rows b old (set new (64 * b + s) (getD rows v 0)) (v + 1)
+roots-more {l} {rows} {old} {new} {b = b} {v} {s} G I R p room = record { v-le = omega (arith, R .below); long = simp length-set (I .long); root = root; other = other }
   where
+    is : s ≡ rootState l v
+    is = p ∙ R .is
+
     root : (u : ℕ) → u < v + 1 → getD (set new (64 * b + s) (getD rows v 0)) (64 * b + rootState l u) 0 ≡ getD rows u 0
     root u k = go (ℕ-discrete u v)
       where
         go : Dec (u ≡ v) → getD (set new (64 * b + s) (getD rows v 0)) (64 * b + rootState l u) 0 ≡ getD rows u 0
         go (yes e) =
-            let a : rootState l u ≡ s = ap (rootState l) e ∙ sym (R .is) in
+            let a : rootState l u ≡ s = ap (rootState l) e ∙ sym is in
             ap (λ j. getD (set new (64 * b + s) (getD rows v 0)) (64 * b + j) 0) a
-            ∙ getD-set-same new (64 * b + s) (getD rows v 0) 0 (omega (arith, I .long, R .small)) ∙ ap (λ w. getD rows w 0) (sym e)
+            ∙ getD-set-same new (64 * b + s) (getD rows v 0) 0 (omega (arith, I .long, R .small, p)) ∙ ap (λ w. getD rows w 0) (sym e)
         go (no e) =
             let a = G .rootsAscend u v (omega arith) (R .below) in
-            getD-set-other new (64 * b + s) (64 * b + rootState l u) (getD rows v 0) 0 (λ z. absurd (omega (arith, R .is))) ∙ I .root u (omega arith)
+            getD-set-other new (64 * b + s) (64 * b + rootState l u) (getD rows v 0) 0 (λ z. absurd (omega (arith, is))) ∙ I .root u (omega arith)
 
     other : (i : ℕ) → ((u : ℕ) → u < v + 1 → 64 * b + rootState l u ≡ i → ⊥) → getD (set new (64 * b + s) (getD rows v 0)) i 0 ≡ getD old i 0
     other i h =
-        getD-set-other new (64 * b + s) i (getD rows v 0) 0 (λ z. h v (omega arith) (sym (z ∙ ap (λ w. 64 * b + w) (R .is))))
+        getD-set-other new (64 * b + s) i (getD rows v 0) 0 (λ z. h v (omega arith) (sym (z ∙ ap (λ w. 64 * b + w) is)))
         ∙ I .other i (λ u k. h u (omega arith))
 
 pub roots-end : {l rows old new : List ℕ} {b v count : ℕ} → InRoots l rows b old new v → count ≡ getD l 3 0 → count ≤ v
@@ -127,17 +128,17 @@ block-table {l} {prices} {old} {mid} {new} {rows} {n} {received} {mask} {blocks}
 pub root-start : {l : List ℕ} {s : ℕ} → InRoot l s 0
 root-start = record { v-le = omega arith; none = λ u h. absurd (not-suc-le-zero h) }
 
-pub root-found : {l : List ℕ} {s v x : ℕ} → InRoot l s v → RootRead l v x → x ≡ s → RootAt l s v
-root-found I R e = record { r-le = I .v-le; is = λ h. sym (R .is) ∙ e; none = λ h. absurd (omega (arith, R .below)) }
+pub root-found : {l : List ℕ} {roots s v x : ℕ} → InRoot l s v → RootIn l roots v → x ≡ getD l (roots + v) 0 → x ≡ s → RootAt l s v
+root-found I R p e = record { r-le = I .v-le; is = λ h. sym (p ∙ R .is) ∙ e; none = λ h. absurd (omega (arith, R .below)) }
 
-pub root-more : {l : List ℕ} {s v x : ℕ} → InRoot l s v → RootRead l v x → (x ≡ s → ⊥) → InRoot l s (v + 1)
-root-more {l} {s} {v} {x} I R n = record { v-le = omega (arith, R .below); none = none }
+pub root-more : {l : List ℕ} {roots s v x : ℕ} → InRoot l s v → RootIn l roots v → x ≡ getD l (roots + v) 0 → (x ≡ s → ⊥) → InRoot l s (v + 1)
+root-more {l} {s = s} {v} {x} I R p n = record { v-le = omega (arith, R .below); none = none }
   where
     none : (u : ℕ) → u < v + 1 → rootState l u ≡ s → ⊥
     none u h e = go (ℕ-discrete u v)
       where
         go : Dec (u ≡ v) → ⊥
-        go (yes k) = n (R .is ∙ ap (rootState l) (sym k) ∙ e)
+        go (yes k) = n (p ∙ R .is ∙ ap (rootState l) (sym k) ∙ e)
         go (no k) = I .none u (omega arith) e
 
 pub root-none : {l : List ℕ} {s v count : ℕ} → InRoot l s v → count ≡ getD l 3 0 → count ≤ v → RootAt l s v

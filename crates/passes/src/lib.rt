@@ -216,17 +216,9 @@ pub fn name_words(
     while b < blocks {
         let at = starts[widened(indices[b])];
         let l = &sections[at..];
-        let step = word_from(
-            l,
-            received[b],
-            erased[b],
-            costs,
-            blocks,
-            end,
-            b + 1,
-            s,
-            &mut rows,
-        );
+        let word = received[b];
+        let mask = erased[b];
+        let step = word_from(l, word, mask, costs, blocks, end, b + 1, s, &mut rows);
         labels[b] = step.label;
         goals[b] = step.goal;
         total += step.distance;

@@ -13,7 +13,7 @@ use Rattle.trellis.proofs.Lists.{of-run, sum-last}
 use Rattle.paths.proofs.Sections.{from-of, listed-of}
 use Rattle.trellis.specs.Layout.{nOf, vertexCountOf, edgeCountOf, edgesBefore, allEdges, rootsPlace, goalsPlace, pairsPlace, symbolsPlace, edgeNumber, stepEdges}
 use Rattle.sweep.specs.Rows.{Fits, Placed}
-use Rattle.sweep.specs.Loops.{between, InStep, Reads, EdgeAt, InTotal}
+use Rattle.sweep.specs.Loops.{between, InStep, Reads, EdgeAt}
 
 module _ (l : List ℕ) where
   pub before-none : edgesBefore l 0 ≡ 0
@@ -41,35 +41,31 @@ module _ (l : List ℕ) where
 
 -- ---- how many there are
 
-pub total-start : (l : List ℕ) (n : ℕ) → InTotal l n 0 0
-total-start l n = record { t-le = omega arith; so-far = sym (before-none l); few = omega arith }
-
-pub total-more : {l : List ℕ} {n t sum x : ℕ} → Fits l → n ≡ nOf l → InTotal l n t sum → t < n → x ≡ getD l (4 + n + t) 0 → InTotal l n (t + 1) (sum + x)
-unfolding edgeCountOf
-total-more {l} {n} {t} {sum} {x} F e I h p =
-    let i : x ≡ edgeCountOf l t = p ∙ ap (λ k. getD l (4 + k + t) 0) e in
+-- a step has 1,024 at most
+pub edges-few : {l : List ℕ} → Fits l → (t : ℕ) → t ≤ nOf l → edgesBefore l t ≤ 1024 * t
+edges-few {l} F zero h = let e = before-none l in omega arith
+edges-few {l} F (suc t) h =
+    let i = edges-few F t (omega arith) in
     let m = before-more l t in
     let b = F .edgesTo t (omega arith) in
-    let s = I .so-far in
-    let f = I .few in
-    record { t-le = omega arith; so-far = rw (add-one t) (omega arith); few = omega arith }
+    omega arith
 
-pub total-end : {l : List ℕ} {n t sum : ℕ} → Fits l → n ≡ nOf l → InTotal l n t sum → n ≤ t → (sum ≡ allEdges l) × (sum ≤ 8192)
-total-end {l} {n} {t} F e I h =
-    let i : t ≡ nOf l = omega (arith, I .t-le) in
-    (I .so-far ∙ ap (edgesBefore l) i, omega (arith, I .few, F .nTo))
+-- their sum, as it is read
+pub edges-sum : (l : List ℕ) {n edges : ℕ} → n ≡ nOf l → edges ≡ sum (λ t. getD l (4 + n + t) 0) 0 n → edges ≡ allEdges l
+unfolding edgesBefore edgeCountOf
+edges-sum l e p = p ∙ ap (λ k. sum (λ t. getD l (4 + k + t) 0) 0 k) e
 
 -- ---- where the parts stand
 
-pub placed : {l : List ℕ} {n edges roots goals pairs symbols : ℕ} → Fits l → n ≡ nOf l → (edges ≡ allEdges l) × (edges ≤ 8192) → roots ≡ 4 + 2 * n
-    → goals ≡ roots + getD l 3 0 → pairs ≡ goals + getD l (3 + n) 0 → symbols ≡ pairs + 2 * edges → Placed l n roots goals pairs symbols edges
+pub placed : {l : List ℕ} {n edges roots goals pairs symbols : ℕ} → Fits l → n ≡ nOf l → edges ≡ sum (λ t. getD l (4 + n + t) 0) 0 n
+    → roots ≡ 4 + 2 * n → goals ≡ roots + getD l 3 0 → pairs ≡ goals + getD l (3 + n) 0 → symbols ≡ pairs + 2 * edges → Placed l n roots goals pairs symbols edges
 unfolding rootsPlace goalsPlace pairsPlace symbolsPlace vertexCountOf
 placed {l} {n} F e t r g p s =
     let i : getD l (3 + n) 0 ≡ getD l (3 + nOf l) 0 = ap (λ k. getD l (3 + k) 0) e in
     let a = F .verticesTo 0 (omega arith) in
     let b = F .verticesTo (nOf l) (omega arith) in
-    let u = t .0 in
-    let w = t .1 in
+    let u = edges-sum l e t in
+    let w = edges-few F (nOf l) (omega arith) in
     let x = F .nTo in
     record { nIs = e; rootsIs = omega arith; goalsIs = omega arith; pairsIs = omega arith; symbolsIs = omega arith; edgesIs = u; near = omega arith }
 

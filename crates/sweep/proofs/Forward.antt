@@ -107,8 +107,9 @@ name-start {l} {prices} {rows} {n} {root = root} P O = record {
   endTo = λ cost number a R. rw sub-zero;
 }
 
-pub name-small : {l prices rows : List ℕ} {root n t lo v label : ℕ} → Fits l → n ≡ nOf l → InName l prices rows root n t lo v label → v < 1024
-name-small {t = t} F e I = let a = F .verticesTo t (omega (arith, I .t-le)) in omega (arith, I .inside)
+-- the vertex has its place in the rows
+pub name-place : {l prices rows : List ℕ} {root n t lo v label : ℕ} → Fits l → n ≡ nOf l → InName l prices rows root n t lo v label → 1024 * t + v < 9216
+name-place {t = t} F e I = let a = F .verticesTo t (omega (arith, I .t-le)) in omega (arith, I .inside, I .t-le, F .nTo)
 
 pub name-near : {l prices rows : List ℕ} {root n roots goals pairs symbols edges t lo v label : ℕ} → Placed l n roots goals pairs symbols edges
     → InName l prices rows root n t lo v label → lo ≤ 100000
@@ -125,54 +126,55 @@ name-step {l} {n = n} {t} {lo} {hi = hi} {count} e I h p q =
     step-in (omega arith) a (omega arith)
 
 -- the edge that the theory takes at step t
-module _ {l prices rows : List ℕ} {n t lo hi v r : ℕ} (F : Fits l) (e : n ≡ nOf l) (h : t < n) (p : lo ≡ edgesBefore l t) (q : hi ≡ edgesBefore l (suc t)) (inside : v < vertexCountOf l t) (N : NextAt l prices rows t lo hi v (getD rows (1024 * t + v) 0) r) (below : getD rows (1024 * t + v) 0 < top) where
-  module _ (cost : ℕ → ℕ → ℕ) (number : ℕ → ℕ) (P : Priced l prices cost) (R : Rows l cost number 0 rows) where
-    k : ℕ
-    k = nOf l - suc t
+module _ {l prices rows : List ℕ} {root n t lo v label : ℕ} (F : Fits l) (e : n ≡ nOf l) (I : InName l prices rows root n t lo v label) (h : t < n) where
+  module _ {hi r : ℕ} (S : InStep l t lo hi) (N : NextAt l prices rows t lo hi v (getD rows (1024 * t + v) 0) r) where
+    module _ (cost : ℕ → ℕ → ℕ) (number : ℕ → ℕ) (P : Priced l prices cost) (R : Rows l cost number 0 rows) where
+      k : ℕ
+      k = nOf l - suc t
 
-    total-is : getD rows (1024 * t + v) 0 ≡ sectionLeast (stepEdges l) cost top number (suc k) t v
-    unfolding k
-    total-is =
-        let a : nOf l - t ≡ suc (nOf l - suc t) = omega arith in
-        R .at t v (omega arith) (omega arith) inside ∙ ap (λ j. sectionLeast (stepEdges l) cost top number j t v) a
+      total-is : getD rows (1024 * t + v) 0 ≡ sectionLeast (stepEdges l) cost top number (suc k) t v
+      unfolding k
+      total-is =
+          let a : nOf l - t ≡ suc (nOf l - suc t) = omega arith in
+          R .at t v (omega arith) (omega arith) (I .inside) ∙ ap (λ j. sectionLeast (stepEdges l) cost top number j t v) a
 
-    behind : Rows l cost number (suc t) rows
-    behind = record { at = λ u w a b c. R .at u w (omega arith) b c }
+      behind : Rows l cost number (suc t) rows
+      behind = record { at = λ u w a b c. R .at u w (omega arith) b c }
 
-    agrees : firstWith (λ x. eqb (across (stepEdges l) cost top number k t x) (sectionLeast (stepEdges l) cost top number (suc k) t v)) (leaving v (stepEdges l t))
-        ≡ cond (ltb r hi) (just (edgeNumber l r)) nothing
-    unfolding k
-    agrees =
-        first-same (leaving v (stepEdges l t)) (λ x m. ap₂ eqb (sym (through-is F (omega arith) P behind v x m)) (sym total-is))
-        ∙ ap (λ es. firstWith (λ x. eqb (through prices rows t x) (getD rows (1024 * t + v) 0)) (leaving v es)) (sym (edges-are l t p q)) ∙ N .found
+      agrees : firstWith (λ x. eqb (across (stepEdges l) cost top number k t x) (sectionLeast (stepEdges l) cost top number (suc k) t v)) (leaving v (stepEdges l t))
+          ≡ cond (ltb r hi) (just (edgeNumber l r)) nothing
+      unfolding k
+      agrees =
+          first-same (leaving v (stepEdges l t)) (λ x m. ap₂ eqb (sym (through-is F (omega arith) P behind v x m)) (sym total-is))
+          ∙ ap (λ es. firstWith (λ x. eqb (through prices rows t x) (getD rows (1024 * t + v) 0)) (leaving v es)) (sym (edges-are l t (I .lo-is) (S .hi-is))) ∙ N .found
 
-    r-lt : r < hi
-    r-lt = go (ltb r hi) refl (sym agrees ∙ found)
-      where
-        open-here : sectionLeast (stepEdges l) cost top number (suc k) t v < top
-        open-here = let a = total-is in omega arith
+      r-lt : r < hi
+      r-lt = go (ltb r hi) refl (sym agrees ∙ found)
+        where
+          open-here : sectionLeast (stepEdges l) cost top number (suc k) t v < top
+          open-here = let a = total-is in omega (arith, I .below)
 
-        L : Least top (across (stepEdges l) cost top number k t) (leaving v (stepEdges l t))
-        L = some-edge (stepEdges l) cost top number k t v open-here
+          L : Least top (across (stepEdges l) cost top number k t) (leaving v (stepEdges l t))
+          L = some-edge (stepEdges l) cost top number k t v open-here
 
-        found : firstWith (λ x. eqb (across (stepEdges l) cost top number k t x) (sectionLeast (stepEdges l) cost top number (suc k) t v)) (leaving v (stepEdges l t))
-            ≡ just (L .member)
-        found =
-            ap (λ m. firstWith (λ x. eqb (across (stepEdges l) cost top number k t x) m) (leaving v (stepEdges l t))) (least-step (stepEdges l) cost top number k t v)
-            ∙ L .found
+          found : firstWith (λ x. eqb (across (stepEdges l) cost top number k t x) (sectionLeast (stepEdges l) cost top number (suc k) t v)) (leaving v (stepEdges l t))
+              ≡ just (L .member)
+          found =
+              ap (λ m. firstWith (λ x. eqb (across (stepEdges l) cost top number k t x) m) (leaving v (stepEdges l t))) (least-step (stepEdges l) cost top number k t v)
+              ∙ L .found
 
-        go : (b : Bool) → ltb r hi ≡ b → cond b (just (edgeNumber l r)) nothing ≡ just (L .member) → r < hi
-        go true z w = ltb-true r hi z
-        go false z w = let c : _≡_ {A = ℕ} 0 1 = cc in absurd (omega arith)
+          go : (b : Bool) → ltb r hi ≡ b → cond b (just (edgeNumber l r)) nothing ≡ just (L .member) → r < hi
+          go true z w = ltb-true r hi z
+          go false z w = let c : _≡_ {A = ℕ} 0 1 = cc in absurd (omega arith)
 
-    takes : r < hi → Taken (stepEdges l) cost top number k t v (edgeNumber l r)
-    takes w =
-        taken (stepEdges l) cost top number k t v (let a = total-is in omega arith) (agrees ∙ ap (λ b. cond b (just (edgeNumber l r)) nothing) (lt-ltb r hi w))
+      takes : r < hi → Taken (stepEdges l) cost top number k t v (edgeNumber l r)
+      takes w =
+          taken (stepEdges l) cost top number k t v (let a = total-is in omega (arith, I .below)) (agrees ∙ ap (λ b. cond b (just (edgeNumber l r)) nothing) (lt-ltb r hi w))
 
 -- the edge is one of the step's
 pub name-found : {l prices rows : List ℕ} {root n t lo v label hi r : ℕ} → Fits l → n ≡ nOf l → Open l prices rows root → InName l prices rows root n t lo v label → t < n
     → InStep l t lo hi → NextAt l prices rows t lo hi v (getD rows (1024 * t + v) 0) r → r < hi
-name-found F e O I h S N = r-lt F e h (I .lo-is) (S .hi-is) (I .inside) N (I .below) (O .cost) (O .number) (O .priced) (O .done)
+name-found F e O I h S N = r-lt F e I h S N (O .cost) (O .number) (O .priced) (O .done)
 
 pub name-more : {l prices rows : List ℕ} {root n t lo v label hi r from symbol to new : ℕ} → Fits l → n ≡ nOf l → Open l prices rows root
     → InName l prices rows root n t lo v label → t < n → InStep l t lo hi → NextAt l prices rows t lo hi v (getD rows (1024 * t + v) 0) r
@@ -197,7 +199,7 @@ name-more {l} {prices} {rows} {root} {n} {t} {lo} {v} {label} {hi} {r} {from} {s
     room = omega (arith, F .nTo)
 
     T : Taken (stepEdges l) (O .cost) top (O .number) (nOf l - suc t) t v (edgeNumber l r)
-    T = takes F e h (I .lo-is) (S .hi-is) (I .inside) N (I .below) (O .cost) (O .number) (O .priced) (O .done) small
+    T = takes F e I h S N (O .cost) (O .number) (O .priced) (O .done) small
 
     to-in : to < vertexCountOf l (suc t)
     to-in = rw (A .to-is) (known F (omega arith) (edgeNumber l r) (T .listed) .to-in)
@@ -210,7 +212,7 @@ name-more {l} {prices} {rows} {root} {n} {t} {lo} {v} {label} {hi} {r} {from} {s
     moved : (cost : ℕ → ℕ → ℕ) (number : ℕ → ℕ) → Priced l prices cost → Rows l cost number 0 rows
         → sectionTrace (stepEdges l) cost top number (n - t) t v ≡ along (edgeNumber l r) (sectionTrace (stepEdges l) cost top number (n - suc t) (suc t) to)
     moved cost number P R =
-        let U = takes F e h (I .lo-is) (S .hi-is) (I .inside) N (I .below) cost number P R small in
+        let U = takes F e I h S N cost number P R small in
         let a : n - t ≡ suc (nOf l - suc t) = omega arith in
         let b : nOf l - suc t ≡ n - suc t = omega arith in
         ap (λ j. sectionTrace (stepEdges l) cost top number j t v) a ∙ U .traced

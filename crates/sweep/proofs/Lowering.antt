@@ -125,8 +125,11 @@ lower-more {l} {prices} {old} {rows} {t} {lo} {hi} {i = i} {from} {symbol} {to} 
         go (yes z) f m =
             let a = here-is v z in
             let b = gives in
-            let c : minAll top (through prices old t) (leaving v (edgeNumber l i ∷ between l (i + 1) hi)) ≡ min (through prices old t (edgeNumber l i)) (minAll top (through prices old t) (leaving v (between l (i + 1) hi)))
-            = ap (minAll top (through prices old t)) (leaving-here (edgeNumber l i) (between l (i + 1) hi) v (sym (A .from-is) ∙ z)) ∙ min-cons (through prices old t) (edgeNumber l i) (leaving v (between l (i + 1) hi)) in
+            let rest = between l (i + 1) hi in
+            let c : minAll top (through prices old t) (leaving v (edgeNumber l i ∷ rest))
+            ≡ min (through prices old t (edgeNumber l i)) (minAll top (through prices old t) (leaving v rest))
+            = ap (minAll top (through prices old t)) (leaving-here (edgeNumber l i) rest v (sym (A .from-is) ∙ z))
+            ∙ min-cons (through prices old t) (edgeNumber l i) (leaving v rest) in
             omega arith
         go (no z) f m =
             let a = other-is v z in

@@ -53,12 +53,6 @@ through prices rows t e = plus top (getD prices (4 * t + e .symbol) 0) (getD row
 
 -- ---- the loops
 
--- `sum` edges are in the first t steps
-pub record InTotal (l : List ℕ) (n t sum : ℕ) : Type 0 where
-  pub t-le : t ≤ n
-  pub so-far : sum ≡ edgesBefore l t
-  pub few : sum ≤ 1024 * t
-
 -- row t has no path so far, at its first v vertices
 pub record InClear (t count : ℕ) (old rows : List ℕ) (v : ℕ) : Type 0 where
   pub v-le : v ≤ count

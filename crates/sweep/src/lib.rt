@@ -35,25 +35,12 @@ pub struct Places {
     pub edges: usize,
 }
 
-fn edge_total(l: &[u16], n: usize) -> usize
-    requires { ⌜ Fits (now l) × (n ≡ nOf (now l)) ⌝ }
-    ensures { λ r. ⌜ (r ≡ allEdges (now (l .entry))) × (r ≤ 8192) ⌝ }
-{
-    let mut sum: usize = 0;
-    let mut t: usize = 0;
-    while t < n {
-        sum += wide(l[4 + n + t]);
-        t += 1;
-    }
-    sum
-}
-
 pub fn places_of(l: &[u16]) -> Places
     requires { ⌜ Fits (now l) ⌝ }
     ensures { λ r. ⌜ Placed (now (l .entry)) (r .n) (r .roots) (r .goals) (r .pairs) (r .symbols) (r .edges) ⌝ }
 {
     let n = wide(l[1]);
-    let edges = edge_total(l, n);
+    let edges = numbers::total(l, 4 + n, n);
     let roots = 4 + 2 * n;
     let goals = roots + wide(l[3]);
     let pairs = goals + wide(l[3 + n]);

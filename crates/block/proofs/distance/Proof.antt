@@ -14,10 +14,20 @@ mul-result : tie.Need-mul-result
 mul-result c = search needs
 
 add-result : tie.Need-add-result
-add-result c = let I = (c .before .before .heard-of .ensures) in let a = distance-few (c .before .before .before .pre .1) I (c .before .distance .ensures) in let b = I .few in search needs
+add-result c =
+    let compared = c .before in
+    let heard = compared .before in
+    let I = heard .heard-of .ensures in
+    let a = distance-few (heard .before .pre .1) I (compared .distance .ensures) in
+    let b = I .few in
+    search needs
 
 returns : tie.Need-returns
-returns c = distance-ends (c .before .before .before .pre .0) (c .before .before .before .pre .1) (c .before .before .heard-of .ensures) (c .before .distance .ensures)
+returns c =
+    let compared = c .before in
+    let heard = compared .before in
+    let p = heard .before .pre in
+    distance-ends (p .0) (p .1) (heard .heard-of .ensures) (compared .distance .ensures)
 
 pub distance-spec : {M : Type 1} → statement M
 distance-spec =

@@ -8,19 +8,34 @@ is-label-requires : tie.Need-is-label-requires
 is-label-requires c κs = search needs
 
 returns : tie.Need-returns
-returns c = fits-label (c .before .before .args .q) (c .before .before .args .n) (c .before .before .args .received) (c .before .before .args .mask) (c .before .is-label .ensures) (c .if1 .taken)
+returns c =
+    let asked = c .before in
+    let a = asked .before .args in
+    fits-label (a .q) (a .n) (a .received) (a .mask) (asked .is-label .ensures) (c .if1 .taken)
 
 mask-fits-requires : tie.Need-mask-fits-requires
 mask-fits-requires c κs = search needs
 
 returns-2 : tie.Need-returns-2
-returns-2 c = fits-mask (c .before .before .before .before .args .q) (c .before .before .before .before .args .n) (c .before .before .before .before .args .received) (c .before .before .before .before .args .mask) (c .before .before .before .is-label .ensures) (c .before .before .if1 .left) (c .before .mask-fits .ensures) (c .if2 .taken)
+returns-2 c =
+    let fits = c .before in
+    let label = fits .before in
+    let asked = label .before in
+    let a = asked .before .args in
+    fits-mask (a .q) (a .n) (a .received) (a .mask) (asked .is-label .ensures) (label .if1 .left) (fits .mask-fits .ensures) (c .if2 .taken)
 
 is-clear-requires : tie.Need-is-clear-requires
 is-clear-requires c κs = search needs
 
 returns-3 : tie.Need-returns-3
-returns-3 c = fits-all (c .before .before .before .before .before .args .q) (c .before .before .before .before .before .args .n) (c .before .before .before .before .before .args .received) (c .before .before .before .before .before .args .mask) (c .before .before .before .before .is-label .ensures) (c .before .before .before .if1 .left) (c .before .before .mask-fits .ensures) (c .before .if2 .left) (c .is-clear .ensures)
+returns-3 c =
+    let mask = c .before in
+    let fits = mask .before in
+    let label = fits .before in
+    let asked = label .before in
+    let a = asked .before .args in
+    fits-all (a .q) (a .n) (a .received) (a .mask) (asked .is-label .ensures) (label .if1 .left) (fits .mask-fits .ensures) (mask .if2 .left)
+    (c .is-clear .ensures)
 
 pub fits-spec : {M : Type 1} → statement M
 fits-spec =

@@ -33,7 +33,10 @@ counted-requires : tie.Need-counted-requires Inv-loop μ-loop
 counted-requires c κs = search needs
 
 add-erased : tie.Need-add-erased Inv-loop μ-loop
-add-erased c = let I = (c .before .before .before .before .before .before .loop .inv) in let F = I .few in search needs
+add-erased c =
+    let head = c .before .before .before .before .before .before in
+    let F = head .loop .inv .few in
+    search needs
 
 add-t : tie.Need-add-t Inv-loop μ-loop
 add-t c = search needs
@@ -42,7 +45,14 @@ loop-less : tie.Need-loop-less Inv-loop μ-loop
 loop-less c = search needs
 
 loop-again : tie.Need-loop-again Inv-loop μ-loop
-loop-again c = heard-more (c .before .before .before .before .before .before .before .pre) (c .before .before .before .before .before .before .loop .inv) (c .before .before .before .before .before .loop-test .taken) (c .before .before .before .before .is-erased .ensures) (c .before .before .before .symbol .ensures) (c .before .before .unless .ensures) (c .before .append .ensures) (c .counted .ensures .0)
+loop-again c =
+    let appended = c .before in
+    let kept = appended .before in
+    let symbol = kept .before in
+    let erased = symbol .before in
+    let turn = erased .before in
+    heard-more (turn .before .before .pre) (turn .before .loop .inv) (turn .loop-test .taken) (erased .is-erased .ensures) (symbol .symbol .ensures)
+    (kept .unless .ensures) (appended .append .ensures) (c .counted .ensures .0)
 
 returns : tie.Need-returns Inv-loop μ-loop
 returns c = heard-end (c .before .loop .inv) (search needs)

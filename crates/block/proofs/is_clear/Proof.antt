@@ -19,7 +19,9 @@ is-stray-requires : tie.Need-is-stray-requires Inv-loop μ-loop
 is-stray-requires c κs = search needs
 
 returns : tie.Need-returns Inv-loop μ-loop
-returns c = stray-found (c .before .before .before .loop .inv) (c .before .before .loop-test .taken) (c .before .is-stray .ensures) (c .if1 .taken)
+returns c =
+    let turn = c .before .before in
+    stray-found (turn .before .loop .inv) (turn .loop-test .taken) (c .before .is-stray .ensures) (c .if1 .taken)
 
 add-t : tie.Need-add-t Inv-loop μ-loop
 add-t c = search needs
@@ -28,7 +30,9 @@ loop-less : tie.Need-loop-less Inv-loop μ-loop
 loop-less c = search needs
 
 loop-again : tie.Need-loop-again Inv-loop μ-loop
-loop-again c = stray-more (c .before .before .before .loop .inv) (c .before .before .loop-test .taken) (c .before .is-stray .ensures) (c .if1 .left)
+loop-again c =
+    let turn = c .before .before in
+    stray-more (turn .before .loop .inv) (turn .loop-test .taken) (c .before .is-stray .ensures) (c .if1 .left)
 
 returns-2 : tie.Need-returns-2 Inv-loop μ-loop
 returns-2 c = stray-none (c .before .loop .inv) (search needs)

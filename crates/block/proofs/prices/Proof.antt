@@ -86,7 +86,15 @@ loop-less : tie.Need-loop-less Inv-loop μ-loop
 loop-less c = search needs
 
 loop-again : tie.Need-loop-again Inv-loop μ-loop
-loop-again c = prices-more (c .before .before .before .before .before .before .before .before .pre) (c .before .before .before .before .before .before .before .loop .inv) (c .before .before .before .before .before .before .loop-test .taken) (c .before .before .before .before .before .is-erased .ensures) (c .before .before .before .before .symbol .ensures) (c .before .before .before .symbol-cost .ensures) (c .before .before .symbol-cost2 .ensures) (c .before .symbol-cost3 .ensures) (c .symbol-cost4 .ensures)
+loop-again c =
+    let third = c .before in
+    let second = third .before in
+    let first = second .before in
+    let symbol = first .before in
+    let erased = symbol .before in
+    let turn = erased .before in
+    prices-more (turn .before .before .pre) (turn .before .loop .inv) (turn .loop-test .taken) (erased .is-erased .ensures) (symbol .symbol .ensures)
+    (first .symbol-cost .ensures) (second .symbol-cost2 .ensures) (third .symbol-cost3 .ensures) (c .symbol-cost4 .ensures)
 
 returns : tie.Need-returns Inv-loop μ-loop
 returns c = prices-end (c .before .loop .inv) (search needs)

@@ -17,13 +17,19 @@ shared-slice-read-result : tie.Need-shared-slice-read-result
 shared-slice-read-result c = search needs
 
 returns : tie.Need-returns
-returns c = ahead-in _ (c .before .before .args .blocks) (c .before .before .args .end) (c .before .before .args .b) (c .before .before .args .s) (c .before .if1 .taken)
+returns c =
+    let a = c .before .before .args in
+    ahead-in (a .costs .now) (a .blocks) (a .end) (a .b) (a .s) (c .before .if1 .taken)
 
 returns-2 : tie.Need-returns-2
-returns-2 c = ahead-end ((c .before .before .args .costs) .now) (c .before .before .args .blocks) (c .before .before .args .end) (c .before .before .args .b) (c .before .before .args .s) (c .before .if1 .left) (c .if2 .taken)
+returns-2 c =
+    let a = c .before .before .args in
+    ahead-end (a .costs .now) (a .blocks) (a .end) (a .b) (a .s) (c .before .if1 .left) (c .if2 .taken)
 
 returns-3 : tie.Need-returns-3
-returns-3 c = ahead-off ((c .before .before .args .costs) .now) (c .before .before .args .blocks) (c .before .before .args .end) (c .before .before .args .b) (c .before .before .args .s) (c .before .if1 .left) (c .if2 .left)
+returns-3 c =
+    let a = c .before .before .args in
+    ahead-off (a .costs .now) (a .blocks) (a .end) (a .b) (a .s) (c .before .if1 .left) (c .if2 .left)
 
 pub ahead-spec : {M : Type 1} → statement M
 ahead-spec =

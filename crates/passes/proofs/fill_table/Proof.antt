@@ -2,9 +2,10 @@
 -- buffer is as it was. The measure is b.
 use borrow.Author.Needs.{needs}
 use mathlib.Core.Path.{_≡_, refl}
+use Prim.Native.Nat.{_-_}
 use lib.ListN.{length}
 use Rattle.passes.specs.Blocks.{Filled}
-use Rattle.passes.proofs.Chains.{fill-start, fill-more, fill-end, block-at, below-last}
+use Rattle.passes.proofs.Chains.{fill-start, fill-more, fill-end, BlockAt, block-at, below-last}
 use Rattle.passes.proofs.fill_table.Statement.{statement}
 use Rattle.passes.proofs.fill_table.Tie as tie
 
@@ -14,8 +15,28 @@ Inv-loop sections starts indices received erased end costs₀ blocks rows₀ b�
 abbrev μ-loop : tie.MeasureT-loop
 μ-loop sections starts indices received erased end costs₀ blocks rows₀ b₀ costs rows b = b
 
+-- ---- the places of the code that the needs look back to
+
+-- the function's entry, seen from where the loop begins
+abbrev entry : tie.After-slice-known Inv-loop μ-loop → tie.Start Inv-loop μ-loop
+entry begun = begun .before .before .before .before .before
+
+-- a turn, once the section index of its block is read
+abbrev turn-of : tie.After-widened Inv-loop μ-loop → tie.In-loop Inv-loop μ-loop
+turn-of read = read .before .before
+
+abbrev read-of : tie.After-table-block-arg Inv-loop μ-loop → tie.After-widened Inv-loop μ-loop
+read-of lent = lent .before .before .before .before .before .before
+
+-- the block of a turn, as the code takes it
+block-here : (read : tie.After-widened Inv-loop μ-loop)
+    → BlockAt (entry (turn-of read .before .before) .pre .0) (turn-of read .before .loop .b - 1) (read .widened .result)
+block-here read =
+    let turn = turn-of read in
+    block-at (entry (turn .before .before) .pre .0) (below-last (turn .before .loop .inv .0) (turn .loop-test .taken)) (read .widened .ensures .0)
+
 loop-holds : tie.Need-loop-holds Inv-loop μ-loop
-loop-holds c = (fill-start (c .before .before .before .before .before .pre .0), refl)
+loop-holds c = (fill-start (entry c .pre .0), refl)
 
 sub-b : tie.Need-sub-b Inv-loop μ-loop
 sub-b c = search needs
@@ -30,16 +51,16 @@ mul-start : tie.Need-mul-start Inv-loop μ-loop
 mul-start c = search needs
 
 element-copy-out-start : tie.Need-element-copy-out-start Inv-loop μ-loop
-element-copy-out-start c = let I = ((c .before .before .before .loop .inv .0)) in let A = (block-at (c .before .before .before .before .before .before .before .before .before .pre .0) (below-last ((c .before .before .before .loop .inv .0)) (c .before .before .loop-test .taken)) (c .widened .ensures .0)) in search needs
+element-copy-out-start c = let A = block-here c in search needs
 
 mul-l : tie.Need-mul-l Inv-loop μ-loop
-mul-l c = let I = ((c .before .before .before .before .loop .inv .0)) in let A = (block-at (c .before .before .before .before .before .before .before .before .before .before .pre .0) (below-last ((c .before .before .before .before .loop .inv .0)) (c .before .before .before .loop-test .taken)) (c .before .widened .ensures .0)) in search needs
+mul-l c = let A = block-here (c .before) in search needs
 
 sub-l : tie.Need-sub-l Inv-loop μ-loop
-sub-l c = let I = ((c .before .before .before .before .loop .inv .0)) in let A = (block-at (c .before .before .before .before .before .before .before .before .before .before .pre .0) (below-last ((c .before .before .before .before .loop .inv .0)) (c .before .before .before .loop-test .taken)) (c .before .widened .ensures .0)) in search needs
+sub-l c = let A = block-here (c .before) in search needs
 
 part-l-start : tie.Need-part-l-start Inv-loop μ-loop
-part-l-start c = let I = ((c .before .before .before .before .loop .inv .0)) in let A = (block-at (c .before .before .before .before .before .before .before .before .before .before .pre .0) (below-last ((c .before .before .before .before .loop .inv .0)) (c .before .before .before .loop-test .taken)) (c .before .widened .ensures .0)) in search needs
+part-l-start c = let A = block-here (c .before) in search needs
 
 part-l-end : tie.Need-part-l-end Inv-loop μ-loop
 part-l-end c = search needs
@@ -54,19 +75,28 @@ shared-slice-read-table-block-2 : tie.Need-shared-slice-read-table-block-2 Inv-l
 shared-slice-read-table-block-2 c = search needs
 
 table-block-requires : tie.Need-table-block-requires Inv-loop μ-loop
-table-block-requires c κs = let I = ((c .before .before .before .before .before .before .before .before .before .loop .inv .0)) in let A = (block-at (c .before .before .before .before .before .before .before .before .before .before .before .before .before .before .before .pre .0) (below-last ((c .before .before .before .before .before .before .before .before .before .loop .inv .0)) (c .before .before .before .before .before .before .before .before .loop-test .taken)) (c .before .before .before .before .before .before .widened .ensures .0)) in let R = (c .before .before .before .before .before .before .before .before .before .before .before .before .before .before .before .pre .0) in (A .good, search needs, R .many, search needs, search needs)
+table-block-requires c κs =
+    let read = read-of c in
+    let turn = turn-of read in
+    let I = turn .before .loop .inv .0 in
+    let R = entry (turn .before .before) .pre .0 in
+    (block-here read .good, search needs, R .many, search needs, search needs)
 
 loop-less : tie.Need-loop-less Inv-loop μ-loop
 loop-less c = search needs
 
 loop-again : tie.Need-loop-again Inv-loop μ-loop
-loop-again c = let I = ((c .before .before .before .before .before .before .before .before .before .before .before .before .loop .inv .0)) in let A = (block-at (c .before .before .before .before .before .before .before .before .before .before .before .before .before .before .before .before .before .before .pre .0) (below-last ((c .before .before .before .before .before .before .before .before .before .before .before .before .loop .inv .0)) (c .before .before .before .before .before .before .before .before .before .before .before .loop-test .taken)) (c .before .before .before .before .before .before .before .before .before .widened .ensures .0)) in (fill-more (c .before .before .before .before .before .before .before .before .before .before .before .before .before .before .before .before .before .before .pre .0) ((c .before .before .before .before .before .before .before .before .before .before .before .before .loop .inv .0)) (c .before .before .before .before .before .before .before .before .before .before .before .loop-test .taken) (A .part-is) refl refl (c .before .before .table-block .ensures .0), (c .before .before .table-block .ensures .1))
+loop-again c =
+    let done = c .before .before .table-block .ensures in
+    let read = read-of (c .before .before .before) in
+    let turn = turn-of read in
+    (fill-more (entry (turn .before .before) .pre .0) (turn .before .loop .inv .0) (turn .loop-test .taken) (block-here read) (done .0), done .1)
 
 same-length : tie.Need-same-length Inv-loop μ-loop
-same-length c = (c .before .loop .inv .0 .long)
+same-length c = c .before .loop .inv .0 .long
 
 returns : tie.Need-returns Inv-loop μ-loop
-returns c = fill-end (c .before .before .before .before .before .before .before .pre .0) (c .before .loop .inv .0) (search needs)
+returns c = fill-end (entry (c .before .before) .pre .0) (c .before .loop .inv .0) (search needs)
 
 pub fill-table-spec : {M : Type 1} → statement M
 fill-table-spec =

@@ -2,7 +2,7 @@
 use borrow.Author.Needs.{needs}
 use Prim.Native.Nat.{_-_}
 use Rattle.passes.specs.Loops.{InGoals}
-use Rattle.passes.proofs.Goals.{goal-in, goal-read, goals-start, goals-more, goals-end}
+use Rattle.passes.proofs.Goals.{GoalAt, goal-read, goals-start, goals-more, goals-end}
 use Rattle.passes.proofs.put_goals.Statement.{statement}
 use Rattle.passes.proofs.put_goals.Tie as tie
 
@@ -11,6 +11,17 @@ Inv-loop l costs blocks end b rows₀ n goals count g₀ rows g = InGoals l cost
 
 abbrev μ-loop : tie.MeasureT-loop
 μ-loop l costs blocks end b rows₀ n goals count g₀ rows g = count - g
+
+-- the function's entry, seen from where the loop begins
+abbrev entry : tie.After-wide Inv-loop μ-loop → tie.Start Inv-loop μ-loop
+entry begun = begun .before .before .before .before
+
+-- the goal of a turn stands in the list
+goal-here : (turn : tie.In-loop Inv-loop μ-loop)
+    → GoalAt (entry (turn .before .before) .args .l .now) (entry (turn .before .before) .args .at .goals) (turn .before .loop .g)
+goal-here turn =
+    let p = entry (turn .before .before) .pre in
+    goal-read (p .0) (p .1) (turn .before .before .wide .ensures .0) (turn .loop-test .taken)
 
 add-wide : tie.Need-add-wide Inv-loop μ-loop
 add-wide c = search needs
@@ -28,43 +39,48 @@ loop-holds : tie.Need-loop-holds Inv-loop μ-loop
 loop-holds c = goals-start (search needs)
 
 add-wide-2 : tie.Need-add-wide-2 Inv-loop μ-loop
-add-wide-2 c = let h = goal-in (c .before .before .before .before .before .before .pre .0) (c .before .before .before .before .before .before .pre .1) (c .before .before .wide .ensures .0) (c .loop-test .taken) in search needs
+add-wide-2 c = let G = goal-here c in search needs
 
 mul-wide-2 : tie.Need-mul-wide-2 Inv-loop μ-loop
-mul-wide-2 c = let h = goal-in (c .before .before .before .before .before .before .pre .0) (c .before .before .before .before .before .before .pre .1) (c .before .before .wide .ensures .0) (c .loop-test .taken) in search needs
+mul-wide-2 c = let G = goal-here c in search needs
 
 shared-slice-read-wide-2 : tie.Need-shared-slice-read-wide-2 Inv-loop μ-loop
-shared-slice-read-wide-2 c = let h = goal-in (c .before .before .before .before .before .before .before .pre .0) (c .before .before .before .before .before .before .before .pre .1) (c .before .before .before .wide .ensures .0) (c .before .loop-test .taken) in search needs
+shared-slice-read-wide-2 c = let G = goal-here (c .before) in search needs
 
 wide-requires-2 : tie.Need-wide-requires-2 Inv-loop μ-loop
 wide-requires-2 c κs = search needs
 
 ahead-requires : tie.Need-ahead-requires Inv-loop μ-loop
-ahead-requires c κs = let R = (goal-read (c .before .before .before .before .before .before .before .before .pre .0) (c .before .before .before .before .before .before .before .before .pre .1) (c .before .before .before .before .wide .ensures .0) (c .before .before .loop-test .taken) (c .wide2 .ensures .0)) in search needs
+ahead-requires c κs = let G = goal-here (c .before .before) in search needs
 
 mul-rows : tie.Need-mul-rows Inv-loop μ-loop
 mul-rows c = search needs
 
 add-rows : tie.Need-add-rows Inv-loop μ-loop
-add-rows c = let R = (goal-read (c .before .before .before .before .before .before .before .before .before .pre .0) (c .before .before .before .before .before .before .before .before .before .pre .1) (c .before .before .before .before .before .wide .ensures .0) (c .before .before .before .loop-test .taken) (c .before .wide2 .ensures .0)) in let F = ((c .before .before .before .before .before .before .before .before .before .pre .0) .fits) in search needs
+add-rows c = let G = goal-here (c .before .before .before) in search needs
 
 mul-rows-2 : tie.Need-mul-rows-2 Inv-loop μ-loop
-mul-rows-2 c = let R = (goal-read (c .before .before .before .before .before .before .before .before .before .pre .0) (c .before .before .before .before .before .before .before .before .before .pre .1) (c .before .before .before .before .before .wide .ensures .0) (c .before .before .before .loop-test .taken) (c .before .wide2 .ensures .0)) in let F = ((c .before .before .before .before .before .before .before .before .before .pre .0) .fits) in search needs
+mul-rows-2 c = let G = goal-here (c .before .before .before) in search needs
 
 element-write-rows : tie.Need-element-write-rows Inv-loop μ-loop
-element-write-rows c = let R = (goal-read (c .before .before .before .before .before .before .before .before .before .pre .0) (c .before .before .before .before .before .before .before .before .before .pre .1) (c .before .before .before .before .before .wide .ensures .0) (c .before .before .before .loop-test .taken) (c .before .wide2 .ensures .0)) in let F = ((c .before .before .before .before .before .before .before .before .before .pre .0) .fits) in search needs
+element-write-rows c = let G = goal-here (c .before .before .before) in search needs
 
 add-g : tie.Need-add-g Inv-loop μ-loop
-add-g c = let R = (goal-read (c .before .before .before .before .before .before .before .before .before .pre .0) (c .before .before .before .before .before .before .before .before .before .pre .1) (c .before .before .before .before .before .wide .ensures .0) (c .before .before .before .loop-test .taken) (c .before .wide2 .ensures .0)) in search needs
+add-g c = let G = goal-here (c .before .before .before) in search needs
 
 loop-less : tie.Need-loop-less Inv-loop μ-loop
 loop-less c = search needs
 
 loop-again : tie.Need-loop-again Inv-loop μ-loop
-loop-again c = goals-more (c .before .before .before .before .before .before .before .before .before .pre .0) ((c .before .before .before .before .before .before .before .before .before .pre .1) .nIs) (c .before .before .before .before .loop .inv) (goal-read (c .before .before .before .before .before .before .before .before .before .pre .0) (c .before .before .before .before .before .before .before .before .before .pre .1) (c .before .before .before .before .before .wide .ensures .0) (c .before .before .before .loop-test .taken) (c .before .wide2 .ensures .0)) (c .ahead .ensures)
+loop-again c =
+    let turn = c .before .before .before in
+    let p = entry (turn .before .before) .pre in
+    goals-more (p .0) (p .1 .nIs) (turn .before .loop .inv) (goal-here turn) (c .before .wide2 .ensures .0) (c .ahead .ensures)
 
 returns : tie.Need-returns Inv-loop μ-loop
-returns c = goals-end (c .before .loop .inv) ((c .before .before .before .before .before .before .pre .1) .nIs) (c .before .before .wide .ensures .0) (search needs)
+returns c =
+    let begun = c .before .before in
+    goals-end (c .before .loop .inv) (entry begun .pre .1 .nIs) (begun .wide .ensures .0) (search needs)
 
 pub put-goals-spec : {M : Type 1} → statement M
 put-goals-spec =

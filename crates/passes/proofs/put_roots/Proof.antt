@@ -3,7 +3,7 @@
 use borrow.Author.Needs.{needs}
 use Prim.Native.Nat.{_-_}
 use Rattle.passes.specs.Loops.{InRoots}
-use Rattle.passes.proofs.Tables.{root-in, root-read, roots-start, roots-more, roots-end}
+use Rattle.passes.proofs.Tables.{RootIn, root-read, roots-start, roots-more, roots-end}
 use Rattle.passes.proofs.put_roots.Statement.{statement}
 use Rattle.passes.proofs.put_roots.Tie as tie
 
@@ -13,8 +13,19 @@ Inv-loop l rows b costs₀ roots count v₀ costs v = InRoots l rows b costs₀ 
 abbrev μ-loop : tie.MeasureT-loop
 μ-loop l rows b costs₀ roots count v₀ costs v = count - v
 
+-- the function's entry, seen from where the loop begins
+abbrev entry : tie.After-wide Inv-loop μ-loop → tie.Start Inv-loop μ-loop
+entry begun = begun .before .before .before .before
+
+-- the root of a turn stands in the list
+root-here : (turn : tie.In-loop Inv-loop μ-loop)
+    → RootIn (entry (turn .before .before) .args .l .now) (entry (turn .before .before) .args .at .roots) (turn .before .loop .v)
+root-here turn =
+    let p = entry (turn .before .before) .pre in
+    root-read (p .0) (p .1) (turn .before .before .wide .ensures .0) (turn .loop-test .taken)
+
 shared-slice-read-wide : tie.Need-shared-slice-read-wide Inv-loop μ-loop
-shared-slice-read-wide c = let F = ((c .before .before .before .pre .0) .fits) in search needs
+shared-slice-read-wide c = let F = c .before .before .before .pre .0 .fits in search needs
 
 wide-requires : tie.Need-wide-requires Inv-loop μ-loop
 wide-requires c κs = search needs
@@ -23,46 +34,56 @@ loop-holds : tie.Need-loop-holds Inv-loop μ-loop
 loop-holds c = roots-start
 
 add-wide : tie.Need-add-wide Inv-loop μ-loop
-add-wide c = let h = root-in (c .before .before .before .before .before .before .pre .0) (c .before .before .before .before .before .before .pre .1) (c .before .before .wide .ensures .0) (c .loop-test .taken) in search needs
+add-wide c = let R = root-here c in search needs
 
 mul-wide : tie.Need-mul-wide Inv-loop μ-loop
-mul-wide c = let h = root-in (c .before .before .before .before .before .before .pre .0) (c .before .before .before .before .before .before .pre .1) (c .before .before .wide .ensures .0) (c .loop-test .taken) in search needs
+mul-wide c = let R = root-here c in search needs
 
 shared-slice-read-wide-2 : tie.Need-shared-slice-read-wide-2 Inv-loop μ-loop
-shared-slice-read-wide-2 c = let h = root-in (c .before .before .before .before .before .before .before .pre .0) (c .before .before .before .before .before .before .before .pre .1) (c .before .before .before .wide .ensures .0) (c .before .loop-test .taken) in search needs
+shared-slice-read-wide-2 c = let R = root-here (c .before) in search needs
 
 wide-requires-2 : tie.Need-wide-requires-2 Inv-loop μ-loop
 wide-requires-2 c κs = search needs
 
 mul-costs : tie.Need-mul-costs Inv-loop μ-loop
-mul-costs c = let R = (root-read (c .before .before .before .before .before .before .before .before .pre .0) (c .before .before .before .before .before .before .before .before .pre .1) (c .before .before .before .before .wide .ensures .0) (c .before .before .loop-test .taken) (c .wide2 .ensures .0)) in search needs
+mul-costs c = let R = root-here (c .before .before) in search needs
 
 element-copy-out-costs : tie.Need-element-copy-out-costs Inv-loop μ-loop
-element-copy-out-costs c = let R = (root-read (c .before .before .before .before .before .before .before .before .pre .0) (c .before .before .before .before .before .before .before .before .pre .1) (c .before .before .before .before .wide .ensures .0) (c .before .before .loop-test .taken) (c .wide2 .ensures .0)) in search needs
+element-copy-out-costs c = let R = root-here (c .before .before) in search needs
 
 mul-costs-2 : tie.Need-mul-costs-2 Inv-loop μ-loop
 mul-costs-2 c = search needs
 
 add-costs : tie.Need-add-costs Inv-loop μ-loop
-add-costs c = let R = (root-read (c .before .before .before .before .before .before .before .before .before .pre .0) (c .before .before .before .before .before .before .before .before .before .pre .1) (c .before .before .before .before .before .wide .ensures .0) (c .before .before .before .loop-test .taken) (c .before .wide2 .ensures .0)) in search needs
+add-costs c = let R = root-here (c .before .before .before) in search needs
 
 mul-costs-3 : tie.Need-mul-costs-3 Inv-loop μ-loop
-mul-costs-3 c = let R = (root-read (c .before .before .before .before .before .before .before .before .before .pre .0) (c .before .before .before .before .before .before .before .before .before .pre .1) (c .before .before .before .before .before .wide .ensures .0) (c .before .before .before .loop-test .taken) (c .before .wide2 .ensures .0)) in let I = (c .before .before .before .before .loop .inv) in search needs
+mul-costs-3 c =
+    let turn = c .before .before .before in
+    let R = root-here turn in
+    let I = turn .before .loop .inv in
+    search needs
 
 slice-write-costs : tie.Need-slice-write-costs Inv-loop μ-loop
-slice-write-costs c = let R = (root-read (c .before .before .before .before .before .before .before .before .before .pre .0) (c .before .before .before .before .before .before .before .before .before .pre .1) (c .before .before .before .before .before .wide .ensures .0) (c .before .before .before .loop-test .taken) (c .before .wide2 .ensures .0)) in let I = (c .before .before .before .before .loop .inv) in search needs
+slice-write-costs c =
+    let turn = c .before .before .before in
+    let R = root-here turn in
+    let I = turn .before .loop .inv in
+    search needs
 
 add-v : tie.Need-add-v Inv-loop μ-loop
-add-v c = let R = (root-read (c .before .before .before .before .before .before .before .before .before .pre .0) (c .before .before .before .before .before .before .before .before .before .pre .1) (c .before .before .before .before .before .wide .ensures .0) (c .before .before .before .loop-test .taken) (c .before .wide2 .ensures .0)) in search needs
+add-v c = let R = root-here (c .before .before .before) in search needs
 
 loop-less : tie.Need-loop-less Inv-loop μ-loop
 loop-less c = search needs
 
 loop-again : tie.Need-loop-again Inv-loop μ-loop
-loop-again c = roots-more (c .before .before .before .before .before .before .before .before .before .pre .0) (c .before .before .before .before .loop .inv) (root-read (c .before .before .before .before .before .before .before .before .before .pre .0) (c .before .before .before .before .before .before .before .before .before .pre .1) (c .before .before .before .before .before .wide .ensures .0) (c .before .before .before .loop-test .taken) (c .before .wide2 .ensures .0)) (search needs)
+loop-again c =
+    let turn = c .before .before .before in
+    roots-more (entry (turn .before .before) .pre .0) (turn .before .loop .inv) (root-here turn) (c .before .wide2 .ensures .0) (search needs)
 
 same-length : tie.Need-same-length Inv-loop μ-loop
-same-length c = (c .before .loop .inv .long)
+same-length c = c .before .loop .inv .long
 
 returns : tie.Need-returns Inv-loop μ-loop
 returns c = roots-end (c .before .loop .inv) (c .before .before .wide .ensures .0) (search needs)

@@ -26,7 +26,17 @@ same-length : tie.Need-same-length
 same-length c = search needs
 
 returns : tie.Need-returns
-returns c = (block-table (c .before .before .before .before .before .before .before .before .before .before .before .before .before .before .before .before .before .pre .0) ((c .before .before .before .before .before .before .before .before .before .before .before .before .before .before .places-of .ensures) .nIs) (c .before .before .before .before .before .before .before .before .before .before .before .before .before .prices .ensures) (c .before .before .before .before .before .before .before .before .before .fill-rows .ensures) (c .before .before .before .before .before .before .before .put-none .ensures) (c .before .before .put-roots .ensures), (c .before .before .before .before .before .before .before .before .before .fill-rows .ensures .long))
+returns c =
+    let roots = c .before .before in
+    let none = roots .before .before .before .before .before in
+    let rows = none .before .before in
+    let priced = rows .before .before .before .before in
+    let placed = priced .before in
+    let entry = placed .before .before .before in (
+      block-table (entry .pre .0) (placed .places-of .ensures .nIs) (priced .prices .ensures) (rows .fill-rows .ensures) (none .put-none .ensures)
+          (roots .put-roots .ensures),
+      rows .fill-rows .ensures .long,
+    )
 
 pub table-block-spec : {M : Type 1} → statement M
 table-block-spec =

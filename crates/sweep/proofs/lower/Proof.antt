@@ -80,7 +80,14 @@ loop-less : tie.Need-loop-less Inv-loop μ-loop
 loop-less c = search needs
 
 loop-again : tie.Need-loop-again Inv-loop μ-loop
-loop-again c = let e = c .before .before .before .before .before .before .before .before in let a = e .before .before in lower-more (a .before .before .pre .0) (a .before .before .pre .1) (a .loop .inv) (e .before .loop-test .taken) (e .edge-at .ensures) (c .before .before .before .before .before .before .wide .ensures .0) (c .before .before .pay .ensures) (c .lesser .ensures)
+loop-again c =
+    let paid = c .before .before in
+    let symbol = paid .before .before .before .before in
+    let edge = symbol .before .before in
+    let turn = edge .before in
+    let p = turn .before .before .before .pre in
+    lower-more (p .0) (p .1) (turn .before .loop .inv) (turn .loop-test .taken) (edge .edge-at .ensures) (symbol .wide .ensures .0)
+    (paid .pay .ensures) (c .lesser .ensures)
 
 returns : tie.Need-returns Inv-loop μ-loop
 returns c = lower-end (c .before .loop .inv) (search needs)

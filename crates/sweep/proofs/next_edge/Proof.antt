@@ -59,7 +59,14 @@ hit-requires : tie.Need-hit-requires Inv-loop μ-loop
 hit-requires c κs = search needs
 
 returns : tie.Need-returns Inv-loop μ-loop
-returns c = next-hit (c .before .before .before .before .before .before .before .before .before .loop .inv) (c .before .before .before .before .before .before .before .before .loop-test .taken) (c .before .before .before .before .before .before .before .edge-at .ensures) (c .before .before .before .before .before .before .wide .ensures .0) (c .before .before .pay .ensures) (c .before .hit .ensures) (c .if1 .taken)
+returns c =
+    let hit = c .before in
+    let paid = hit .before in
+    let symbol = paid .before .before .before .before in
+    let edge = symbol .before in
+    let turn = edge .before in
+    next-hit (turn .before .loop .inv) (turn .loop-test .taken) (edge .edge-at .ensures) (symbol .wide .ensures .0) (paid .pay .ensures)
+    (hit .hit .ensures) (c .if1 .taken)
 
 add-i : tie.Need-add-i Inv-loop μ-loop
 add-i c = search needs
@@ -68,7 +75,14 @@ loop-less : tie.Need-loop-less Inv-loop μ-loop
 loop-less c = search needs
 
 loop-again : tie.Need-loop-again Inv-loop μ-loop
-loop-again c = next-miss (c .before .before .before .before .before .before .before .before .before .loop .inv) (c .before .before .before .before .before .before .before .before .loop-test .taken) (c .before .before .before .before .before .before .before .edge-at .ensures) (c .before .before .before .before .before .before .wide .ensures .0) (c .before .before .pay .ensures) (c .before .hit .ensures) (c .if1 .left)
+loop-again c =
+    let hit = c .before in
+    let paid = hit .before in
+    let symbol = paid .before .before .before .before in
+    let edge = symbol .before in
+    let turn = edge .before in
+    next-miss (turn .before .loop .inv) (turn .loop-test .taken) (edge .edge-at .ensures) (symbol .wide .ensures .0) (paid .pay .ensures)
+    (hit .hit .ensures) (c .if1 .left)
 
 returns-2 : tie.Need-returns-2 Inv-loop μ-loop
 returns-2 c = next-none (c .before .loop .inv) (search needs)

@@ -11,8 +11,11 @@ shared-slice-read-wide c = search needs
 wide-requires : tie.Need-wide-requires
 wide-requires c κs = search needs
 
-edge-total-requires : tie.Need-edge-total-requires
-edge-total-requires c κs = search needs
+add-total : tie.Need-add-total
+add-total c = search needs
+
+total-requires : tie.Need-total-requires
+total-requires c κs = search needs
 
 mul-roots : tie.Need-mul-roots
 mul-roots c = search needs
@@ -51,7 +54,10 @@ add-symbols : tie.Need-add-symbols
 add-symbols c = search needs
 
 returns : tie.Need-returns
-returns c = let e = c .before .before .before .before in placed (e .before .before .before .before .pre) (e .before .wide .ensures .0) (e .edge-total .ensures) refl (search needs) (search needs) refl
+returns c =
+    let summed = c .before .before .before .before in
+    let read = summed .before in
+    placed (read .before .before .before .pre) (read .wide .ensures .0) (summed .total .ensures .0) refl (search needs) (search needs) refl
 
 pub places-of-spec : {M : Type 1} → statement M
 places-of-spec =
@@ -59,7 +65,8 @@ places-of-spec =
     (tie.spec
     shared-slice-read-wide
     wide-requires
-    edge-total-requires
+    add-total
+    total-requires
     mul-roots
     add-roots
     shared-slice-read-wide-2

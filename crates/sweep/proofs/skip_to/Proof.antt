@@ -40,7 +40,10 @@ loop-less : tie.Need-loop-less Inv-loop μ-loop
 loop-less c = search needs
 
 loop-again : tie.Need-loop-again Inv-loop μ-loop
-loop-again c = let a = c .before .before .before .before in skip-more (a .before .before .pre .0) (a .loop .inv) (c .before .before .before .loop-test .taken) (c .before .wide .ensures .0) (c .if1 .left)
+loop-again c =
+    let turn = c .before .before .before in
+    let entry = turn .before .before .before in
+    skip-more (entry .pre .0) (turn .before .loop .inv) (turn .loop-test .taken) (c .before .wide .ensures .0) (c .if1 .left)
 
 returns-2 : tie.Need-returns-2 Inv-loop μ-loop
 returns-2 c = c .before .loop .inv
