@@ -4,7 +4,6 @@ ghost use mathlib.Core.Path.{_≡_};
 ghost use mathlib.Core.Bool.{_&&_, cond};
 ghost use Prim.Native.Nat.{_+_, _*_, _^_, _<_, _≤_};
 ghost use lib.Dec.{ltb, eqb};
-ghost use lib.ListN.{getD};
 ghost use Rattle.trellis.specs.Lists.{first, one-if};
 ghost use Rattle.block.specs.Received.{erasedAt, costOver, blockDistance, stray, fitsBlock, Clean, Prices};
 ghost use Rattle.block.specs.Loops.{InHeard};

@@ -1,28 +1,26 @@
 -- Block by block, the table is that of the chain: each block's section carries the block's words, a word costs what its path costs, and so the least
 -- distances before a block follow along its edges from those behind it.
-use mathlib.Core.Path.{_≡_, refl, sym, ap, ap₂, subst, _∙_}
-use mathlib.Core.Bool.{Bool, true, false, cond}
-use mathlib.Core.Logic.{_⊎_, inl, inr}
+use mathlib.Core.Path.{_≡_, refl, sym, ap, subst, _∙_}
+use mathlib.Core.Bool.{cond}
+use mathlib.Core.Logic.{inr}
 use mathlib.Core.List.{List}
 use Prim.Native.Nat.{ℕ, zero, suc, _+_, _-_, _*_, _≤_, _<_}
-use native.Mathlib.Nat.{zero-add, add-zero, le-of-eq}
-use native.Mathlib.Decide.{ℕ-discrete, decLt, decLe}
+use native.Mathlib.Nat.{zero-add, le-of-eq}
+use native.Mathlib.Decide.{ℕ-discrete, decLt}
 use native.Mathlib.Omega.{arith}
-use lib.Dec.{T, eqb, ltb, eqb→eq, eqb-refl}
+use lib.Dec.{T, eqb, eqb→eq, eqb-refl}
 use lib.ListN.{length, getD, take, drop, length-drop}
 use lib.Seq.{take-all}
 use borrow.Author.Tests.{lt-ltb, le-ltb}
 use Rattle.trellis.specs.Lists.{_∈_, run, each, first}
 use Rattle.trellis.specs.Own.{Edge}
-use Rattle.trellis.specs.Word.{Word}
-use Rattle.trellis.specs.Section.{Path, pathsFrom, wordOf}
+use Rattle.trellis.specs.Section.{wordOf}
 use Rattle.trellis.specs.Layout.{nOf, vertexCountOf, edgeCountOf, edgesBefore, rootState, goalState, edgeNumber, stepEdges, sectionWords}
 use Rattle.trellis.proofs.Lists.{of-run, in-each, First, first-ok}
 use Rattle.paths.specs.Costs.{least}
-use Rattle.paths.specs.Sections.{sectionLeast, costFrom}
-use Rattle.paths.specs.Chain.{atEnd, chainLeast}
+use Rattle.paths.specs.Chain.{chainLeast}
 use Rattle.paths.proofs.Ordered.{Ordered, ended, leads}
-use Rattle.paths.proofs.Ascent.{Bounded, PathFits}
+use Rattle.paths.proofs.Ascent.{Bounded}
 use Rattle.paths.proofs.Packed.{cost-packed}
 use Rattle.paths.proofs.Words.{whole-fits}
 use Rattle.paths.proofs.Blocks.{Uses, least-root, least-else}
@@ -31,7 +29,6 @@ use Rattle.sweep.proofs.Edges.{before-more, before-le}
 use Rattle.block.specs.Received.{symbolCost, blockDistance}
 use Rattle.passes.specs.Blocks.{Good, endsIn, sectionOf, wordsOf, distanceOf, leastFrom, Ready, Table, Filled, aheadOf}
 use Rattle.passes.specs.Loops.{Behind, BlockTable, RootAt}
-use Rattle.passes.proofs.Goals.{ahead-in}
 
 -- ---- one section
 

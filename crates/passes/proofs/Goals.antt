@@ -1,19 +1,19 @@
 -- The rows of a block: row n has what is left to pay behind the block, at the states of the goals, and from it all rows follow.
-use mathlib.Core.Path.{_≡_, refl, sym, ap, subst, _∙_}
-use mathlib.Core.Bool.{true, false, cond}
+use mathlib.Core.Path.{_≡_, sym, ap, subst, _∙_}
+use mathlib.Core.Bool.{cond}
 use mathlib.Core.List.{List}
-use Prim.Native.Nat.{ℕ, zero, suc, _+_, _-_, _*_, _≤_, _<_}
+use Prim.Native.Nat.{ℕ, _+_, _-_, _*_, _≤_, _<_}
 use native.Mathlib.Nat.{not-suc-le-zero, le-antisymm}
 use native.Mathlib.Decide.{ℕ-discrete}
 use native.Mathlib.Omega.{arith}
-use lib.Dec.{eqb, ltb}
+use lib.Dec.{eqb}
 use lib.ListN.{length, getD, set, length-set}
 use lib.Seq.{getD-set-same, getD-set-other}
 use borrow.Author.Tests.{lt-ltb, le-ltb, eq-eqb, ne-eqb}
-use Rattle.trellis.specs.Layout.{nOf, vertexCountOf, rootsPlace, goalsPlace, rootState, goalState, stepEdges}
+use Rattle.trellis.specs.Layout.{nOf, vertexCountOf, goalState, stepEdges}
 use Rattle.paths.specs.Sections.{sectionLeast}
 use Rattle.paths.proofs.Sections.{least-last}
-use Rattle.sweep.specs.Rows.{top, Fits, Placed, Priced, Rows, Swept}
+use Rattle.sweep.specs.Rows.{top, Placed, Rows, Swept}
 use Rattle.passes.specs.Blocks.{Good, aheadOf}
 use Rattle.passes.specs.Loops.{Behind, InGoals, RowsOver}
 

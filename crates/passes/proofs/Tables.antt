@@ -2,16 +2,16 @@
 use mathlib.Core.Path.{_≡_, refl, sym, ap, subst, _∙_}
 use mathlib.Core.Logic.{_⊎_, inl, inr}
 use mathlib.Core.List.{List}
-use Prim.Native.Nat.{ℕ, zero, suc, _+_, _-_, _*_, _≤_, _<_}
+use Prim.Native.Nat.{ℕ, suc, _+_, _*_, _≤_, _<_}
 use native.Mathlib.Nat.{not-suc-le-zero, le-antisymm, sub-zero}
 use native.Mathlib.Decide.{ℕ-discrete}
 use native.Mathlib.Numerals.{add-one}
 use native.Mathlib.Omega.{arith}
 use lib.ListN.{length, getD, set, length-set}
 use lib.Seq.{getD-set-same, getD-set-other}
-use Rattle.trellis.specs.Layout.{nOf, vertexCountOf, rootsPlace, rootState, stepEdges}
+use Rattle.trellis.specs.Layout.{nOf, vertexCountOf, rootState, stepEdges}
 use Rattle.paths.specs.Sections.{sectionLeast}
-use Rattle.sweep.specs.Rows.{top, Fits, Placed, Priced, Rows}
+use Rattle.sweep.specs.Rows.{top, Placed, Priced}
 use Rattle.block.specs.Received.{symbolCost, Prices}
 use Rattle.passes.specs.Blocks.{Good}
 use Rattle.passes.specs.Loops.{Behind, RowsOver, InNone, InRoots, BlockTable, InRoot, RootAt}

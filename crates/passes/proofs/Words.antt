@@ -6,7 +6,7 @@ use Prim.Native.Nat.{ℕ, _+_, _*_, _≤_, _<_}
 use native.Mathlib.Nat.{sub-zero}
 use native.Mathlib.Decide.{decLt}
 use native.Mathlib.Omega.{arith}
-use lib.ListN.{length, getD}
+use lib.ListN.{getD}
 use Rattle.trellis.specs.Layout.{nOf, vertexCountOf, rootState, goalState, stepEdges}
 use Rattle.paths.specs.Sections.{sectionLeast}
 use Rattle.sweep.specs.Rows as sweeping

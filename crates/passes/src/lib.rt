@@ -1,8 +1,8 @@
 // The two passes over the blocks of a chain: backward, the cost table, and forward, the words of the first path of least distance. Both go over the
 // edges of the blocks' sections and never over their words.
 ghost use mathlib.Core.Path.{_≡_};
-ghost use Prim.Native.Nat.{_+_, _*_, _<_, _≤_, suc};
-ghost use lib.ListN.{length, getD};
+ghost use Prim.Native.Nat.{_+_, _*_, _<_, _≤_};
+ghost use lib.ListN.{length};
 ghost use Rattle.trellis.specs.Layout.{nOf, vertexCountOf};
 ghost use Rattle.sweep.specs.Rows.{top, Placed};
 ghost use Rattle.block.specs.Received.{Clean};
@@ -34,7 +34,8 @@ fn put_goals(
     b: usize,
     rows: &mut [u32; 9216],
 )
-    requires { ⌜ Good (now l) × Placed (now l) (at .n) (at .roots) (at .goals) (at .pairs) (at .symbols) (at .edges) × (64 * blocks ≤ length (now costs)) × (blocks ≤ 256) × (length (now rows) ≡ 9216) ⌝ }
+    requires { ⌜ Good (now l) × Placed (now l) (at .n) (at .roots) (at .goals) (at .pairs) (at .symbols) (at .edges)
+        × (64 * blocks ≤ length (now costs)) × (blocks ≤ 256) × (length (now rows) ≡ 9216) ⌝ }
     ensures { λ _. ⌜ InGoals (now (l .entry)) (now (costs .entry)) blocks end b (now (rows .exit)) (vertexCountOf (now (l .entry)) (nOf (now (l .entry)))) ⌝ }
 {
     let n = at.n;
@@ -58,7 +59,8 @@ fn fill_rows(
     b: usize,
     rows: &mut [u32; 9216],
 )
-    requires { ⌜ Good (now l) × Placed (now l) (at .n) (at .roots) (at .goals) (at .pairs) (at .symbols) (at .edges) × (64 * blocks ≤ length (now costs)) × (blocks ≤ 256) × (length (now rows) ≡ 9216) ⌝ }
+    requires { ⌜ Good (now l) × Placed (now l) (at .n) (at .roots) (at .goals) (at .pairs) (at .symbols) (at .edges)
+        × (64 * blocks ≤ length (now costs)) × (blocks ≤ 256) × (length (now rows) ≡ 9216) ⌝ }
     ensures { λ _. ⌜ RowsOver (now (l .entry)) (now (prices .entry)) (now (costs .entry)) blocks end b (now (rows .exit)) ⌝ }
 {
     put_goals(l, at, costs, blocks, end, b, rows);
@@ -171,7 +173,8 @@ fn word_from(
     s: usize,
     rows: &mut [u32; 9216],
 ) -> Step
-    requires { ⌜ Good (now l) × Clean (nOf (now l)) received mask × Onward (now l) received mask (now costs) blocks end b s × (64 * blocks ≤ length (now costs)) × (blocks ≤ 256) × (length (now rows) ≡ 9216) ⌝ }
+    requires { ⌜ Good (now l) × Clean (nOf (now l)) received mask × Onward (now l) received mask (now costs) blocks end b s
+        × (64 * blocks ≤ length (now costs)) × (blocks ≤ 256) × (length (now rows) ≡ 9216) ⌝ }
     ensures { λ r. ⌜ WordFrom (now (l .entry)) received mask (now (costs .entry)) blocks end b s (r .label) (r .goal) (r .distance) × (length (now (rows .exit)) ≡ 9216) ⌝ }
 {
     let at = sweep::places_of(l);
@@ -205,8 +208,12 @@ pub fn name_words(
     labels: &mut [u16],
     goals: &mut [u8],
 ) -> u32
-    requires { ⌜ Ready (now sections) (now starts) (now indices) (now received) (now erased) × Table (now sections) (now starts) (now indices) (now received) (now erased) end 0 (now costs) × (64 * length (now indices) ≤ length (now costs)) × (length (now indices) ≤ length (now labels)) × (length (now indices) ≤ length (now goals)) × (start < 64) × (leastFrom (now sections) (now starts) (now indices) (now received) (now erased) end 0 start < top) ⌝ }
-    ensures { λ r. ⌜ Named (now (sections .entry)) (now (starts .entry)) (now (indices .entry)) (now (received .entry)) (now (erased .entry)) end start (now (labels .entry)) (now (labels .exit)) (now (goals .entry)) (now (goals .exit)) r ⌝ }
+    requires { ⌜ Ready (now sections) (now starts) (now indices) (now received) (now erased)
+        × Table (now sections) (now starts) (now indices) (now received) (now erased) end 0 (now costs)
+        × (64 * length (now indices) ≤ length (now costs)) × (length (now indices) ≤ length (now labels)) × (length (now indices) ≤ length (now goals)) × (start < 64)
+        × (leastFrom (now sections) (now starts) (now indices) (now received) (now erased) end 0 start < top) ⌝ }
+    ensures { λ r. ⌜ Named (now (sections .entry)) (now (starts .entry)) (now (indices .entry)) (now (received .entry)) (now (erased .entry)) end start
+        (now (labels .entry)) (now (labels .exit)) (now (goals .entry)) (now (goals .exit)) r ⌝ }
 {
     let blocks = indices.len();
     let mut rows = [TOP; 9216];

@@ -2,28 +2,28 @@
 -- there is such an edge. Symbol by symbol it moves from the path to the label.
 use mathlib.Core.Path.{_≡_, refl, sym, ap, ap₂, subst, _∙_}
 use mathlib.Core.Bool.{Bool, true, false, cond, _&&_}
-use mathlib.Core.List.{List, [], _∷_}
-use mathlib.Core.Option.{Option, none as nothing, some as just}
-use Prim.Native.Nat.{ℕ, zero, suc, _+_, _-_, _*_, _^_, _≤_, _<_}
-use native.Mathlib.Nat.{add-zero, sub-zero}
+use mathlib.Core.List.{List, _∷_}
+use mathlib.Core.Option.{none as nothing, some as just}
+use Prim.Native.Nat.{ℕ, suc, _+_, _-_, _*_, _≤_, _<_}
+use native.Mathlib.Nat.{sub-zero}
 use native.Mathlib.Numerals.{add-one}
 use native.Mathlib.Omega.{arith}
 use lib.Dec.{eqb, ltb, lit<}
-use lib.ListN.{length, getD}
+use lib.ListN.{getD}
 use borrow.Author.Tests.{lt-ltb, le-ltb, ltb-true}
-use Rattle.trellis.specs.Lists.{_∈_, keep}
+use Rattle.trellis.specs.Lists.{keep}
 use Rattle.trellis.specs.Own.{Edge}
 use Rattle.trellis.specs.Section.{leaving, along, packOnto}
-use Rattle.trellis.specs.Layout.{nOf, vertexCountOf, edgeCountOf, edgesBefore, allEdges, edgeNumber, stepEdges, pairsPlace}
+use Rattle.trellis.specs.Layout.{nOf, vertexCountOf, edgeCountOf, edgeNumber, stepEdges}
 use Rattle.label.specs.Labels.{appended}
 use Rattle.label.proofs.Appending.{appended-is, appended-short}
-use Rattle.paths.specs.Costs.{plus, minAll, firstWith}
+use Rattle.paths.specs.Costs.{plus, firstWith}
 use Rattle.paths.specs.Sections.{sectionLeast, sectionTrace}
 use Rattle.paths.proofs.Trace.{first-same, Least}
 use Rattle.paths.proofs.Sections.{across, least-step, some-edge, Taken, taken, trace-last}
 use Rattle.sweep.specs.Rows.{top, Fits, Placed, Priced, Rows, Open, Named}
 use Rattle.sweep.specs.Loops.{between, InStep, Reads, EdgeAt, through, hitAt, firstEdge, SkipTo, NextAt, InNext, InName}
-use Rattle.sweep.proofs.Edges.{before-none, before-more, before-le, edges-are, step-in, between-more, between-none, Known, known}
+use Rattle.sweep.proofs.Edges.{before-none, before-more, before-le, edges-are, step-in, between-more, between-none, known}
 use Rattle.sweep.proofs.Lowering.{leaving-other}
 use Rattle.sweep.proofs.Sweeping.{through-is}
 

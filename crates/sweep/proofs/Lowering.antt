@@ -2,25 +2,23 @@
 -- each edge moves from the one side to the other. The row of the next depth is not touched, so what an edge gives stays the same.
 use mathlib.Core.Path.{_≡_, refl, sym, ap, ap₂, subst, _∙_}
 use mathlib.Core.Bool.{cond}
-use mathlib.Core.List.{List, [], _∷_}
-use Prim.Native.Nat.{ℕ, zero, suc, _+_, _-_, _*_, _≤_, _<_, min}
+use mathlib.Core.List.{List, _∷_}
+use Prim.Native.Nat.{ℕ, suc, _+_, _*_, _≤_, _<_, min}
 use native.Mathlib.Nat.{not-suc-le-zero}
 use native.Mathlib.Omega.{arith}
-use native.Mathlib.Decide.{ℕ-discrete, decLt}
+use native.Mathlib.Decide.{ℕ-discrete}
 use borrow.Author.Tests.{eq-eqb, ne-eqb}
 use lib.ListN.{length, getD, set, length-set}
 use lib.Seq.{getD-set-same, getD-set-other}
-use Rattle.trellis.specs.Lists.{_∈_, keep}
+use Rattle.trellis.specs.Lists.{keep}
 use Rattle.trellis.specs.Own.{Edge}
 use Rattle.trellis.specs.Section.{leaving}
-use Rattle.trellis.specs.Layout.{nOf, vertexCountOf, edgesBefore, edgeNumber, stepEdges}
+use Rattle.trellis.specs.Layout.{vertexCountOf, edgeNumber}
 use Rattle.paths.specs.Costs.{plus, minAll}
-use Rattle.paths.specs.Sections.{sectionLeast}
-use Rattle.paths.proofs.Capped.{min-same-in, min-all-le}
-use Rattle.paths.proofs.Sections.{across, least-step}
-use Rattle.sweep.specs.Rows.{top, Fits, Priced, Rows}
+use Rattle.paths.proofs.Capped.{min-all-le}
+use Rattle.sweep.specs.Rows.{top}
 use Rattle.sweep.specs.Loops.{between, InStep, Reads, EdgeAt, through, InClear, Clear, InLower, Lowered}
-use Rattle.sweep.proofs.Edges.{between-more, between-none, edges-are, Known, known}
+use Rattle.sweep.proofs.Edges.{between-more, between-none}
 
 pub leaving-here : (e : Edge) (es : List Edge) (v : ℕ) → e .from ≡ v → leaving v (e ∷ es) ≡ e ∷ leaving v es
 unfolding leaving keep

@@ -1,21 +1,21 @@
 -- All rows: the row of a depth follows from the row of the next depth, since what an edge gives over the array is what it gives by the theory.
-use mathlib.Core.Path.{_≡_, refl, sym, ap, ap₂, subst, _∙_}
+use mathlib.Core.Path.{_≡_, sym, ap, ap₂, subst, _∙_}
 use mathlib.Core.List.{List}
-use Prim.Native.Nat.{ℕ, zero, suc, _+_, _-_, _*_, _≤_, _<_}
+use Prim.Native.Nat.{ℕ, suc, _+_, _-_, _*_, _≤_, _<_}
 use native.Mathlib.Omega.{arith}
 use native.Mathlib.Decide.{decLe}
 use lib.ListN.{length, getD}
 use Rattle.trellis.specs.Lists.{_∈_}
 use Rattle.trellis.specs.Own.{Edge}
 use Rattle.trellis.specs.Section.{leaving}
-use Rattle.trellis.specs.Layout.{nOf, vertexCountOf, edgeCountOf, edgesBefore, allEdges, stepEdges}
+use Rattle.trellis.specs.Layout.{nOf, vertexCountOf, edgeCountOf, edgesBefore, stepEdges}
 use Rattle.paths.specs.Costs.{plus, minAll}
 use Rattle.paths.specs.Sections.{sectionLeast}
 use Rattle.paths.proofs.Capped.{min-same-in}
 use Rattle.paths.proofs.Sections.{across, least-step}
 use Rattle.sweep.specs.Rows.{top, Fits, Placed, Priced, Rows, Swept}
-use Rattle.sweep.specs.Loops.{between, InStep, through, InClear, Clear, Lowered, InSweep}
-use Rattle.sweep.proofs.Edges.{before-more, before-le, edges-are, Known, known}
+use Rattle.sweep.specs.Loops.{through, InClear, Lowered, InSweep}
+use Rattle.sweep.proofs.Edges.{before-more, edges-are, known}
 
 -- what an edge of step t gives
 pub through-is : {l prices rows : List ℕ} {cost : ℕ → ℕ → ℕ} {number : ℕ → ℕ} {t : ℕ} → Fits l → t < nOf l → Priced l prices cost → Rows l cost number (suc t) rows

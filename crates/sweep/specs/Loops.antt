@@ -9,9 +9,9 @@ use lib.ListN.{length, getD}
 use Rattle.trellis.specs.Lists.{run}
 use Rattle.trellis.specs.Own.{Edge}
 use Rattle.trellis.specs.Section.{leaving, packOnto}
-use Rattle.trellis.specs.Layout.{nOf, vertexCountOf, edgeCountOf, edgesBefore, allEdges, pairsPlace, symbolsPlace, edgeNumber, stepEdges}
+use Rattle.trellis.specs.Layout.{nOf, vertexCountOf, edgesBefore, allEdges, pairsPlace, symbolsPlace, edgeNumber, stepEdges}
 use Rattle.paths.specs.Costs.{plus, minAll, firstWith}
-use Rattle.paths.specs.Sections.{sectionLeast, sectionTrace}
+use Rattle.paths.specs.Sections.{sectionTrace}
 use Rattle.sweep.specs.Rows.{top, Fits, Priced, Rows}
 
 -- ---- edges

@@ -4,8 +4,7 @@ use mathlib.Core.Path.{_≡_}
 use mathlib.Core.List.{List}
 use Prim.Native.Nat.{ℕ, suc, _+_, _-_, _*_, _≤_, _<_}
 use lib.ListN.{length, getD}
-use Rattle.trellis.specs.Own.{Edge}
-use Rattle.trellis.specs.Section.{Path, packOnto}
+use Rattle.trellis.specs.Section.{packOnto}
 use Rattle.trellis.specs.Layout.{nOf, vertexCountOf, edgeCountOf, edgesBefore, allEdges, rootsPlace, goalsPlace, pairsPlace, symbolsPlace, edgeNumber, stepEdges}
 use Rattle.paths.specs.Sections.{sectionLeast, sectionTrace}
 

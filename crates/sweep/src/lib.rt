@@ -1,9 +1,9 @@
 // The costs of one section, over its edges and never over its words: backward, row by row, the least cost from each vertex, and forward the first path
 // of least cost. What a symbol costs and what it costs to end in a vertex are the caller's.
 ghost use mathlib.Core.Path.{_≡_};
-ghost use Prim.Native.Nat.{ℕ, _+_, _*_, _<_, _≤_, min, suc};
-ghost use lib.ListN.{length, getD};
-ghost use Rattle.trellis.specs.Layout.{nOf, vertexCountOf, edgesBefore, allEdges};
+ghost use Prim.Native.Nat.{_+_, _*_, _<_, _≤_, min};
+ghost use lib.ListN.{length};
+ghost use Rattle.trellis.specs.Layout.{allEdges};
 ghost use Rattle.paths.specs.Costs.{plus};
 ghost use Rattle.sweep.specs.Rows.{top, Fits, Placed, Swept, Open, Named};
 ghost use Rattle.sweep.specs.Loops.{InStep, Reads, EdgeAt, InClear, Clear, Lowered, hitAt, SkipTo, NextAt};

@@ -1,7 +1,6 @@
 -- `block::heard_of` takes the symbols one by one. The loop's invariant: the symbols passed are 0 where they are erased, and the erasures among them are
 -- counted. The measure is how many symbols are left.
 use borrow.Author.Needs.{needs}
-use mathlib.Core.Path.{refl}
 use Prim.Native.Nat.{_-_}
 use Rattle.block.specs.Loops.{InHeard}
 use Rattle.block.proofs.Hearing.{heard-start, heard-more, heard-end}

@@ -1,5 +1,4 @@
 -- `sweep::hit` is the two tests, one after the other.
-use borrow.Author.Needs.{needs}
 use borrow.Author.Tests.{eq-eqb, ne-eqb}
 use Rattle.sweep.specs.Loops.{hitAt}
 use Rattle.sweep.proofs.hit.Statement.{statement}
