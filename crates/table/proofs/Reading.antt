@@ -8,7 +8,8 @@ use lib.ListN.{length, List·getD-eq-default}
 use lib.Dec.{eqb}
 use borrow.Author.Tests.{lt-ltb, le-ltb}
 use Rattle.table.specs.File.{byteAt, twoBytes, wordCount, fileWord, lengthBad, outside, sizeOutside}
-use Rattle.table.specs.Answer.{held, foundAt, placeAfter}
+use Rattle.table.specs.Answer.{held, foundAt}
+use Rattle.table.specs.ReadOn.{placeAfter}
 use Rattle.table.specs.declared.Word.{Word}
 use Rattle.table.specs.declared.Found.the-variants.{Word as Here, Nothing}
 

@@ -1,7 +1,7 @@
 -- What this crate's answers say: document 01's number and values for each case of `Checked`, and the word that `word_at` finds.
 use mathlib.Core.Bool.{Bool, true, false, cond}
 use mathlib.Core.List.{List, [], _∷_}
-use Prim.Native.Nat.{ℕ, _+_}
+use Prim.Native.Nat.{ℕ}
 use lib.Dec.{ltb}
 use Rattle.trellis.specs.Word as trellis
 use Rattle.trellis.specs.Outcome.{Outcome, outcome, badLength, badSize, badWord, notAbove}
@@ -37,7 +37,3 @@ meant w = trellis.word (w .root) (w .label) (w .goal)
 -- the word at index i where the file's length is 5 + 4W and i is below W
 unfoldable pub foundAt : List ℕ → ℕ → Found
 foundAt file i = cond (lengthBad file) Nothing (cond (ltb i (wordCount file)) (Here (held (fileWord file i))) Nothing)
-
--- the place that comes after i for whoever reads on: behind the word at i, or i itself where there is none
-unfoldable pub placeAfter : List ℕ → ℕ → ℕ
-placeAfter file i = cond (lengthBad file) i (cond (ltb i (wordCount file)) (i + 1) i)

@@ -2,7 +2,8 @@
 // the functions of this crate that take a slice and an index.
 ghost use mathlib.Core.Path.{_≡_};
 ghost use Rattle.table.specs.File.{fileWord};
-ghost use Rattle.table.specs.Answer.{held, foundAt, placeAfter};
+ghost use Rattle.table.specs.Answer.{held, foundAt};
+ghost use Rattle.table.specs.ReadOn.{placeAfter};
 
 pub struct Reader<'a> {
     pub file: &'a [u8],
