@@ -77,6 +77,7 @@ pub fn label_at(file: &[u8], i: u16) -> u16
     two_bytes(low, high)
 }
 
+// The word decoder that a reader calls.
 fn word_of(file: &[u8], i: u16) -> Word
     ensures { λ r. ⌜ r ≡ held (fileWord (now (file .entry)) i) ⌝ }
 {
