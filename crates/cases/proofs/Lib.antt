@@ -1,1 +1,2 @@
+-- That every marked case shows what the paper says.
 pub mod Computed

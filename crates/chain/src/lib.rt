@@ -12,6 +12,8 @@ ghost use Rattle.chain.specs.Decoding.{left, neededOf, decoding};
 ghost use Rattle.chain.specs.Answer.{decodedOutcome, partLength};
 ghost use Rattle.chain.specs.Meaning.{Meaning};
 ghost use Rattle.chain.specs.Loops.{Found, FirstUnusable};
+use numbers::wide;
+use numbers::widened;
 use section_file::Part;
 use sweep::TOP;
 
@@ -22,18 +24,6 @@ pub enum Decoded {
     Block(usize),
     Short(usize),
     NoPath,
-}
-
-fn wide(x: u16) -> usize
-    ensures { λ r. ⌜ r ≡ x ⌝ }
-{
-    x as usize
-}
-
-fn widened(x: u8) -> usize
-    ensures { λ r. ⌜ r ≡ x ⌝ }
-{
-    x as usize
 }
 
 fn is_within(low: usize, high: usize, x: usize) -> bool

@@ -11,12 +11,7 @@ ghost use Rattle.runs.specs.Runs.{firstLike, goesOn};
 ghost use Rattle.depths.specs.Words.{words};
 ghost use Rattle.depths.specs.Rows.{at, Row, Small, Bytes, beginAlike, joins, startBy, runStart, rowKey, firstWordIn, agreesTest, runsAgreeTest, Backward, ToNumber, Numbered};
 ghost use Rattle.depths.specs.Merge.{Merging, DepthDone, lowestOf, countOf, Inner, InnerDone};
-
-pub fn wide(x: u16) -> usize
-    ensures { λ r. ⌜ r ≡ x ⌝ }
-{
-    x as usize
-}
+use numbers::wide;
 
 // Whether words i and j have the same beginning at depth t.
 fn begin_alike(roots: &[u8], labels: &[u16], n: usize, t: usize, i: usize, j: usize) -> bool

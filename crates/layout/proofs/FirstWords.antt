@@ -18,7 +18,8 @@ use Rattle.trellis.specs.Word.{Word, wordAt, Table, Rectangular}
 use Rattle.trellis.specs.Own.{Edge, edgeLess, sameEdge, edgeOf, edgesAt}
 use Rattle.trellis.proofs.Bools.{holds, fails}
 use Rattle.trellis.proofs.Lists.{in-yes, in-of, in-each}
-use Rattle.trellis.proofs.Ascending.{lower-yes, ascending-old, ascending-new}
+use Rattle.trellis.proofs.Ascending.{ascending-old, ascending-new}
+use Rattle.trellis.proofs.ThreeNumbers.{lower-yes}
 use Rattle.trellis.proofs.Paths.{edge-ok, edge-rf, edges-order}
 use Rattle.trellis.proofs.EdgeOrder.{New, new-last}
 use Rattle.label.proofs.Digits.{symbol-small}

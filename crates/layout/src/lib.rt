@@ -10,14 +10,9 @@ ghost use Rattle.trellis.specs.Layout.{joinedUp};
 ghost use Rattle.layout.specs.Pieces.{SmallMap, AllTaken, stepTakers, part, pairsOf, symbolsOf, Words};
 ghost use Rattle.layout.specs.AllPieces.{Taken, stepPairs, stepSymbols};
 ghost use Rattle.layout.specs.Takers.{rowEdge, raised, takers, SmallRows, ArcOf};
+use numbers::wide;
 
 pub mod states;
-
-fn wide(x: u16) -> usize
-    ensures { λ r. ⌜ r ≡ x ⌝ }
-{
-    x as usize
-}
 
 // What the scan needs of an edge: its vertex and symbol as one number, and where it leads.
 struct Arc {

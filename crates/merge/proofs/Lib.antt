@@ -1,3 +1,4 @@
+-- Why each stage of merging leaves what the definition says, from the map's rows to the answer.
 pub mod MapRows
 pub mod LastStage
 pub mod FirstDepth

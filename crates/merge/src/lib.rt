@@ -10,6 +10,7 @@ ghost use Rattle.depths.specs.Words.{words};
 ghost use Rattle.merge.specs.Answer.{outcomeOf};
 ghost use Rattle.merge.specs.Merging.{refusalOf, merging, mergedTable, merged, written};
 ghost use Rattle.merge.specs.Stages.{Ends, cleared, Words, Inside, Refused, Copied};
+use numbers::wide;
 
 pub enum Merged {
     Section(usize),
@@ -20,12 +21,6 @@ pub enum Merged {
     ShortMap(usize),
     NotRectangular(usize, usize, usize, usize),
     ShortSection(usize),
-}
-
-fn wide(x: u16) -> usize
-    ensures { λ r. ⌜ r ≡ x ⌝ }
-{
-    x as usize
 }
 
 // The first `count` places of the map become 0.

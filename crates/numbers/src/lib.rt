@@ -10,6 +10,12 @@ pub fn wide(x: u16) -> usize
     x as usize
 }
 
+pub fn widened(x: u8) -> usize
+    ensures { λ r. ⌜ (r ≡ x) × (r < 256) ⌝ }
+{
+    x as usize
+}
+
 pub fn number(l: &[u16], i: usize) -> u16
     ensures { λ r. ⌜ r ≡ getD (now (l .entry)) i 0 ⌝ }
 {

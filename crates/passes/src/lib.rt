@@ -8,20 +8,10 @@ ghost use Rattle.sweep.specs.Rows.{top, Placed};
 ghost use Rattle.block.specs.Received.{Clean};
 ghost use Rattle.passes.specs.Blocks.{Good, Ready, Table, Filled, aheadOf, leastFrom};
 ghost use Rattle.passes.specs.Loops.{InGoals, RowsOver, InNone, InRoots, BlockTable, RootAt, Onward, WordFrom, Named};
+use numbers::wide;
+use numbers::widened;
 use sweep::Places;
 use sweep::TOP;
-
-fn wide(x: u16) -> usize
-    ensures { λ r. ⌜ (r ≡ x) × (r < 65536) ⌝ }
-{
-    x as usize
-}
-
-fn widened(x: u8) -> usize
-    ensures { λ r. ⌜ (r ≡ x) × (r < 256) ⌝ }
-{
-    x as usize
-}
 
 // What is left to pay from state s before block b; behind the last block, nothing in the end state.
 fn ahead(costs: &[u32], blocks: usize, end: usize, b: usize, s: usize) -> u32

@@ -9,7 +9,8 @@ use lib.Dec.{T, eqb}
 use Rattle.trellis.specs.Lists.{_∈_, Lower, byFirst, bySecond, byThird}
 use Rattle.trellis.specs.Own.{Edge, edgeLess}
 use Rattle.trellis.specs.Section.{Path, stop, along, leaving, pathsFrom, packOnto}
-use Rattle.trellis.proofs.Ascending.{Ascends, lower-yes}
+use Rattle.trellis.proofs.Ascending.{Ascends}
+use Rattle.trellis.proofs.ThreeNumbers.{lower-yes}
 use Rattle.paths.proofs.Ordered.{Ordered, ended, leads, ordered-of, ordered-keep, ordered-as, ordered-map, ordered-flatMap, of-flatMap}
 use Rattle.paths.proofs.Sections.{from-of, listed-of}
 

@@ -15,7 +15,8 @@ use Rattle.trellis.specs.Own.{Edge, edge, edgeLess, key, keys, vertexOf, vertex
 use Rattle.trellis.specs.Demand.{ours}
 use Rattle.trellis.specs.Layout.{nOf, vertexCountOf, edgeCountOf, rootState, goalState, sectionOf}
 use Rattle.trellis.proofs.Lists.{From, Place, in-place, place-of, in-each, of-each, length-run}
-use Rattle.trellis.proofs.Ascending.{Ascends, numbers, ascends, of-ascending, ascending-length, lower-yes}
+use Rattle.trellis.proofs.Ascending.{Ascends, numbers, ascends, of-ascending, ascending-length}
+use Rattle.trellis.proofs.ThreeNumbers.{lower-yes}
 use Rattle.trellis.proofs.Words.{word-in}
 use Rattle.trellis.proofs.Paths.{edges-order}
 use Rattle.trellis.proofs.Vertices.{Numbering, own-numbering, key-root, key-goal, vertex-below}

@@ -20,7 +20,7 @@ use Rattle.trellis.specs.Demand.{ours}
 use Rattle.trellis.specs.Section.{Path, stop, along, leaving, pathsFrom, packOnto, wordOf, wordsOf}
 use Rattle.trellis.specs.Layout.{nOf, vertexCountOf, rootState, goalState, stepEdges, sectionWords, sectionOf}
 use Rattle.trellis.proofs.Lists.{From, Place, place-of, of-each, in-each, run-snoc, run-same}
-use Rattle.trellis.proofs.Ascending.{lower-never, lower-chain}
+use Rattle.trellis.proofs.ThreeNumbers.{lower-never, lower-chain}
 use Rattle.trellis.proofs.Labels.{by-symbols}
 use Rattle.trellis.proofs.Words.{word-eq}
 use Rattle.trellis.proofs.Demand.{drawn}

@@ -14,7 +14,7 @@ use borrow.Author.Tests.{ltb-true, lt-ltb, leb-true, le-leb, eqb-true, eq-eqb}
 use Rattle.trellis.specs.Own.{Edge, edgeLess}
 use Rattle.trellis.specs.Layout.{qOf, nOf, statesOf, vertexCountOf, edgeCountOf, sectionLength, rootState, goalState}
 use Rattle.trellis.proofs.Bools.{holds, is-true}
-use Rattle.trellis.proofs.Ascending.{lower-yes, lower-of, lower-chain}
+use Rattle.trellis.proofs.ThreeNumbers.{lower-yes, lower-of, lower-chain}
 use Rattle.section_file.specs.Usable.{all, any, within, higher, rising, inside, above, covered, noTwins, apart, noForwardTwins, noBackwardTwins, stepGood, stepEdge, sizesRight, countsRight, whole, statesRight, stepRight, usable}
 use Rattle.section_file.specs.Sound.{EdgeBefore, Hit, Sound}
 use Rattle.section_file.proofs.Tests.{left-of, right-of, and-of, given, given-of, from-low, to-high, within-of, all-at, all-of, any-at, any-of}

@@ -14,7 +14,8 @@ use Rattle.trellis.specs.Own.{Edge, edgeLess}
 use Rattle.trellis.specs.Section.{Path, pathsFrom, packOnto, wordOf, wordsOf}
 use Rattle.trellis.specs.Layout.{qOf, nOf, statesOf, vertexCountOf, edgeCountOf, edgesBefore, rootState, goalState, edgeNumber, stepEdges, sectionWords}
 use Rattle.trellis.proofs.Lists.{From, of-run, of-each, in-run, in-place}
-use Rattle.trellis.proofs.Ascending.{Ascends, lower-of, lower-never}
+use Rattle.trellis.proofs.Ascending.{Ascends}
+use Rattle.trellis.proofs.ThreeNumbers.{lower-of, lower-never}
 use Rattle.paths.proofs.Ordered.{Ordered, ended, leads, of-flatMap}
 use Rattle.paths.proofs.Ascent.{Orderly, Symbols, no-more, one-more, Bounded, PathFits}
 use Rattle.paths.proofs.Words.{whole-fits, words-ordered}

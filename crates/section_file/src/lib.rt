@@ -1,18 +1,23 @@
 // Which sections are usable, by document 01: `usable_at` answers for the section that starts at any place of a slice, whatever numbers the slice has.
-// It looks at each number a few times, with fixed arrays of marks, and promises an equation with the definition of usable.
+// It looks at each number a few times, and promises an equation with the definition of usable.
 ghost use mathlib.Core.Path.{_≡_};
-ghost use mathlib.Core.Bool.{not, _||_, _&&_};
-ghost use Prim.Native.Nat.{_+_, _*_, _<_, _≤_};
-ghost use lib.Dec.{ltb, eqb};
-ghost use lib.ListN.{length, getD, drop};
+ghost use Prim.Native.Nat.{_+_, _≤_};
+ghost use lib.ListN.{getD, drop};
 ghost use Rattle.trellis.specs.Own.{edgeLess};
-ghost use Rattle.trellis.specs.Layout.{nOf, rootsPlace, goalsPlace, pairsPlace, symbolsPlace};
-ghost use Rattle.section_file.specs.Usable.{all, within, higher, rising, inside, above, covered, noTwins, sizesRight, countsRight, statesRight, stepRight};
-ghost use Rattle.section_file.specs.Places.{PlacesOf, Counted, StepAt, Vertices, Symbols, Marks};
+ghost use Rattle.trellis.specs.Layout.{nOf, pairsPlace, symbolsPlace};
+ghost use Rattle.section_file.specs.Usable.{all, within, inside, above, sizesRight, countsRight, stepRight};
+ghost use Rattle.section_file.specs.Places.{PlacesOf, Counted, StepAt};
 ghost use Rattle.section_file.specs.Answer.{partOf, edgeAt, held, meant};
+
+mod states;
+mod twins;
+
 use numbers::number;
 use numbers::total;
 use numbers::wide;
+use states::states_right;
+use twins::covers;
+use twins::twins_right;
 
 // The part of a slice that a usable section takes up is as long as its counts say.
 pub enum Part {
@@ -94,52 +99,6 @@ fn places_of(l: &[u16], n: usize) -> Places
         symbols,
         end,
     }
-}
-
-// Whether vertex v has a state above that of the vertex before it.
-fn is_higher(l: &[u16], at: usize, v: usize) -> bool
-    requires { ⌜ (at ≤ 4000000) × (v ≤ 1024) ⌝ }
-    ensures { λ r. ⌜ r ≡ higher (λ u. getD (now (l .entry)) (at + u) 0) v ⌝ }
-{
-    if v == 0 {
-        return true;
-    }
-    number(l, at + (v - 1)) < number(l, at + v)
-}
-
-fn state_right(l: &[u16], at: usize, v: usize, bound: u16) -> bool
-    requires { ⌜ (at ≤ 4000000) × (v ≤ 1024) ⌝ }
-    ensures { λ r. ⌜ r ≡ (ltb (getD (now (l .entry)) (at + v) 0) bound && higher (λ u. getD (now (l .entry)) (at + u) 0) v) ⌝ }
-{
-    if number(l, at + v) >= bound {
-        return false;
-    }
-    is_higher(l, at, v)
-}
-
-fn is_rising(l: &[u16], at: usize, count: usize, bound: u16) -> bool
-    requires { ⌜ (at ≤ 4000000) × (count ≤ 1024) ⌝ }
-    ensures { λ r. ⌜ r ≡ rising (λ v. getD (now (l .entry)) (at + v) 0) count bound ⌝ }
-{
-    let mut v: usize = 0;
-    while v < count {
-        if !state_right(l, at, v, bound) {
-            return false;
-        }
-        v += 1;
-    }
-    true
-}
-
-fn states_right(l: &[u16], n: usize, roots: usize, goals: usize) -> bool
-    requires { ⌜ Counted (now l) n × (roots ≡ rootsPlace (now l)) × (goals ≡ goalsPlace (now l)) × (goals ≤ 4000000) × (roots ≤ 4000000) ⌝ }
-    ensures { λ r. ⌜ r ≡ statesRight (now (l .entry)) ⌝ }
-{
-    let states = number(l, 2);
-    if !is_rising(l, roots, wide(number(l, 3)), states) {
-        return false;
-    }
-    is_rising(l, goals, wide(number(l, 3 + n)), states)
 }
 
 fn edge_at(l: &[u16], pairs: usize, symbols: usize, k: usize) -> Edge
@@ -241,83 +200,6 @@ fn all_above(l: &[u16], pairs: usize, symbols: usize, count: usize) -> bool
         k += 1;
     }
     true
-}
-
-fn marks(l: &[u16], at: usize, count: usize) -> [u8; 1024]
-    requires { ⌜ Vertices (now l) at count ⌝ }
-    ensures { λ r. ⌜ Marks (λ k. getD (now (l .entry)) (at + 2 * k) 0) count r ⌝ }
-{
-    let mut marks = [0u8; 1024];
-    let mut k: usize = 0;
-    while k < count {
-        let v = wide(number(l, at + 2 * k));
-        marks[v] = 1;
-        k += 1;
-    }
-    marks
-}
-
-// Whether each vertex stands among the numbers at every second place.
-fn covers(l: &[u16], at: usize, count: usize, vertices: usize) -> bool
-    requires { ⌜ Vertices (now l) at count × (vertices ≤ 1024) ⌝ }
-    ensures { λ r. ⌜ r ≡ covered (λ k. getD (now (l .entry)) (at + 2 * k) 0) count vertices ⌝ }
-{
-    let marks = marks(l, at, count);
-    let mut v: usize = 0;
-    while v < vertices {
-        if marks[v] == 0 {
-            return false;
-        }
-        v += 1;
-    }
-    true
-}
-
-// Whether a vertex was seen, and was another one. What is seen is kept as one more than the vertex.
-fn differs(seen: u16, vertex: u16) -> bool
-    requires { ⌜ vertex < 1024 ⌝ }
-    ensures { λ r. ⌜ r ≡ (not (eqb seen 0) && not (eqb seen (vertex + 1))) ⌝ }
-{
-    if seen == 0 {
-        return false;
-    }
-    seen != vertex + 1
-}
-
-// Whether edges that share a symbol and the vertex at the one end share the vertex at the other end.
-fn without_twins(l: &[u16], one: usize, symbols: usize, other: usize, count: usize) -> bool
-    requires { ⌜ Vertices (now l) one count × Vertices (now l) other count × Symbols (now l) symbols count ⌝ }
-    ensures { λ r. ⌜ r ≡ noTwins (λ k. getD (now (l .entry)) (one + 2 * k) 0) (λ k. getD (now (l .entry)) (symbols + k) 0) (λ k. getD (now (l .entry)) (other + 2 * k) 0) count ⌝ }
-{
-    let mut seen = [0u16; 4096];
-    let mut k: usize = 0;
-    while k < count {
-        let slot = 4 * wide(number(l, one + 2 * k)) + wide(number(l, symbols + k));
-        let vertex = number(l, other + 2 * k);
-        if differs(seen[slot], vertex) {
-            return false;
-        }
-        seen[slot] = vertex + 1;
-        k += 1;
-    }
-    true
-}
-
-fn twins_right(
-    inner: bool,
-    l: &[u16],
-    one: usize,
-    symbols: usize,
-    other: usize,
-    count: usize,
-) -> bool
-    requires { ⌜ Vertices (now l) one count × Vertices (now l) other count × Symbols (now l) symbols count ⌝ }
-    ensures { λ r. ⌜ r ≡ (not inner || noTwins (λ k. getD (now (l .entry)) (one + 2 * k) 0) (λ k. getD (now (l .entry)) (symbols + k) 0) (λ k. getD (now (l .entry)) (other + 2 * k) 0) count) ⌝ }
-{
-    if !inner {
-        return true;
-    }
-    without_twins(l, one, symbols, other, count)
 }
 
 fn step_right(l: &[u16], n: usize, t: usize, pairs: usize, symbols: usize) -> bool

@@ -7,15 +7,10 @@ ghost use Rattle.trellis.specs.Layout.{nOf, vertexCountOf, edgesBefore, allEdge
 ghost use Rattle.paths.specs.Costs.{plus};
 ghost use Rattle.sweep.specs.Rows.{top, Fits, Placed, Swept, Open, Named};
 ghost use Rattle.sweep.specs.Loops.{InStep, Reads, EdgeAt, InClear, Clear, Lowered, hitAt, SkipTo, NextAt};
+use numbers::wide;
 
 // No path.
 pub const TOP: u32 = 4294967295;
-
-fn wide(x: u16) -> usize
-    ensures { λ r. ⌜ (r ≡ x) × (r < 65536) ⌝ }
-{
-    x as usize
-}
 
 // d more to pay; from TOP on there is no path.
 fn pay(d: u32, x: u32) -> u32

@@ -15,7 +15,7 @@ use Rattle.trellis.specs.Word.{Word, word, wordAt, Before, Table}
 use Rattle.trellis.specs.Outcome.{badLength, badSize, badWord, notAbove}
 use Rattle.trellis.proofs.Bools.{holds}
 use Rattle.trellis.proofs.Lists.{each-at, of-each}
-use Rattle.trellis.proofs.Ascending.{lower-yes}
+use Rattle.trellis.proofs.ThreeNumbers.{lower-yes}
 use Rattle.trellis.proofs.Words.{ascends-all}
 use Rattle.table.specs.File.{byteAt, wordCount, fileWord, fileWords, lengthBad, outside, sizeOutside, wordOutside, wordBad, isBefore, orderBad}
 use Rattle.table.specs.File.{firstSize, firstBad, firstNotAbove, TableFile, refused, accepted, tableFile, fileOutcome}

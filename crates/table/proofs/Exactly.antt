@@ -13,7 +13,7 @@ use Rattle.trellis.specs.Label.{isLabel}
 use Rattle.trellis.specs.Word.{Word, wordAt, Before}
 use Rattle.trellis.proofs.Bools.{is-true}
 use Rattle.trellis.proofs.Lists.{in-each}
-use Rattle.trellis.proofs.Ascending.{lower-of}
+use Rattle.trellis.proofs.ThreeNumbers.{lower-of}
 use Rattle.table.specs.File.{byteAt, wordCount, fileWord, fileWords, lengthBad, outside, sizeOutside, wordOutside, wordBad, isBefore, orderBad}
 use Rattle.table.specs.File.{TableFile, refused, accepted, tableFile, fileOutcome}
 use Rattle.table.specs.Good.{Passes, Good}

@@ -126,7 +126,7 @@ line-put w P h p = put-then w (put-then (pieces-all P h) p)
 -- ---- bytes put at the front of a buffer that has room for them
 
 module _ {old vs new : List ℕ} {end : ℕ} (p : Put old 0 vs new end) (room : length vs ≤ length old) where
-  front-holds : take end new ≡ vs
+  pub front-holds : take end new ≡ vs
   front-holds = p .holds ∙ take-all (length old) vs room
 
   pub front-end : end ≡ length vs

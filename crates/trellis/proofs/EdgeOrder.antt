@@ -19,7 +19,7 @@ use Rattle.trellis.specs.Own.{Edge, edge, edgeLess, sameEdge, key, keys,
 use Rattle.trellis.specs.Witness.{sameBeginning}
 use Rattle.trellis.proofs.Bools.{holds, fails}
 use Rattle.trellis.proofs.Lists.{First, first-ok}
-use Rattle.trellis.proofs.Ascending.{lower-of, lower-never, lower-chain}
+use Rattle.trellis.proofs.ThreeNumbers.{lower-of, lower-never, lower-chain}
 use Rattle.trellis.proofs.Labels.{front-mono, front-step, symbol-front, symbol-back, back-step, front-suc, front-all, front-none, symbol-lower}
 use Rattle.trellis.proofs.Words.{word-in, index, comes-first, beginning-root, beginning-front, beginning-eq, ending-back, ending-goal, ending-eq, joined-beginning, joined-ending}
 use Rattle.trellis.proofs.Vertices.{Numbering, own-numbering, key-root, key-goal, key-inner, vertex-key, vertex-less, shares-yes, first-le, first-shares}

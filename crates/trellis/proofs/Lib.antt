@@ -1,6 +1,7 @@
 -- Theorems about the definitions of specs/, lowest first.
 pub mod Bools
 pub mod Lists
+pub mod ThreeNumbers
 pub mod Ascending
 pub mod Distinct
 pub mod Labels

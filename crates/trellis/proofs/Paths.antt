@@ -11,7 +11,8 @@ use lib.Dec.{T, eqb, eqb→eq, eqb-refl}
 use Rattle.trellis.specs.Lists.{_∈_, Once, Lower}
 use Rattle.trellis.specs.Own.{Edge, edge, edgeLess, sameEdge}
 use Rattle.trellis.proofs.Lists.{From}
-use Rattle.trellis.proofs.Ascending.{Orders, Equal, alike-yes, alike-self, lower-yes, lower-of, lower-never, lower-chain, lower-compare}
+use Rattle.trellis.proofs.Ascending.{Orders}
+use Rattle.trellis.proofs.ThreeNumbers.{Equal, alike-yes, alike-self, lower-yes, lower-of, lower-never, lower-chain, lower-compare}
 use Rattle.trellis.proofs.Distinct.{Fresh, Stale, Known, new, distinct, look, new-of, stale-of, distinct-le, le-distinct, upto, in-upto, from-upto}
 
 -- ---- edges

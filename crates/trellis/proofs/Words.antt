@@ -14,7 +14,7 @@ use Rattle.trellis.specs.Lists.{_∈_, Lower, byFirst, bySecond, byThird
 use Rattle.trellis.specs.Label.{front, back, spliced}
 use Rattle.trellis.specs.Word.{Word, word, wordAt, Before, sameWord, Table, Beginning, Ending, beginning, ending, joined, RectangularAt, Rectangular}
 use Rattle.trellis.proofs.Lists.{Place, in-place, place-of}
-use Rattle.trellis.proofs.Ascending.{lower-never, lower-chain, Equal, alike-yes, alike-self}
+use Rattle.trellis.proofs.ThreeNumbers.{lower-never, lower-chain, Equal, alike-yes, alike-self}
 use Rattle.trellis.proofs.Labels.{by-parts, spliced-front, spliced-back}
 
 -- ---- equality

@@ -10,6 +10,7 @@ ghost use Rattle.depths.specs.Words.{words};
 ghost use Rattle.depths.specs.Rows.{at};
 ghost use Rattle.witness.specs.Search.{asWitness, NoneFrom, NoneBefore, Next, FirstIn};
 ghost use Rattle.witness.specs.Rows.{Asked, SearchRows, inRun, hasEnding, refutesIn, Within};
+use numbers::wide;
 
 pub enum Witness {
     At(usize, usize, usize),
@@ -34,7 +35,7 @@ fn has_ending(starts: &[u16; 1024], firsts: &[u16; 1024], w: usize, k: usize, j:
         return true;
     }
     let x = firsts[j];
-    let mut l = depths::wide(a);
+    let mut l = wide(a);
     while in_run(starts, w, a, l) {
         if firsts[l] == x {
             return true;
@@ -80,8 +81,8 @@ fn run_within(starts: &[u16; 1024], firsts: &[u16; 1024], w: usize, i: usize, k:
 {
     let a = starts[i];
     let b = starts[k];
-    let mut j = depths::wide(a);
-    let mut l = depths::wide(b);
+    let mut j = wide(a);
+    let mut l = wide(b);
     loop {
         if !in_run(starts, w, a, j) {
             return true;
@@ -111,7 +112,7 @@ fn begins_none(starts: &[u16; 1024], firsts: &[u16; 1024], w: usize, i: usize) -
     requires { ⌜ SearchRows w (now starts) (now firsts) × (i < w) ⌝ }
     ensures { λ r. ⌜ (r ≡ true → NoneBefore (refutesIn (now (starts .entry)) (now (firsts .entry)) w) w i → NoneFrom (refutesIn (now (starts .entry)) (now (firsts .entry)) w) w i) ⌝ }
 {
-    let first = depths::wide(firsts[i]);
+    let first = wide(firsts[i]);
     if first < i {
         return run_within(starts, firsts, w, i, first);
     }
@@ -151,9 +152,9 @@ fn first_witness(starts: &[u16; 1024], firsts: &[u16; 1024], w: usize) -> Witnes
         if i >= w {
             break Witness::Nothing;
         }
-        let mut j = depths::wide(starts[i]);
+        let mut j = wide(starts[i]);
         while j < w {
-            let mut k = depths::wide(firsts[i]);
+            let mut k = wide(firsts[i]);
             while k < w {
                 if refutes(starts, firsts, w, i, j, k) {
                     break 'search Witness::At(i, j, k);

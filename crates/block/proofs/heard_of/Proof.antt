@@ -1,3 +1,5 @@
+-- `block::heard_of` takes the symbols one by one. The loop's invariant: the symbols passed are 0 where they are erased, and the erasures among them are
+-- counted. The measure is how many symbols are left.
 use borrow.Author.Needs.{needs}
 use mathlib.Core.Path.{refl}
 use Prim.Native.Nat.{_-_}
@@ -5,13 +7,6 @@ use Rattle.block.specs.Loops.{InHeard}
 use Rattle.block.proofs.Hearing.{heard-start, heard-more, heard-end}
 use Rattle.block.proofs.heard_of.Statement.{statement}
 use Rattle.block.proofs.heard_of.Tie as tie
-use Rattle.block.proofs.heard_of.Reads as reads
-use Rattle.block.proofs.heard_of.Lts as lts
-use Rattle.block.proofs.counted.Reads as counted-reads
-use Rattle.block.proofs.is_erased.Reads as is-erased-reads
-use Rattle.block.proofs.unless.Reads as unless-reads
-use Rattle.label.proofs.append.Reads as append-reads
-use Rattle.label.proofs.symbol.Reads as symbol-reads
 
 abbrev Inv-loop : tie.InvT-loop
 Inv-loop n mask label rest₀ erased₀ t₀ rest erased t = InHeard n mask label t rest erased
@@ -19,47 +14,36 @@ Inv-loop n mask label rest₀ erased₀ t₀ rest erased t = InHeard n mask labe
 abbrev μ-loop : tie.MeasureT-loop
 μ-loop n mask label rest₀ erased₀ t₀ rest erased t = n - t
 
--- src/lib.rt:121:5
 loop-holds : tie.Need-loop-holds Inv-loop μ-loop
 loop-holds c = heard-start
 
--- src/lib.rt:122:13
 is-erased-requires : tie.Need-is-erased-requires Inv-loop μ-loop
 is-erased-requires c κs = search needs
 
--- src/lib.rt:123:49
 symbol-requires : tie.Need-symbol-requires Inv-loop μ-loop
 symbol-requires c κs = search needs
 
--- src/lib.rt:123:36
 unless-requires : tie.Need-unless-requires Inv-loop μ-loop
 unless-requires c κs = search needs
 
--- src/lib.rt:123:9
 append-requires : tie.Need-append-requires Inv-loop μ-loop
 append-requires c κs = search needs
 
--- src/lib.rt:124:19
 counted-requires : tie.Need-counted-requires Inv-loop μ-loop
 counted-requires c κs = search needs
 
--- src/lib.rt:124:9
 add-erased : tie.Need-add-erased Inv-loop μ-loop
 add-erased c = let I = (c .before .before .before .before .before .before .loop .inv) in let F = I .few in search needs
 
--- src/lib.rt:125:9
 add-t : tie.Need-add-t Inv-loop μ-loop
 add-t c = search needs
 
--- src/lib.rt:121:5
 loop-less : tie.Need-loop-less Inv-loop μ-loop
 loop-less c = search needs
 
--- src/lib.rt:121:5
 loop-again : tie.Need-loop-again Inv-loop μ-loop
 loop-again c = heard-more (c .before .before .before .before .before .before .before .pre) (c .before .before .before .before .before .before .loop .inv) (c .before .before .before .before .before .loop-test .taken) (c .before .before .before .before .is-erased .ensures) (c .before .before .before .symbol .ensures) (c .before .before .unless .ensures) (c .before .append .ensures) (c .counted .ensures .0)
 
--- src/lib.rt:114:1
 returns : tie.Need-returns Inv-loop μ-loop
 returns c = heard-end (c .before .loop .inv) (search needs)
 

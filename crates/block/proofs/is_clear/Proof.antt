@@ -1,12 +1,10 @@
+-- `block::is_clear` tests the symbols in their order. The loop's invariant: none of those passed is erased and other than 0. The measure is how many are left.
 use borrow.Author.Needs.{needs}
 use Prim.Native.Nat.{_-_}
 use Rattle.block.specs.Loops.{InStray}
 use Rattle.block.proofs.Masks.{stray-start, stray-found, stray-more, stray-none}
 use Rattle.block.proofs.is_clear.Statement.{statement}
 use Rattle.block.proofs.is_clear.Tie as tie
-use Rattle.block.proofs.is_clear.Reads as reads
-use Rattle.block.proofs.is_clear.Lts as lts
-use Rattle.block.proofs.is_stray.Reads as is-stray-reads
 
 abbrev Inv-loop : tie.InvT-loop
 Inv-loop received mask n t₀ t = InStray n received mask t
@@ -14,31 +12,24 @@ Inv-loop received mask n t₀ t = InStray n received mask t
 abbrev μ-loop : tie.MeasureT-loop
 μ-loop received mask n t₀ t = n - t
 
--- src/lib.rt:45:5
 loop-holds : tie.Need-loop-holds Inv-loop μ-loop
 loop-holds c = stray-start _ _ _
 
--- src/lib.rt:46:12
 is-stray-requires : tie.Need-is-stray-requires Inv-loop μ-loop
 is-stray-requires c κs = search needs
 
--- src/lib.rt:47:13
 returns : tie.Need-returns Inv-loop μ-loop
 returns c = stray-found (c .before .before .before .loop .inv) (c .before .before .loop-test .taken) (c .before .is-stray .ensures) (c .if1 .taken)
 
--- src/lib.rt:49:9
 add-t : tie.Need-add-t Inv-loop μ-loop
 add-t c = search needs
 
--- src/lib.rt:45:5
 loop-less : tie.Need-loop-less Inv-loop μ-loop
 loop-less c = search needs
 
--- src/lib.rt:45:5
 loop-again : tie.Need-loop-again Inv-loop μ-loop
 loop-again c = stray-more (c .before .before .before .loop .inv) (c .before .before .loop-test .taken) (c .before .is-stray .ensures) (c .if1 .left)
 
--- src/lib.rt:40:1
 returns-2 : tie.Need-returns-2 Inv-loop μ-loop
 returns-2 c = stray-none (c .before .loop .inv) (search needs)
 

@@ -1,27 +1,20 @@
+-- `block::is_stray` is the test of the definition, by whether the symbol is erased.
 use mathlib.Core.Path.{sym}
 use Rattle.block.specs.Received.{stray}
 use borrow.Author.Needs.{needs}
 use Rattle.block.proofs.is_stray.Statement.{statement}
 use Rattle.block.proofs.is_stray.Tie as tie
-use Rattle.block.proofs.is_stray.Reads as reads
-use Rattle.block.proofs.is_stray.Lts as lts
-use Rattle.block.proofs.is_erased.Reads as is-erased-reads
-use Rattle.label.proofs.symbol.Reads as symbol-reads
 
--- src/lib.rt:33:8
 is-erased-requires : tie.Need-is-erased-requires
 is-erased-requires c κs = search needs
 
--- src/lib.rt:34:16
 symbol-requires : tie.Need-symbol-requires
 symbol-requires c κs = search needs
 
--- src/lib.rt:34:9
 returns : tie.Need-returns
 unfolding stray
 returns c = simp (sym (c .before .before .is-erased .ensures), (c .before .if1 .taken), sym (c .symbol .ensures))
 
--- src/lib.rt:29:1
 returns-2 : tie.Need-returns-2
 unfolding stray
 returns-2 c = simp (sym (c .before .is-erased .ensures), (c .if1 .left))

@@ -1,81 +1,60 @@
+-- `chain::block_bad` tests the index, and then what was received against the section that stands where the index says.
 use Rattle.chain.proofs.Starts.{taken-at}
 use Rattle.chain.proofs.Checks.{block-index, block-fits}
 use borrow.Author.Needs.{needs}
 use Rattle.chain.proofs.block_bad.Statement.{statement}
 use Rattle.chain.proofs.block_bad.Tie as tie
-use Rattle.chain.proofs.block_bad.Reads as reads
-use Rattle.chain.proofs.block_bad.Lts as lts
-use Rattle.block.proofs.fits.Reads as fits-reads
-use Rattle.chain.proofs.wide.Reads as wide-reads
-use Rattle.chain.proofs.widened.Reads as widened-reads
 
--- src/lib.rt:98:21
 shared-slice-read-widened : tie.Need-shared-slice-read-widened
 shared-slice-read-widened c = search needs
 
--- src/lib.rt:98:9
 widened-requires : tie.Need-widened-requires
 widened-requires c κs = search needs
 
--- src/lib.rt:100:9
 returns : tie.Need-returns
-returns c = block-index ((c .before .before .before .before .before .before .before .args .sections) .now) ((c .before .before .before .before .before .before .before .args .indices) .now) ((c .before .before .before .before .before .before .before .args .received) .now) ((c .before .before .before .before .before .before .before .args .erased) .now) (c .before .before .before .before .before .before .before .args .k) (c .before .before .before .before .before .before .before .args .b) (c .before .widened .ensures) (c .if1 .taken)
+returns c = block-index ((c .before .before .before .before .before .before .before .args .sections) .now) ((c .before .before .before .before .before .before .before .args .indices) .now) ((c .before .before .before .before .before .before .before .args .received) .now) ((c .before .before .before .before .before .before .before .args .erased) .now) (c .before .before .before .before .before .before .before .args .k) (c .before .before .before .before .before .before .before .args .b) (c .before .widened .ensures .0) (c .if1 .taken)
 
--- src/lib.rt:102:14
 mul-at : tie.Need-mul-at
 mul-at c = search needs
 
--- src/lib.rt:102:14
 element-copy-out-at : tie.Need-element-copy-out-at
 element-copy-out-at c = search needs
 
--- src/lib.rt:103:13
 mul-l : tie.Need-mul-l
 mul-l c = let T = taken-at (c .before .before .before .before .before .before .before .before .pre .0) (c .before .if1 .left) in search needs
 
--- src/lib.rt:103:13
 sub-l : tie.Need-sub-l
 sub-l c = let T = taken-at (c .before .before .before .before .before .before .before .before .pre .0) (c .before .if1 .left) in search needs
 
--- src/lib.rt:103:13
 part-l-start : tie.Need-part-l-start
 part-l-start c = let T = taken-at (c .before .before .before .before .before .before .before .before .pre .0) (c .before .if1 .left) in search needs
 
--- src/lib.rt:103:13
 part-l-end : tie.Need-part-l-end
 part-l-end c = search needs
 
--- src/lib.rt:104:18
 shared-slice-read-fits : tie.Need-shared-slice-read-fits
 shared-slice-read-fits c = let T = taken-at (c .before .before .before .before .before .before .before .before .before .before .pre .0) (c .before .before .before .if1 .left) in search needs
 
--- src/lib.rt:104:29
 shared-slice-read-wide : tie.Need-shared-slice-read-wide
 shared-slice-read-wide c = let T = taken-at (c .before .before .before .before .before .before .before .before .before .before .before .pre .0) (c .before .before .before .before .if1 .left) in search needs
 
--- src/lib.rt:104:24
 wide-requires : tie.Need-wide-requires
 wide-requires c κs = search needs
 
--- src/lib.rt:104:36
 mul-fits : tie.Need-mul-fits
 mul-fits c = search needs
 
--- src/lib.rt:104:36
 shared-slice-read-fits-2 : tie.Need-shared-slice-read-fits-2
 shared-slice-read-fits-2 c = search needs
 
--- src/lib.rt:104:49
 shared-slice-read-fits-3 : tie.Need-shared-slice-read-fits-3
 shared-slice-read-fits-3 c = search needs
 
--- src/lib.rt:104:6
 fits-requires : tie.Need-fits-requires
-fits-requires c κs = let T = taken-at (c .before .before .before .before .before .before .before .before .before .before .before .before .before .before .pre .0) (c .before .before .before .before .before .before .before .if1 .left) in let S = T .sound-taken in let w = (c .before .before .wide .ensures) in let n = S .nTo in search needs
+fits-requires c κs = let T = taken-at (c .before .before .before .before .before .before .before .before .before .before .before .before .before .before .pre .0) (c .before .before .before .before .before .before .before .if1 .left) in let S = T .sound-taken in let w = (c .before .before .wide .ensures .0) in let n = S .nTo in search needs
 
--- src/lib.rt:94:1
 returns-2 : tie.Need-returns-2
-returns-2 c = let T = taken-at (c .before .before .before .before .before .before .before .before .before .before .before .before .before .before .before .pre .0) (c .before .before .before .before .before .before .before .before .if1 .left) in block-fits ((c .before .before .before .before .before .before .before .before .before .before .before .before .before .before .before .args .sections) .now) ((c .before .before .before .before .before .before .before .before .before .before .before .before .before .before .before .args .indices) .now) ((c .before .before .before .before .before .before .before .before .before .before .before .before .before .before .before .args .received) .now) ((c .before .before .before .before .before .before .before .before .before .before .before .before .before .before .before .args .erased) .now) (c .before .before .before .before .before .before .before .before .before .before .before .before .before .before .before .args .k) (c .before .before .before .before .before .before .before .before .before .before .before .before .before .before .before .args .b) (c .before .before .before .before .before .before .before .before .before .widened .ensures) (c .before .before .before .before .before .before .before .before .if1 .left) T (c .before .before .before .wide .ensures) (c .fits2 .ensures)
+returns-2 c = let T = taken-at (c .before .before .before .before .before .before .before .before .before .before .before .before .before .before .before .pre .0) (c .before .before .before .before .before .before .before .before .if1 .left) in block-fits ((c .before .before .before .before .before .before .before .before .before .before .before .before .before .before .before .args .sections) .now) ((c .before .before .before .before .before .before .before .before .before .before .before .before .before .before .before .args .indices) .now) ((c .before .before .before .before .before .before .before .before .before .before .before .before .before .before .before .args .received) .now) ((c .before .before .before .before .before .before .before .before .before .before .before .before .before .before .before .args .erased) .now) (c .before .before .before .before .before .before .before .before .before .before .before .before .before .before .before .args .k) (c .before .before .before .before .before .before .before .before .before .before .before .before .before .before .before .args .b) (c .before .before .before .before .before .before .before .before .before .widened .ensures .0) (c .before .before .before .before .before .before .before .before .if1 .left) T (c .before .before .before .wide .ensures .0) (c .fits2 .ensures)
 
 pub block-bad-spec : {M : Type 1} → statement M
 block-bad-spec =

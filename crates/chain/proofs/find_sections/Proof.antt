@@ -1,12 +1,11 @@
+-- `chain::find_sections` goes from section to section. The loop's invariant: those passed are usable, and where they begin is noted. The measure is how
+-- many are left.
 use borrow.Author.Needs.{needs}
 use Prim.Native.Nat.{_-_}
 use Rattle.chain.specs.Loops.{InSections}
 use Rattle.chain.proofs.Starts.{starts-start, starts-found, starts-fit, starts-more, starts-end}
 use Rattle.chain.proofs.find_sections.Statement.{statement}
 use Rattle.chain.proofs.find_sections.Tie as tie
-use Rattle.chain.proofs.find_sections.Reads as reads
-use Rattle.chain.proofs.find_sections.Lts as lts
-use Rattle.chain.proofs.length_at.Reads as length-at-reads
 
 abbrev Inv-loop : tie.InvT-loop
 Inv-loop sections k starts₀ at₀ i₀ starts at i = InSections sections starts k i at
@@ -14,47 +13,36 @@ Inv-loop sections k starts₀ at₀ i₀ starts at i = InSections sections start
 abbrev μ-loop : tie.MeasureT-loop
 μ-loop sections k starts₀ at₀ i₀ starts at i = k - i
 
--- src/lib.rt:61:5
 element-write-starts : tie.Need-element-write-starts Inv-loop μ-loop
 element-write-starts c = search needs
 
--- src/lib.rt:64:5
 loop-holds : tie.Need-loop-holds Inv-loop μ-loop
 loop-holds c = starts-start ((c .before .args .starts) .now) (search needs)
 
--- src/lib.rt:65:13
 length-at-requires : tie.Need-length-at-requires Inv-loop μ-loop
 length-at-requires c κs = search needs
 
--- src/lib.rt:67:13
 returns : tie.Need-returns Inv-loop μ-loop
 returns c = starts-found (c .before .before .before .loop .inv) (c .before .length-at .ensures) (c .before .before .loop-test .taken) (c .if1 .taken)
 
--- src/lib.rt:69:9
 add-at : tie.Need-add-at Inv-loop μ-loop
 add-at c = let f = starts-fit (c .before .before .before .loop .inv) (c .before .length-at .ensures) (c .if1 .left) in search needs
 
--- src/lib.rt:70:9
 add-i : tie.Need-add-i Inv-loop μ-loop
 add-i c = search needs
 
--- src/lib.rt:71:9
 mul-starts : tie.Need-mul-starts Inv-loop μ-loop
 mul-starts c = search needs
 
--- src/lib.rt:71:9
 element-write-starts-2 : tie.Need-element-write-starts-2 Inv-loop μ-loop
 element-write-starts-2 c = search needs
 
--- src/lib.rt:64:5
 loop-less : tie.Need-loop-less Inv-loop μ-loop
 loop-less c = search needs
 
--- src/lib.rt:64:5
 loop-again : tie.Need-loop-again Inv-loop μ-loop
 loop-again c = starts-more (c .before .before .before .loop .inv) (c .before .length-at .ensures) (c .before .before .before .before .before .pre .0) (c .before .before .loop-test .taken) (c .if1 .left)
 
--- src/lib.rt:57:1
 returns-2 : tie.Need-returns-2 Inv-loop μ-loop
 returns-2 c = starts-end (c .before .loop .inv) (search needs)
 

@@ -1,3 +1,4 @@
+-- `chain::first_bad` tests the blocks in their order. The loop's invariant: no block passed is bad. The measure is how many are left.
 use borrow.Author.Needs.{needs}
 use Prim.Native.Nat.{_-_}
 use lib.ListN.{length}
@@ -5,9 +6,6 @@ use Rattle.chain.specs.Loops.{InBlocks}
 use Rattle.chain.proofs.Checks.{blocks-start, blocks-found, blocks-more, blocks-none}
 use Rattle.chain.proofs.first_bad.Statement.{statement}
 use Rattle.chain.proofs.first_bad.Tie as tie
-use Rattle.chain.proofs.first_bad.Reads as reads
-use Rattle.chain.proofs.first_bad.Lts as lts
-use Rattle.chain.proofs.block_bad.Reads as block-bad-reads
 
 abbrev Inv-loop : tie.InvT-loop
 Inv-loop sections starts k indices received erased b₀ b = InBlocks sections indices received erased k b
@@ -15,31 +13,24 @@ Inv-loop sections starts k indices received erased b₀ b = InBlocks sections in
 abbrev μ-loop : tie.MeasureT-loop
 μ-loop sections starts k indices received erased b₀ b = length indices - b
 
--- src/lib.rt:113:5
 loop-holds : tie.Need-loop-holds Inv-loop μ-loop
 loop-holds c = blocks-start ((c .before .before .before .before .args .sections) .now) ((c .before .before .before .before .args .indices) .now) ((c .before .before .before .before .args .received) .now) ((c .before .before .before .before .args .erased) .now) (c .before .before .before .before .args .k)
 
--- src/lib.rt:114:12
 block-bad-requires : tie.Need-block-bad-requires Inv-loop μ-loop
 block-bad-requires c κs = search needs
 
--- src/lib.rt:115:13
 returns : tie.Need-returns Inv-loop μ-loop
 returns c = blocks-found ((c .before .before .before .before .before .before .before .before .args .sections) .now) ((c .before .before .before .before .before .before .before .before .args .indices) .now) ((c .before .before .before .before .before .before .before .before .args .received) .now) ((c .before .before .before .before .before .before .before .before .args .erased) .now) (c .before .before .before .before .before .before .before .before .args .k) (c .before .before .before .loop .inv) (c .before .before .loop-test .taken) (c .before .block-bad .ensures) (c .if1 .taken)
 
--- src/lib.rt:117:9
 add-b : tie.Need-add-b Inv-loop μ-loop
 add-b c = search needs
 
--- src/lib.rt:113:5
 loop-less : tie.Need-loop-less Inv-loop μ-loop
 loop-less c = search needs
 
--- src/lib.rt:113:5
 loop-again : tie.Need-loop-again Inv-loop μ-loop
 loop-again c = blocks-more ((c .before .before .before .before .before .before .before .before .args .sections) .now) ((c .before .before .before .before .before .before .before .before .args .indices) .now) ((c .before .before .before .before .before .before .before .before .args .received) .now) ((c .before .before .before .before .before .before .before .before .args .erased) .now) (c .before .before .before .before .before .before .before .before .args .k) (c .before .before .before .loop .inv) (c .before .before .loop-test .taken) (c .before .block-bad .ensures) (c .if1 .left)
 
--- src/lib.rt:108:1
 returns-2 : tie.Need-returns-2 Inv-loop μ-loop
 returns-2 c = blocks-none ((c .before .before .before .before .before .before .args .sections) .now) ((c .before .before .before .before .before .before .args .indices) .now) ((c .before .before .before .before .before .before .args .received) .now) ((c .before .before .before .before .before .before .args .erased) .now) (c .before .before .before .before .before .before .args .k) (c .before .loop .inv) (search needs)
 

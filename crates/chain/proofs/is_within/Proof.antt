@@ -1,15 +1,12 @@
+-- `chain::is_within` is the two tests of the definition.
 use borrow.Author.Needs.{needs}
 use Rattle.chain.proofs.Checks.{within-under, within-from}
 use Rattle.chain.proofs.is_within.Statement.{statement}
 use Rattle.chain.proofs.is_within.Tie as tie
-use Rattle.chain.proofs.is_within.Reads as reads
-use Rattle.chain.proofs.is_within.Lts as lts
 
--- src/lib.rt:40:1
 returns : tie.Need-returns
 returns c = within-under (c .before .args .low) (c .before .args .high) (c .before .args .x) (c .if1 .taken)
 
--- src/lib.rt:40:1
 returns-2 : tie.Need-returns-2
 returns-2 c = within-from (c .before .args .low) (c .before .args .high) (c .before .args .x) (c .if1 .left)
 

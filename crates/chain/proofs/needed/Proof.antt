@@ -1,31 +1,24 @@
+-- `chain::needed` tests the buffers in the order of the definition.
 use Rattle.chain.proofs.Ends.{needed-costs, needed-labels, needed-goals, needed-none}
 use borrow.Author.Needs.{needs}
 use Rattle.chain.proofs.needed.Statement.{statement}
 use Rattle.chain.proofs.needed.Tie as tie
-use Rattle.chain.proofs.needed.Reads as reads
-use Rattle.chain.proofs.needed.Lts as lts
 
--- src/lib.rt:133:16
 mul-if1 : tie.Need-mul-if1
 mul-if1 c = search needs
 
--- src/lib.rt:134:16
 mul-result : tie.Need-mul-result
 mul-result c = search needs
 
--- src/lib.rt:134:9
 returns : tie.Need-returns
 returns c = needed-costs (c .before .args .blocks) (c .before .args .costs) (c .before .args .labels) (c .before .args .goals) (c .if1 .taken)
 
--- src/lib.rt:137:9
 returns-2 : tie.Need-returns-2
 returns-2 c = needed-labels (c .before .before .args .blocks) (c .before .before .args .costs) (c .before .before .args .labels) (c .before .before .args .goals) (c .before .if1 .left) (c .if2 .taken)
 
--- src/lib.rt:129:1
 returns-3 : tie.Need-returns-3
 returns-3 c = needed-goals (c .before .before .before .args .blocks) (c .before .before .before .args .costs) (c .before .before .before .args .labels) (c .before .before .before .args .goals) (c .before .before .if1 .left) (c .before .if2 .left) (c .if3 .taken)
 
--- src/lib.rt:129:1
 returns-4 : tie.Need-returns-4
 returns-4 c = needed-none (c .before .before .before .args .blocks) (c .before .before .before .args .costs) (c .before .before .before .args .labels) (c .before .before .before .args .goals) (c .before .before .if1 .left) (c .before .if2 .left) (c .if3 .left)
 

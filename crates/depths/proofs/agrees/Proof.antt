@@ -29,7 +29,7 @@ returns c =
     let at-word = at-word2 .before in
     let at-wide = at-word .before in
     let entry = at-wide .before .before in
-    agrees-no _ (entry .args .starts .now) (entry .args .firsts .now) (entry .args .i) _ _ _ (at-wide .wide .ensures) (at-word .first-word .ensures) (at-word2 .first-word2 .ensures) (c .if1 .taken)
+    agrees-no _ (entry .args .starts .now) (entry .args .firsts .now) (entry .args .i) _ _ _ (at-wide .wide .ensures .0) (at-word .first-word .ensures) (at-word2 .first-word2 .ensures) (c .if1 .taken)
 
 goes-on-requires : tie.Need-goes-on-requires
 goes-on-requires c κs = search needs
@@ -57,7 +57,7 @@ returns-2 c =
     let at-word = at-word2 .before in
     let at-wide = at-word .before in
     let entry = at-wide .before .before in
-    agrees-yes _ (entry .args .starts .now) (entry .args .firsts .now) (entry .args .i) _ _ _ (at-wide .wide .ensures) (at-word .first-word .ensures)
+    agrees-yes _ (entry .args .starts .now) (entry .args .firsts .now) (entry .args .i) _ _ _ (at-wide .wide .ensures .0) (at-word .first-word .ensures)
     (at-word2 .first-word2 .ensures) _ _ (at-if1 .if1 .left) (at-goes-on .goes-on .ensures) (c .goes-on2 .ensures)
 
 pub agrees-spec : {M : Type 1} → statement M

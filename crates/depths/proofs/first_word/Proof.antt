@@ -25,7 +25,7 @@ wide-requires-2 : tie.Need-wide-requires-2
 wide-requires-2 c κs = search needs
 
 returns : tie.Need-returns
-returns c = c .wide2 .ensures ∙ ap (at (c .before .before .before .before .args .starts .now)) (c .before .before .wide .ensures)
+returns c = c .wide2 .ensures .0 ∙ ap (at (c .before .before .before .before .args .starts .now)) (c .before .before .wide .ensures .0)
 
 pub first-word-spec : {M : Type 1} → statement M
 first-word-spec =

@@ -26,7 +26,7 @@ wide-requires : tie.Need-wide-requires Inv-loop μ-loop
 wide-requires c κs = search needs
 
 mul-key : tie.Need-mul-key Inv-loop μ-loop
-mul-key c = omega (arith, firsts-small (c .before .before .before .loop .inv) (c .wide .ensures) (search needs))
+mul-key c = omega (arith, firsts-small (c .before .before .before .loop .inv) (c .wide .ensures .0) (search needs))
 
 mul-symbol : tie.Need-mul-symbol Inv-loop μ-loop
 mul-symbol c = search needs
@@ -45,21 +45,21 @@ add-key c =
     let at-symbol = c .before in
     let at-wide = at-symbol .before .before in
     let turn = at-wide .before .before .before in
-    omega (arith, firsts-lt (turn .loop .inv) (at-wide .wide .ensures) (at-symbol .symbol .ensures) (c .wide2 .ensures) (search needs))
+    omega (arith, firsts-lt (turn .loop .inv) (at-wide .wide .ensures .0) (at-symbol .symbol .ensures) (c .wide2 .ensures .0) (search needs))
 
 mul-noted : tie.Need-mul-noted Inv-loop μ-loop
 mul-noted c =
     let at-symbol = c .before in
     let at-wide = at-symbol .before .before in
     let turn = at-wide .before .before .before in
-    omega (arith, firsts-lt (turn .loop .inv) (at-wide .wide .ensures) (at-symbol .symbol .ensures) (c .wide2 .ensures) (search needs))
+    omega (arith, firsts-lt (turn .loop .inv) (at-wide .wide .ensures .0) (at-symbol .symbol .ensures) (c .wide2 .ensures .0) (search needs))
 
 array-read-noted : tie.Need-array-read-noted Inv-loop μ-loop
 array-read-noted c =
     let at-symbol = c .before in
     let at-wide = at-symbol .before .before in
     let turn = at-wide .before .before .before in
-    omega (arith, firsts-lt (turn .loop .inv) (at-wide .wide .ensures) (at-symbol .symbol .ensures) (c .wide2 .ensures) (search needs))
+    omega (arith, firsts-lt (turn .loop .inv) (at-wide .wide .ensures .0) (at-symbol .symbol .ensures) (c .wide2 .ensures .0) (search needs))
 
 cast-noted : tie.Need-cast-noted Inv-loop μ-loop
 cast-noted c = search needs
@@ -73,7 +73,7 @@ mul-seen c =
     let at-symbol = at-wide2 .before in
     let at-wide = at-symbol .before .before in
     let turn = at-wide .before .before .before in
-    omega (arith, firsts-lt (turn .loop .inv) (at-wide .wide .ensures) (at-symbol .symbol .ensures) (at-wide2 .wide2 .ensures) (search needs))
+    omega (arith, firsts-lt (turn .loop .inv) (at-wide .wide .ensures .0) (at-symbol .symbol .ensures) (at-wide2 .wide2 .ensures .0) (search needs))
 
 array-write-seen : tie.Need-array-write-seen Inv-loop μ-loop
 array-write-seen c =
@@ -81,7 +81,7 @@ array-write-seen c =
     let at-symbol = at-wide2 .before in
     let at-wide = at-symbol .before .before in
     let turn = at-wide .before .before .before in
-    omega (arith, firsts-lt (turn .loop .inv) (at-wide .wide .ensures) (at-symbol .symbol .ensures) (at-wide2 .wide2 .ensures) (search needs))
+    omega (arith, firsts-lt (turn .loop .inv) (at-wide .wide .ensures .0) (at-symbol .symbol .ensures) (at-wide2 .wide2 .ensures .0) (search needs))
 
 mul-row : tie.Need-mul-row Inv-loop μ-loop
 mul-row c = search needs
@@ -101,7 +101,7 @@ loop-again c =
     let at-symbol = at-wide2 .before in
     let at-wide = at-symbol .before .before in
     let turn = at-wide .before .before .before in
-    firsts-more (turn .loop .inv) (firsts-key (turn .loop .inv) (at-wide .wide .ensures) (at-symbol .symbol .ensures) (at-wide2 .wide2 .ensures)) (c .noted .ensures) (search needs)
+    firsts-more (turn .loop .inv) (firsts-key (turn .loop .inv) (at-wide .wide .ensures .0) (at-symbol .symbol .ensures) (at-wide2 .wide2 .ensures .0)) (c .noted .ensures) (search needs)
 
 returns : tie.Need-returns Inv-loop μ-loop
 returns c = firsts-end (c .before .loop .inv) (search needs)

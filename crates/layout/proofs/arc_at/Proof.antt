@@ -47,7 +47,7 @@ mul-t12 c =
     let at-symbol = c .before .before in
     let at-wide = at-symbol .before .before in
     let entry = at-wide .before .before .before .before in
-    omega (arith, arc-from _ _ (entry .pre .0) (entry .pre .1) (at-wide .wide .ensures) (at-symbol .symbol .ensures) (c .before .wide2 .ensures))
+    omega (arith, arc-from _ _ (entry .pre .0) (entry .pre .1) (at-wide .wide .ensures .0) (at-symbol .symbol .ensures) (c .before .wide2 .ensures .0))
 
 add-t11 : tie.Need-add-t11
 add-t11 c =
@@ -56,8 +56,8 @@ add-t11 c =
     let entry = at-wide .before .before .before .before in
     omega (
       arith,
-      arc-from _ _ (entry .pre .0) (entry .pre .1) (at-wide .wide .ensures) (at-symbol .symbol .ensures) (c .before .wide2 .ensures),
-      arc-symbol _ _ (entry .pre .0) (entry .pre .1) (at-wide .wide .ensures) (at-symbol .symbol .ensures) (c .before .wide2 .ensures),
+      arc-from _ _ (entry .pre .0) (entry .pre .1) (at-wide .wide .ensures .0) (at-symbol .symbol .ensures) (c .before .wide2 .ensures .0),
+      arc-symbol _ _ (entry .pre .0) (entry .pre .1) (at-wide .wide .ensures .0) (at-symbol .symbol .ensures) (c .before .wide2 .ensures .0),
     )
 
 returns : tie.Need-returns
@@ -65,7 +65,7 @@ returns c =
     let at-symbol = c .before .before in
     let at-wide = at-symbol .before .before in
     let entry = at-wide .before .before .before .before in
-    arc-is _ _ (entry .pre .0) (entry .pre .1) (at-wide .wide .ensures) (at-symbol .symbol .ensures) (c .before .wide2 .ensures) refl
+    arc-is _ _ (entry .pre .0) (entry .pre .1) (at-wide .wide .ensures .0) (at-symbol .symbol .ensures) (c .before .wide2 .ensures .0) refl
 
 pub arc-at-spec : {M : Type 1} → statement M
 arc-at-spec =

@@ -36,14 +36,14 @@ add-put-pairs : tie.Need-add-put-pairs Inv-loop μ-loop
 add-put-pairs c =
     let turn = c .before .before .before in
     let entry = turn .before .before .before .before .before in
-    omega (arith, step-words (entry .pre .1) (search needs) (turn .loop .inv .0 .lo-is) (c .wide .ensures) .inside)
+    omega (arith, step-words (entry .pre .1) (search needs) (turn .loop .inv .0 .lo-is) (c .wide .ensures .0) .inside)
 
 put-pairs-requires : tie.Need-put-pairs-requires Inv-loop μ-loop
 put-pairs-requires c κs =
     let at-wide = c .before in
     let turn = at-wide .before .before .before in
     let entry = turn .before .before .before .before .before in
-    (step-words (entry .pre .1) (search needs) (turn .loop .inv .0 .lo-is) (at-wide .wide .ensures), row-room (entry .pre .0) (turn .loop .inv .1) (search needs), omega (arith, all-room (entry .pre .1) (turn .loop .inv .0) (search needs) (at-wide .wide .ensures) (entry .pre .2)))
+    (step-words (entry .pre .1) (search needs) (turn .loop .inv .0 .lo-is) (at-wide .wide .ensures .0), row-room (entry .pre .0) (turn .loop .inv .1) (search needs), omega (arith, all-room (entry .pre .1) (turn .loop .inv .0) (search needs) (at-wide .wide .ensures .0) (entry .pre .2)))
 
 add-lo : tie.Need-add-lo Inv-loop μ-loop
 add-lo c =
@@ -51,7 +51,7 @@ add-lo c =
     let at-wide = at-put .before .before in
     let turn = at-wide .before .before .before in
     let entry = turn .before .before .before .before .before in
-    omega (arith, step-words (entry .pre .1) (search needs) (turn .loop .inv .0 .lo-is) (at-wide .wide .ensures) .inside)
+    omega (arith, step-words (entry .pre .1) (search needs) (turn .loop .inv .0 .lo-is) (at-wide .wide .ensures .0) .inside)
 
 add-row : tie.Need-add-row Inv-loop μ-loop
 add-row c =
@@ -73,7 +73,7 @@ loop-again c =
     let at-wide = at-put .before .before in
     let turn = at-wide .before .before .before in
     let entry = turn .before .before .before .before .before in
-    (pairs-more (entry .pre .1) (turn .loop .inv .0) (search needs) (at-wide .wide .ensures) (turn .loop .inv .1) (at-put .put-pairs .ensures), row-more _ _ (turn .loop .inv .1))
+    (pairs-more (entry .pre .1) (turn .loop .inv .0) (search needs) (at-wide .wide .ensures .0) (turn .loop .inv .1) (at-put .put-pairs .ensures), row-more _ _ (turn .loop .inv .1))
 
 same-length : tie.Need-same-length Inv-loop μ-loop
 same-length c = c .before .loop .inv .0 .len

@@ -35,14 +35,14 @@ add-put-symbols : tie.Need-add-put-symbols Inv-loop μ-loop
 add-put-symbols c =
     let turn = c .before .before .before in
     let entry = turn .before .before .before .before .before in
-    omega (arith, step-words (entry .pre .1) (search needs) (turn .loop .inv .lo-is) (c .wide .ensures) .inside)
+    omega (arith, step-words (entry .pre .1) (search needs) (turn .loop .inv .lo-is) (c .wide .ensures .0) .inside)
 
 put-symbols-requires : tie.Need-put-symbols-requires Inv-loop μ-loop
 put-symbols-requires c κs =
     let at-wide = c .before in
     let turn = at-wide .before .before .before in
     let entry = turn .before .before .before .before .before in
-    (step-words (entry .pre .1) (search needs) (turn .loop .inv .lo-is) (at-wide .wide .ensures), omega (arith, all-room (entry .pre .1) (turn .loop .inv) (search needs) (at-wide .wide .ensures) (entry .pre .2)))
+    (step-words (entry .pre .1) (search needs) (turn .loop .inv .lo-is) (at-wide .wide .ensures .0), omega (arith, all-room (entry .pre .1) (turn .loop .inv) (search needs) (at-wide .wide .ensures .0) (entry .pre .2)))
 
 add-lo : tie.Need-add-lo Inv-loop μ-loop
 add-lo c =
@@ -50,7 +50,7 @@ add-lo c =
     let at-wide = at-put .before .before in
     let turn = at-wide .before .before .before in
     let entry = turn .before .before .before .before .before in
-    omega (arith, step-words (entry .pre .1) (search needs) (turn .loop .inv .lo-is) (at-wide .wide .ensures) .inside)
+    omega (arith, step-words (entry .pre .1) (search needs) (turn .loop .inv .lo-is) (at-wide .wide .ensures .0) .inside)
 
 add-t : tie.Need-add-t Inv-loop μ-loop
 add-t c = search needs
@@ -64,7 +64,7 @@ loop-again c =
     let at-wide = at-put .before .before in
     let turn = at-wide .before .before .before in
     let entry = turn .before .before .before .before .before in
-    symbols-more (entry .pre .1) (turn .loop .inv) (search needs) (at-wide .wide .ensures) (at-put .put-symbols .ensures)
+    symbols-more (entry .pre .1) (turn .loop .inv) (search needs) (at-wide .wide .ensures .0) (at-put .put-symbols .ensures)
 
 same-length : tie.Need-same-length Inv-loop μ-loop
 same-length c = c .before .loop .inv .len

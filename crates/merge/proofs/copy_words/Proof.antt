@@ -46,7 +46,7 @@ loop-again : tie.Need-loop-again Inv-loop μ-loop
 loop-again c =
     let at-wide = c .before in
     let e = c .word-through .ensures in
-    copy-more (at-wide .before .before .loop .inv) (at-wide .wide .ensures)
+    copy-more (at-wide .before .before .loop .inv) (at-wide .wide .ensures .0)
     (ap (λ (w : Word). w .root) e) (ap (λ (w : Word). w .label) e) (ap (λ (w : Word). w .goal) e) (search needs)
 
 returns : tie.Need-returns Inv-loop μ-loop

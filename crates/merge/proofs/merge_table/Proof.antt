@@ -14,12 +14,12 @@ add-needed c = search needs
 mul-needed : tie.Need-mul-needed
 mul-needed c =
     let entry = c .before .before .before .before in
-    omega (arith, needed-fits _ (entry .pre) _ (c .wide .ensures))
+    omega (arith, needed-fits _ (entry .pre) _ (c .wide .ensures .0))
 
 returns : tie.Need-returns
 returns c =
     let entry = c .before .before .before .before .before in
-    ends-map _ (entry .pre) _ _ _ (c .before .wide .ensures) (c .if1 .taken)
+    ends-map _ (entry .pre) _ _ _ (c .before .wide .ensures .0) (c .if1 .taken)
 
 copy-words-requires : tie.Need-copy-words-requires
 copy-words-requires c κs =
@@ -31,49 +31,49 @@ array-share-prefix-roots c =
     let at-wide = c .before .before .before .before .before in
     let at-copy = c .before .before .before in
     let entry = at-wide .before .before .before .before in
-    part-roots _ (entry .pre) (at-copy .copy-words .ensures) (at-wide .wide .ensures)
+    part-roots _ (entry .pre) (at-copy .copy-words .ensures) (at-wide .wide .ensures .0)
 
 slice-aggregate-merge-words : tie.Need-slice-aggregate-merge-words
 slice-aggregate-merge-words c =
     let at-wide = c .before .before .before .before .before .before in
     let at-copy = c .before .before .before .before in
     let entry = at-wide .before .before .before .before in
-    size-roots _ (entry .pre) (at-copy .copy-words .ensures) (at-wide .wide .ensures)
+    size-roots _ (entry .pre) (at-copy .copy-words .ensures) (at-wide .wide .ensures .0)
 
 array-share-prefix-labels : tie.Need-array-share-prefix-labels
 array-share-prefix-labels c =
     let at-wide = c .before .before .before .before .before .before in
     let at-copy = c .before .before .before .before in
     let entry = at-wide .before .before .before .before in
-    part-labels _ (entry .pre) (at-copy .copy-words .ensures) (at-wide .wide .ensures)
+    part-labels _ (entry .pre) (at-copy .copy-words .ensures) (at-wide .wide .ensures .0)
 
 slice-aggregate-merge-words-2 : tie.Need-slice-aggregate-merge-words-2
 slice-aggregate-merge-words-2 c =
     let at-wide = c .before .before .before .before .before .before .before in
     let at-copy = c .before .before .before .before .before in
     let entry = at-wide .before .before .before .before in
-    size-labels _ (entry .pre) (at-copy .copy-words .ensures) (at-wide .wide .ensures)
+    size-labels _ (entry .pre) (at-copy .copy-words .ensures) (at-wide .wide .ensures .0)
 
 array-share-prefix-goals : tie.Need-array-share-prefix-goals
 array-share-prefix-goals c =
     let at-wide = c .before .before .before .before .before .before .before in
     let at-copy = c .before .before .before .before .before in
     let entry = at-wide .before .before .before .before in
-    part-goals _ (entry .pre) (at-copy .copy-words .ensures) (at-wide .wide .ensures)
+    part-goals _ (entry .pre) (at-copy .copy-words .ensures) (at-wide .wide .ensures .0)
 
 slice-aggregate-merge-words-3 : tie.Need-slice-aggregate-merge-words-3
 slice-aggregate-merge-words-3 c =
     let at-wide = c .before .before .before .before .before .before .before .before in
     let at-copy = c .before .before .before .before .before .before in
     let entry = at-wide .before .before .before .before in
-    size-goals _ (entry .pre) (at-copy .copy-words .ensures) (at-wide .wide .ensures)
+    size-goals _ (entry .pre) (at-copy .copy-words .ensures) (at-wide .wide .ensures .0)
 
 merge-words-requires : tie.Need-merge-words-requires
 merge-words-requires c κs =
     let at-wide = c .before .before .before .before .before .before .before .before .before .before in
     let at-copy = c .before .before .before .before .before .before .before .before in
     let entry = at-wide .before .before .before .before in
-    words-asked _ (entry .pre) (at-copy .copy-words .ensures) (at-wide .wide .ensures) _ (at-copy .before .if1 .left)
+    words-asked _ (entry .pre) (at-copy .copy-words .ensures) (at-wide .wide .ensures .0) _ (at-copy .before .if1 .left)
 
 same-length : tie.Need-same-length
 same-length c = search needs
@@ -86,7 +86,7 @@ returns-2 c =
     let at-wide = c .before .before .before .before .before .before .before .before .before .before .before .before .before .before .before in
     let at-copy = c .before .before .before .before .before .before .before .before .before .before .before .before .before in
     let entry = at-wide .before .before .before .before in
-    ends-words _ (entry .pre) (at-copy .copy-words .ensures) (at-wide .wide .ensures) _ _ _ _ _ (at-copy .before .if1 .left) (c .before .before .before .before .merge-words .ensures)
+    ends-words _ (entry .pre) (at-copy .copy-words .ensures) (at-wide .wide .ensures .0) _ _ _ _ _ (at-copy .before .if1 .left) (c .before .before .before .before .merge-words .ensures)
 
 pub merge-table-spec : {M : Type 1} → statement M
 merge-table-spec =

@@ -1,35 +1,27 @@
+-- `passes::ahead` reads the table, or behind the last block tests the end state.
 use Rattle.passes.proofs.Goals.{ahead-in, ahead-end, ahead-off}
 use borrow.Author.Needs.{needs}
 use Rattle.passes.proofs.ahead.Statement.{statement}
 use Rattle.passes.proofs.ahead.Tie as tie
-use Rattle.passes.proofs.ahead.Reads as reads
-use Rattle.passes.proofs.ahead.Lts as lts
 
--- src/lib.rt:33:22
 mul-result : tie.Need-mul-result
 mul-result c = search needs
 
--- src/lib.rt:33:22
 add-result : tie.Need-add-result
 add-result c = search needs
 
--- src/lib.rt:33:16
 mul-result-2 : tie.Need-mul-result-2
 mul-result-2 c = search needs
 
--- src/lib.rt:33:16
 shared-slice-read-result : tie.Need-shared-slice-read-result
 shared-slice-read-result c = search needs
 
--- src/lib.rt:33:9
 returns : tie.Need-returns
 returns c = ahead-in _ (c .before .before .args .blocks) (c .before .before .args .end) (c .before .before .args .b) (c .before .before .args .s) (c .before .if1 .taken)
 
--- src/lib.rt:28:1
 returns-2 : tie.Need-returns-2
 returns-2 c = ahead-end ((c .before .before .args .costs) .now) (c .before .before .args .blocks) (c .before .before .args .end) (c .before .before .args .b) (c .before .before .args .s) (c .before .if1 .left) (c .if2 .taken)
 
--- src/lib.rt:28:1
 returns-3 : tie.Need-returns-3
 returns-3 c = ahead-off ((c .before .before .args .costs) .now) (c .before .before .args .blocks) (c .before .before .args .end) (c .before .before .args .b) (c .before .before .args .s) (c .before .if1 .left) (c .if2 .left)
 

@@ -1,3 +1,5 @@
+-- `passes::fill_table` makes the table from the last block to the first. The loop's invariant: the table is right from block b on, and the rest of the
+-- buffer is as it was. The measure is b.
 use borrow.Author.Needs.{needs}
 use mathlib.Core.Path.{_≡_, refl}
 use lib.ListN.{length}
@@ -5,10 +7,6 @@ use Rattle.passes.specs.Blocks.{Filled}
 use Rattle.passes.proofs.Chains.{fill-start, fill-more, fill-end, block-at, below-last}
 use Rattle.passes.proofs.fill_table.Statement.{statement}
 use Rattle.passes.proofs.fill_table.Tie as tie
-use Rattle.passes.proofs.fill_table.Reads as reads
-use Rattle.passes.proofs.fill_table.Lts as lts
-use Rattle.passes.proofs.table_block.Reads as table-block-reads
-use Rattle.passes.proofs.widened.Reads as widened-reads
 
 abbrev Inv-loop : tie.InvT-loop
 Inv-loop sections starts indices received erased end costs₀ blocks rows₀ b₀ costs rows b = Filled sections starts indices received erased end b costs₀ costs × (length rows ≡ 9216)
@@ -16,75 +14,57 @@ Inv-loop sections starts indices received erased end costs₀ blocks rows₀ b�
 abbrev μ-loop : tie.MeasureT-loop
 μ-loop sections starts indices received erased end costs₀ blocks rows₀ b₀ costs rows b = b
 
--- src/lib.rt:108:5
 loop-holds : tie.Need-loop-holds Inv-loop μ-loop
 loop-holds c = (fill-start (c .before .before .before .before .before .pre .0), refl)
 
--- src/lib.rt:109:9
 sub-b : tie.Need-sub-b Inv-loop μ-loop
 sub-b c = search needs
 
--- src/lib.rt:110:36
 shared-slice-read-widened : tie.Need-shared-slice-read-widened Inv-loop μ-loop
 shared-slice-read-widened c = search needs
 
--- src/lib.rt:110:28
 widened-requires : tie.Need-widened-requires Inv-loop μ-loop
 widened-requires c κs = search needs
 
--- src/lib.rt:110:21
 mul-start : tie.Need-mul-start Inv-loop μ-loop
 mul-start c = search needs
 
--- src/lib.rt:110:21
 element-copy-out-start : tie.Need-element-copy-out-start Inv-loop μ-loop
 element-copy-out-start c = let I = ((c .before .before .before .loop .inv .0)) in let A = (block-at (c .before .before .before .before .before .before .before .before .before .pre .0) (below-last ((c .before .before .before .loop .inv .0)) (c .before .before .loop-test .taken)) (c .widened .ensures .0)) in search needs
 
--- src/lib.rt:111:17
 mul-l : tie.Need-mul-l Inv-loop μ-loop
 mul-l c = let I = ((c .before .before .before .before .loop .inv .0)) in let A = (block-at (c .before .before .before .before .before .before .before .before .before .before .pre .0) (below-last ((c .before .before .before .before .loop .inv .0)) (c .before .before .before .loop-test .taken)) (c .before .widened .ensures .0)) in search needs
 
--- src/lib.rt:111:17
 sub-l : tie.Need-sub-l Inv-loop μ-loop
 sub-l c = let I = ((c .before .before .before .before .loop .inv .0)) in let A = (block-at (c .before .before .before .before .before .before .before .before .before .before .pre .0) (below-last ((c .before .before .before .before .loop .inv .0)) (c .before .before .before .loop-test .taken)) (c .before .widened .ensures .0)) in search needs
 
--- src/lib.rt:111:17
 part-l-start : tie.Need-part-l-start Inv-loop μ-loop
 part-l-start c = let I = ((c .before .before .before .before .loop .inv .0)) in let A = (block-at (c .before .before .before .before .before .before .before .before .before .before .pre .0) (below-last ((c .before .before .before .before .loop .inv .0)) (c .before .before .before .loop-test .taken)) (c .before .widened .ensures .0)) in search needs
 
--- src/lib.rt:111:17
 part-l-end : tie.Need-part-l-end Inv-loop μ-loop
 part-l-end c = search needs
 
--- src/lib.rt:112:24
 mul-table-block : tie.Need-mul-table-block Inv-loop μ-loop
 mul-table-block c = search needs
 
--- src/lib.rt:112:24
 shared-slice-read-table-block : tie.Need-shared-slice-read-table-block Inv-loop μ-loop
 shared-slice-read-table-block c = search needs
 
--- src/lib.rt:112:37
 shared-slice-read-table-block-2 : tie.Need-shared-slice-read-table-block-2 Inv-loop μ-loop
 shared-slice-read-table-block-2 c = search needs
 
--- src/lib.rt:112:9
 table-block-requires : tie.Need-table-block-requires Inv-loop μ-loop
 table-block-requires c κs = let I = ((c .before .before .before .before .before .before .before .before .before .loop .inv .0)) in let A = (block-at (c .before .before .before .before .before .before .before .before .before .before .before .before .before .before .before .pre .0) (below-last ((c .before .before .before .before .before .before .before .before .before .loop .inv .0)) (c .before .before .before .before .before .before .before .before .loop-test .taken)) (c .before .before .before .before .before .before .widened .ensures .0)) in let R = (c .before .before .before .before .before .before .before .before .before .before .before .before .before .before .before .pre .0) in (A .good, search needs, R .many, search needs, search needs)
 
--- src/lib.rt:108:5
 loop-less : tie.Need-loop-less Inv-loop μ-loop
 loop-less c = search needs
 
--- src/lib.rt:108:5
 loop-again : tie.Need-loop-again Inv-loop μ-loop
 loop-again c = let I = ((c .before .before .before .before .before .before .before .before .before .before .before .before .loop .inv .0)) in let A = (block-at (c .before .before .before .before .before .before .before .before .before .before .before .before .before .before .before .before .before .before .pre .0) (below-last ((c .before .before .before .before .before .before .before .before .before .before .before .before .loop .inv .0)) (c .before .before .before .before .before .before .before .before .before .before .before .loop-test .taken)) (c .before .before .before .before .before .before .before .before .before .widened .ensures .0)) in (fill-more (c .before .before .before .before .before .before .before .before .before .before .before .before .before .before .before .before .before .before .pre .0) ((c .before .before .before .before .before .before .before .before .before .before .before .before .loop .inv .0)) (c .before .before .before .before .before .before .before .before .before .before .before .loop-test .taken) (A .part-is) refl refl (c .before .before .table-block .ensures .0), (c .before .before .table-block .ensures .1))
 
--- src/lib.rt:101:1
 same-length : tie.Need-same-length Inv-loop μ-loop
 same-length c = (c .before .loop .inv .0 .long)
 
--- src/lib.rt:101:1
 returns : tie.Need-returns Inv-loop μ-loop
 returns c = fill-end (c .before .before .before .before .before .before .before .pre .0) (c .before .loop .inv .0) (search needs)
 

@@ -1,13 +1,10 @@
+-- `passes::put_goals` writes row n. The loop's invariant: the goals passed have what is left to pay from their states. The measure is how many are left.
 use borrow.Author.Needs.{needs}
 use Prim.Native.Nat.{_-_}
 use Rattle.passes.specs.Loops.{InGoals}
 use Rattle.passes.proofs.Goals.{goal-in, goal-read, goals-start, goals-more, goals-end}
 use Rattle.passes.proofs.put_goals.Statement.{statement}
 use Rattle.passes.proofs.put_goals.Tie as tie
-use Rattle.passes.proofs.put_goals.Reads as reads
-use Rattle.passes.proofs.put_goals.Lts as lts
-use Rattle.passes.proofs.ahead.Reads as ahead-reads
-use Rattle.passes.proofs.wide.Reads as wide-reads
 
 abbrev Inv-loop : tie.InvT-loop
 Inv-loop l costs blocks end b rows₀ n goals count g₀ rows g = InGoals l costs blocks end b rows g
@@ -15,75 +12,57 @@ Inv-loop l costs blocks end b rows₀ n goals count g₀ rows g = InGoals l cost
 abbrev μ-loop : tie.MeasureT-loop
 μ-loop l costs blocks end b rows₀ n goals count g₀ rows g = count - g
 
--- src/lib.rt:45:24
 add-wide : tie.Need-add-wide Inv-loop μ-loop
 add-wide c = search needs
 
--- src/lib.rt:45:22
 mul-wide : tie.Need-mul-wide Inv-loop μ-loop
 mul-wide c = search needs
 
--- src/lib.rt:45:22
 shared-slice-read-wide : tie.Need-shared-slice-read-wide Inv-loop μ-loop
 shared-slice-read-wide c = search needs
 
--- src/lib.rt:45:9
 wide-requires : tie.Need-wide-requires Inv-loop μ-loop
 wide-requires c κs = search needs
 
--- src/lib.rt:47:5
 loop-holds : tie.Need-loop-holds Inv-loop μ-loop
 loop-holds c = goals-start (search needs)
 
--- src/lib.rt:48:24
 add-wide-2 : tie.Need-add-wide-2 Inv-loop μ-loop
 add-wide-2 c = let h = goal-in (c .before .before .before .before .before .before .pre .0) (c .before .before .before .before .before .before .pre .1) (c .before .before .wide .ensures .0) (c .loop-test .taken) in search needs
 
--- src/lib.rt:48:22
 mul-wide-2 : tie.Need-mul-wide-2 Inv-loop μ-loop
 mul-wide-2 c = let h = goal-in (c .before .before .before .before .before .before .pre .0) (c .before .before .before .before .before .before .pre .1) (c .before .before .wide .ensures .0) (c .loop-test .taken) in search needs
 
--- src/lib.rt:48:22
 shared-slice-read-wide-2 : tie.Need-shared-slice-read-wide-2 Inv-loop μ-loop
 shared-slice-read-wide-2 c = let h = goal-in (c .before .before .before .before .before .before .before .pre .0) (c .before .before .before .before .before .before .before .pre .1) (c .before .before .before .wide .ensures .0) (c .before .loop-test .taken) in search needs
 
--- src/lib.rt:48:13
 wide-requires-2 : tie.Need-wide-requires-2 Inv-loop μ-loop
 wide-requires-2 c κs = search needs
 
--- src/lib.rt:49:30
 ahead-requires : tie.Need-ahead-requires Inv-loop μ-loop
 ahead-requires c κs = let R = (goal-read (c .before .before .before .before .before .before .before .before .pre .0) (c .before .before .before .before .before .before .before .before .pre .1) (c .before .before .before .before .wide .ensures .0) (c .before .before .loop-test .taken) (c .wide2 .ensures .0)) in search needs
 
--- src/lib.rt:49:14
 mul-rows : tie.Need-mul-rows Inv-loop μ-loop
 mul-rows c = search needs
 
--- src/lib.rt:49:14
 add-rows : tie.Need-add-rows Inv-loop μ-loop
 add-rows c = let R = (goal-read (c .before .before .before .before .before .before .before .before .before .pre .0) (c .before .before .before .before .before .before .before .before .before .pre .1) (c .before .before .before .before .before .wide .ensures .0) (c .before .before .before .loop-test .taken) (c .before .wide2 .ensures .0)) in let F = ((c .before .before .before .before .before .before .before .before .before .pre .0) .fits) in search needs
 
--- src/lib.rt:49:9
 mul-rows-2 : tie.Need-mul-rows-2 Inv-loop μ-loop
 mul-rows-2 c = let R = (goal-read (c .before .before .before .before .before .before .before .before .before .pre .0) (c .before .before .before .before .before .before .before .before .before .pre .1) (c .before .before .before .before .before .wide .ensures .0) (c .before .before .before .loop-test .taken) (c .before .wide2 .ensures .0)) in let F = ((c .before .before .before .before .before .before .before .before .before .pre .0) .fits) in search needs
 
--- src/lib.rt:49:9
 element-write-rows : tie.Need-element-write-rows Inv-loop μ-loop
 element-write-rows c = let R = (goal-read (c .before .before .before .before .before .before .before .before .before .pre .0) (c .before .before .before .before .before .before .before .before .before .pre .1) (c .before .before .before .before .before .wide .ensures .0) (c .before .before .before .loop-test .taken) (c .before .wide2 .ensures .0)) in let F = ((c .before .before .before .before .before .before .before .before .before .pre .0) .fits) in search needs
 
--- src/lib.rt:50:9
 add-g : tie.Need-add-g Inv-loop μ-loop
 add-g c = let R = (goal-read (c .before .before .before .before .before .before .before .before .before .pre .0) (c .before .before .before .before .before .before .before .before .before .pre .1) (c .before .before .before .before .before .wide .ensures .0) (c .before .before .before .loop-test .taken) (c .before .wide2 .ensures .0)) in search needs
 
--- src/lib.rt:47:5
 loop-less : tie.Need-loop-less Inv-loop μ-loop
 loop-less c = search needs
 
--- src/lib.rt:47:5
 loop-again : tie.Need-loop-again Inv-loop μ-loop
 loop-again c = goals-more (c .before .before .before .before .before .before .before .before .before .pre .0) ((c .before .before .before .before .before .before .before .before .before .pre .1) .nIs) (c .before .before .before .before .loop .inv) (goal-read (c .before .before .before .before .before .before .before .before .before .pre .0) (c .before .before .before .before .before .before .before .before .before .pre .1) (c .before .before .before .before .before .wide .ensures .0) (c .before .before .before .loop-test .taken) (c .before .wide2 .ensures .0)) (c .ahead .ensures)
 
--- src/lib.rt:39:1
 returns : tie.Need-returns Inv-loop μ-loop
 returns c = goals-end (c .before .loop .inv) ((c .before .before .before .before .before .before .pre .1) .nIs) (c .before .before .wide .ensures .0) (search needs)
 

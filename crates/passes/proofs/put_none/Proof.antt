@@ -1,11 +1,10 @@
+-- `passes::put_none` writes the top for each state before block b. The loop's invariant: the states passed hold it. The measure is how many are left.
 use borrow.Author.Needs.{needs}
 use Prim.Native.Nat.{_-_}
 use Rattle.passes.specs.Loops.{InNone}
 use Rattle.passes.proofs.Tables.{none-start, none-more, none-end}
 use Rattle.passes.proofs.put_none.Statement.{statement}
 use Rattle.passes.proofs.put_none.Tie as tie
-use Rattle.passes.proofs.put_none.Reads as reads
-use Rattle.passes.proofs.put_none.Lts as lts
 
 abbrev Inv-loop : tie.InvT-loop
 Inv-loop b costs₀ s₀ costs s = InNone b costs₀ costs s
@@ -13,43 +12,33 @@ Inv-loop b costs₀ s₀ costs s = InNone b costs₀ costs s
 abbrev μ-loop : tie.MeasureT-loop
 μ-loop b costs₀ s₀ costs s = 64 - s
 
--- src/lib.rt:68:5
 loop-holds : tie.Need-loop-holds Inv-loop μ-loop
 loop-holds c = none-start
 
--- src/lib.rt:69:15
 mul-costs : tie.Need-mul-costs Inv-loop μ-loop
 mul-costs c = search needs
 
--- src/lib.rt:69:15
 add-costs : tie.Need-add-costs Inv-loop μ-loop
 add-costs c = search needs
 
--- src/lib.rt:69:9
 mul-costs-2 : tie.Need-mul-costs-2 Inv-loop μ-loop
 mul-costs-2 c = search needs
 
--- src/lib.rt:69:9
 slice-write-costs : tie.Need-slice-write-costs Inv-loop μ-loop
 slice-write-costs c = search needs
 
--- src/lib.rt:70:9
 add-s : tie.Need-add-s Inv-loop μ-loop
 add-s c = search needs
 
--- src/lib.rt:68:5
 loop-less : tie.Need-loop-less Inv-loop μ-loop
 loop-less c = search needs
 
--- src/lib.rt:68:5
 loop-again : tie.Need-loop-again Inv-loop μ-loop
 loop-again c = none-more (c .before .loop .inv) (search needs) (search needs)
 
--- src/lib.rt:63:1
 same-length : tie.Need-same-length Inv-loop μ-loop
 same-length c = (c .before .loop .inv .long)
 
--- src/lib.rt:63:1
 returns : tie.Need-returns Inv-loop μ-loop
 returns c = none-end (c .before .loop .inv) (search needs)
 

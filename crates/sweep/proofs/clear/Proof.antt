@@ -1,11 +1,11 @@
+-- `sweep::clear` writes the top to the first places of a row. The loop's invariant: the places passed hold it, and the others are as they were.
+-- The measure is how many are left.
 use borrow.Author.Needs.{needs}
 use Prim.Native.Nat.{_-_}
 use Rattle.sweep.specs.Loops.{InClear}
 use Rattle.sweep.proofs.Lowering.{clear-start, clear-more, clear-end}
 use Rattle.sweep.proofs.clear.Statement.{statement}
 use Rattle.sweep.proofs.clear.Tie as tie
-use Rattle.sweep.proofs.clear.Reads as reads
-use Rattle.sweep.proofs.clear.Lts as lts
 
 abbrev Inv-loop : tie.InvT-loop
 Inv-loop t count rows₀ v₀ rows v = InClear t count rows₀ rows v
@@ -13,39 +13,30 @@ Inv-loop t count rows₀ v₀ rows v = InClear t count rows₀ rows v
 abbrev μ-loop : tie.MeasureT-loop
 μ-loop t count rows₀ v₀ rows v = count - v
 
--- src/lib.rt:98:5
 loop-holds : tie.Need-loop-holds Inv-loop μ-loop
 loop-holds c = clear-start (search needs)
 
--- src/lib.rt:99:14
 mul-rows : tie.Need-mul-rows Inv-loop μ-loop
 mul-rows c = search needs
 
--- src/lib.rt:99:14
 add-rows : tie.Need-add-rows Inv-loop μ-loop
 add-rows c = search needs
 
--- src/lib.rt:99:9
 mul-rows-2 : tie.Need-mul-rows-2 Inv-loop μ-loop
 mul-rows-2 c = search needs
 
--- src/lib.rt:99:9
 element-write-rows : tie.Need-element-write-rows Inv-loop μ-loop
 element-write-rows c = search needs
 
--- src/lib.rt:100:9
 add-v : tie.Need-add-v Inv-loop μ-loop
 add-v c = search needs
 
--- src/lib.rt:98:5
 loop-less : tie.Need-loop-less Inv-loop μ-loop
 loop-less c = search needs
 
--- src/lib.rt:98:5
 loop-again : tie.Need-loop-again Inv-loop μ-loop
 loop-again c = clear-more (c .before .loop .inv) (search needs) (search needs) (search needs)
 
--- src/lib.rt:93:1
 returns : tie.Need-returns Inv-loop μ-loop
 returns c = clear-end (c .before .loop .inv) (search needs)
 

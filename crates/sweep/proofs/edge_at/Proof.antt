@@ -1,68 +1,51 @@
+-- `sweep::edge_at` reads the three numbers of edge i where the layout has them.
 use Rattle.sweep.proofs.Edges.{edge-at}
 use borrow.Author.Needs.{needs}
 use Rattle.sweep.proofs.edge_at.Statement.{statement}
 use Rattle.sweep.proofs.edge_at.Tie as tie
-use Rattle.sweep.proofs.edge_at.Reads as reads
-use Rattle.sweep.proofs.edge_at.Lts as lts
-use Rattle.sweep.proofs.wide.Reads as wide-reads
 
--- src/lib.rt:86:31
 mul-wide : tie.Need-mul-wide
 mul-wide c = search needs
 
--- src/lib.rt:86:23
 add-wide : tie.Need-add-wide
 add-wide c = search needs
 
--- src/lib.rt:86:21
 mul-wide-2 : tie.Need-mul-wide-2
 mul-wide-2 c = search needs
 
--- src/lib.rt:86:21
 shared-slice-read-wide : tie.Need-shared-slice-read-wide
 shared-slice-read-wide c = search needs
 
--- src/lib.rt:86:9
 wide-requires : tie.Need-wide-requires
 wide-requires c κs = search needs
 
--- src/lib.rt:87:20
 add-symbol : tie.Need-add-symbol
 add-symbol c = search needs
 
--- src/lib.rt:87:18
 mul-symbol : tie.Need-mul-symbol
 mul-symbol c = search needs
 
--- src/lib.rt:87:18
 shared-slice-read-symbol : tie.Need-shared-slice-read-symbol
 shared-slice-read-symbol c = search needs
 
--- src/lib.rt:88:29
 mul-wide-3 : tie.Need-mul-wide-3
 mul-wide-3 c = search needs
 
--- src/lib.rt:88:21
 add-wide-2 : tie.Need-add-wide-2
 add-wide-2 c = search needs
 
--- src/lib.rt:88:21
 add-wide-3 : tie.Need-add-wide-3
 add-wide-3 c = search needs
 
--- src/lib.rt:88:19
 mul-wide-4 : tie.Need-mul-wide-4
 mul-wide-4 c = search needs
 
--- src/lib.rt:88:19
 shared-slice-read-wide-2 : tie.Need-shared-slice-read-wide-2
 shared-slice-read-wide-2 c = search needs
 
--- src/lib.rt:88:9
 wide-requires-2 : tie.Need-wide-requires-2
 wide-requires-2 c κs = search needs
 
--- src/lib.rt:82:1
 returns : tie.Need-returns
 returns c = search (needs, edge-at)
 

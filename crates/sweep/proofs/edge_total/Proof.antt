@@ -1,12 +1,10 @@
+-- `sweep::edge_total` adds up the edge counts. The loop's invariant: the sum is that of the steps passed. The measure is how many steps are left.
 use borrow.Author.Needs.{needs}
 use Prim.Native.Nat.{_-_}
 use Rattle.sweep.specs.Loops.{InTotal}
 use Rattle.sweep.proofs.Edges.{total-start, total-more, total-end}
 use Rattle.sweep.proofs.edge_total.Statement.{statement}
 use Rattle.sweep.proofs.edge_total.Tie as tie
-use Rattle.sweep.proofs.edge_total.Reads as reads
-use Rattle.sweep.proofs.edge_total.Lts as lts
-use Rattle.sweep.proofs.wide.Reads as wide-reads
 
 abbrev Inv-loop : tie.InvT-loop
 Inv-loop l n sum₀ t₀ sum t = InTotal l n t sum
@@ -14,47 +12,36 @@ Inv-loop l n sum₀ t₀ sum t = InTotal l n t sum
 abbrev μ-loop : tie.MeasureT-loop
 μ-loop l n sum₀ t₀ sum t = n - t
 
--- src/lib.rt:49:5
 loop-holds : tie.Need-loop-holds Inv-loop μ-loop
 loop-holds c = total-start _ _
 
--- src/lib.rt:50:23
 add-wide : tie.Need-add-wide Inv-loop μ-loop
 add-wide c = search needs
 
--- src/lib.rt:50:23
 add-wide-2 : tie.Need-add-wide-2 Inv-loop μ-loop
 add-wide-2 c = search needs
 
--- src/lib.rt:50:21
 mul-wide : tie.Need-mul-wide Inv-loop μ-loop
 mul-wide c = search needs
 
--- src/lib.rt:50:21
 shared-slice-read-wide : tie.Need-shared-slice-read-wide Inv-loop μ-loop
 shared-slice-read-wide c = search needs
 
--- src/lib.rt:50:16
 wide-requires : tie.Need-wide-requires Inv-loop μ-loop
 wide-requires c κs = search needs
 
--- src/lib.rt:50:9
 add-sum : tie.Need-add-sum Inv-loop μ-loop
 add-sum c = search needs
 
--- src/lib.rt:51:9
 add-t : tie.Need-add-t Inv-loop μ-loop
 add-t c = search needs
 
--- src/lib.rt:49:5
 loop-less : tie.Need-loop-less Inv-loop μ-loop
 loop-less c = search needs
 
--- src/lib.rt:49:5
 loop-again : tie.Need-loop-again Inv-loop μ-loop
 loop-again c = total-more (c .before .before .before .before .before .pre .0) (search needs) (c .before .before .before .loop .inv) (search needs) (c .wide .ensures .0)
 
--- src/lib.rt:43:1
 returns : tie.Need-returns Inv-loop μ-loop
 returns c = total-end (c .before .before .before .pre .0) (search needs) (c .before .loop .inv) (search needs)
 

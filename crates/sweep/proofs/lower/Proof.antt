@@ -1,15 +1,11 @@
+-- `sweep::lower` takes the edges of a step one by one. The loop's invariant: each vertex of the row has the least that the edges passed give it.
+-- The measure is how many edges are left.
 use borrow.Author.Needs.{needs}
 use Prim.Native.Nat.{_-_}
 use Rattle.sweep.specs.Loops.{InLower}
 use Rattle.sweep.proofs.Lowering.{lower-start, lower-more, lower-end}
 use Rattle.sweep.proofs.lower.Statement.{statement}
 use Rattle.sweep.proofs.lower.Tie as tie
-use Rattle.sweep.proofs.lower.Reads as reads
-use Rattle.sweep.proofs.lower.Lts as lts
-use Rattle.sweep.proofs.edge_at.Reads as edge-at-reads
-use Rattle.sweep.proofs.lesser.Reads as lesser-reads
-use Rattle.sweep.proofs.pay.Reads as pay-reads
-use Rattle.sweep.proofs.wide.Reads as wide-reads
 
 abbrev Inv-loop : tie.InvT-loop
 Inv-loop l pairs symbols lo hi t prices rows₀ i₀ rows i = InLower l prices t lo hi rows₀ rows i
@@ -17,99 +13,75 @@ Inv-loop l pairs symbols lo hi t prices rows₀ i₀ rows i = InLower l prices t
 abbrev μ-loop : tie.MeasureT-loop
 μ-loop l pairs symbols lo hi t prices rows₀ i₀ rows i = hi - i
 
--- src/lib.rt:110:5
 loop-holds : tie.Need-loop-holds Inv-loop μ-loop
 loop-holds c = search (needs, lower-start)
 
--- src/lib.rt:111:13
 edge-at-requires : tie.Need-edge-at-requires Inv-loop μ-loop
 edge-at-requires c κs = search needs
 
--- src/lib.rt:112:20
 mul-from : tie.Need-mul-from Inv-loop μ-loop
 mul-from c = search needs
 
--- src/lib.rt:112:20
 add-from : tie.Need-add-from Inv-loop μ-loop
 add-from c = search needs
 
--- src/lib.rt:113:22
 mul-symbol : tie.Need-mul-symbol Inv-loop μ-loop
 mul-symbol c = search needs
 
--- src/lib.rt:113:30
 wide-requires : tie.Need-wide-requires Inv-loop μ-loop
 wide-requires c κs = search needs
 
--- src/lib.rt:113:22
 add-symbol : tie.Need-add-symbol Inv-loop μ-loop
 add-symbol c = search needs
 
--- src/lib.rt:114:26
 add-to : tie.Need-add-to Inv-loop μ-loop
 add-to c = search needs
 
--- src/lib.rt:114:18
 mul-to : tie.Need-mul-to Inv-loop μ-loop
 mul-to c = search needs
 
--- src/lib.rt:114:18
 add-to-2 : tie.Need-add-to-2 Inv-loop μ-loop
 add-to-2 c = search needs
 
--- src/lib.rt:115:24
 mul-pay : tie.Need-mul-pay Inv-loop μ-loop
 mul-pay c = search needs
 
--- src/lib.rt:115:24
 element-copy-out-pay : tie.Need-element-copy-out-pay Inv-loop μ-loop
 element-copy-out-pay c = search needs
 
--- src/lib.rt:115:40
 mul-pay-2 : tie.Need-mul-pay-2 Inv-loop μ-loop
 mul-pay-2 c = search needs
 
--- src/lib.rt:115:40
 element-copy-out-pay-2 : tie.Need-element-copy-out-pay-2 Inv-loop μ-loop
 element-copy-out-pay-2 c = search needs
 
--- src/lib.rt:115:13
 pay-requires : tie.Need-pay-requires Inv-loop μ-loop
 pay-requires c κs = search needs
 
--- src/lib.rt:116:29
 mul-lesser : tie.Need-mul-lesser Inv-loop μ-loop
 mul-lesser c = search needs
 
--- src/lib.rt:116:29
 element-copy-out-lesser : tie.Need-element-copy-out-lesser Inv-loop μ-loop
 element-copy-out-lesser c = search needs
 
--- src/lib.rt:116:22
 lesser-requires : tie.Need-lesser-requires Inv-loop μ-loop
 lesser-requires c κs = search needs
 
--- src/lib.rt:116:9
 mul-rows : tie.Need-mul-rows Inv-loop μ-loop
 mul-rows c = search needs
 
--- src/lib.rt:116:9
 element-write-rows : tie.Need-element-write-rows Inv-loop μ-loop
 element-write-rows c = search needs
 
--- src/lib.rt:117:9
 add-i : tie.Need-add-i Inv-loop μ-loop
 add-i c = search needs
 
--- src/lib.rt:110:5
 loop-less : tie.Need-loop-less Inv-loop μ-loop
 loop-less c = search needs
 
--- src/lib.rt:110:5
 loop-again : tie.Need-loop-again Inv-loop μ-loop
 loop-again c = let e = c .before .before .before .before .before .before .before .before in let a = e .before .before in lower-more (a .before .before .pre .0) (a .before .before .pre .1) (a .loop .inv) (e .before .loop-test .taken) (e .edge-at .ensures) (c .before .before .before .before .before .before .wide .ensures .0) (c .before .before .pay .ensures) (c .lesser .ensures)
 
--- src/lib.rt:105:1
 returns : tie.Need-returns Inv-loop μ-loop
 returns c = lower-end (c .before .loop .inv) (search needs)
 

@@ -1,3 +1,5 @@
+-- `sweep::name_word` follows, from depth to depth, the first edge that gives what the row says is least. The loop's invariant: the symbols passed are those of
+-- the first path of least cost, and it goes on at this vertex. The measure is how many depths are left.
 use borrow.Author.Needs.{needs}
 use mathlib.Core.Path.{refl}
 use Prim.Native.Nat.{_-_}
@@ -7,12 +9,6 @@ use Rattle.sweep.proofs.Edges.{reads-at}
 use Rattle.sweep.proofs.Forward.{name-start, name-small, name-near, name-step, name-found, name-more, name-end}
 use Rattle.sweep.proofs.name_word.Statement.{statement}
 use Rattle.sweep.proofs.name_word.Tie as tie
-use Rattle.sweep.proofs.name_word.Reads as reads
-use Rattle.sweep.proofs.name_word.Lts as lts
-use Rattle.label.proofs.append.Reads as append-reads
-use Rattle.sweep.proofs.edge_at.Reads as edge-at-reads
-use Rattle.sweep.proofs.next_edge.Reads as next-edge-reads
-use Rattle.sweep.proofs.wide.Reads as wide-reads
 
 abbrev Inv-loop : tie.InvT-loop
 Inv-loop l prices rows root n pairs symbols label₀ v₀ lo₀ t₀ label v lo t = InName l prices rows root n t lo v label
@@ -20,75 +16,57 @@ Inv-loop l prices rows root n pairs symbols label₀ v₀ lo₀ t₀ label v lo 
 abbrev μ-loop : tie.MeasureT-loop
 μ-loop l prices rows root n pairs symbols label₀ v₀ lo₀ t₀ label v lo t = n - t
 
--- src/lib.rt:199:5
 loop-holds : tie.Need-loop-holds Inv-loop μ-loop
 loop-holds c = name-start (c .before .pre .1) (c .before .pre .2)
 
--- src/lib.rt:200:30
 add-wide : tie.Need-add-wide Inv-loop μ-loop
 add-wide c = search needs
 
--- src/lib.rt:200:30
 add-wide-2 : tie.Need-add-wide-2 Inv-loop μ-loop
 add-wide-2 c = search needs
 
--- src/lib.rt:200:28
 mul-wide : tie.Need-mul-wide Inv-loop μ-loop
 mul-wide c = search needs
 
--- src/lib.rt:200:28
 shared-slice-read-wide : tie.Need-shared-slice-read-wide Inv-loop μ-loop
 shared-slice-read-wide c = search needs
 
--- src/lib.rt:200:23
 wide-requires : tie.Need-wide-requires Inv-loop μ-loop
 wide-requires c κs = search needs
 
--- src/lib.rt:200:18
 add-hi : tie.Need-add-hi Inv-loop μ-loop
 add-hi c = let h = name-near (c .before .before .before .before .before .pre .1) (c .before .before .before .loop .inv) in let w = (c .wide .ensures .1) in search needs
 
--- src/lib.rt:201:79
 mul-next-edge : tie.Need-mul-next-edge Inv-loop μ-loop
 mul-next-edge c = search needs
 
--- src/lib.rt:201:79
 add-next-edge : tie.Need-add-next-edge Inv-loop μ-loop
 add-next-edge c = let h = name-small (c .before .before .before .before .before .pre .0) ((c .before .before .before .before .before .pre .1) .nIs) (c .before .before .before .loop .inv) in let F = (c .before .before .before .before .before .pre .0) in search needs
 
--- src/lib.rt:201:74
 mul-next-edge-2 : tie.Need-mul-next-edge-2 Inv-loop μ-loop
 mul-next-edge-2 c = let h = name-small (c .before .before .before .before .before .pre .0) ((c .before .before .before .before .before .pre .1) .nIs) (c .before .before .before .loop .inv) in let F = (c .before .before .before .before .before .pre .0) in search needs
 
--- src/lib.rt:201:74
 element-copy-out-next-edge : tie.Need-element-copy-out-next-edge Inv-loop μ-loop
 element-copy-out-next-edge c = let h = name-small (c .before .before .before .before .before .pre .0) ((c .before .before .before .before .before .pre .1) .nIs) (c .before .before .before .loop .inv) in let F = (c .before .before .before .before .before .pre .0) in search needs
 
--- src/lib.rt:201:13
 next-edge-requires : tie.Need-next-edge-requires Inv-loop μ-loop
 next-edge-requires c κs = (reads-at (c .before .before .before .before .before .before .pre .0) (c .before .before .before .before .before .before .pre .1), (name-step ((c .before .before .before .before .before .before .pre .1) .nIs) (c .before .before .before .before .loop .inv) (c .before .before .before .loop-test .taken) (c .before .wide .ensures .0) refl))
 
--- src/lib.rt:202:13
 edge-at-requires : tie.Need-edge-at-requires Inv-loop μ-loop
 edge-at-requires c κs = let S = (name-step ((c .before .before .before .before .before .before .before .pre .1) .nIs) (c .before .before .before .before .before .loop .inv) (c .before .before .before .before .loop-test .taken) (c .before .before .wide .ensures .0) refl) in let r = name-found (c .before .before .before .before .before .before .before .pre .0) ((c .before .before .before .before .before .before .before .pre .1) .nIs) (c .before .before .before .before .before .before .before .pre .2) (c .before .before .before .before .before .loop .inv) (c .before .before .before .before .loop-test .taken) S (c .next-edge .ensures) in (reads-at (c .before .before .before .before .before .before .before .pre .0) (c .before .before .before .before .before .before .before .pre .1), lt-of-lt-of-le r (S .hi-le))
 
--- src/lib.rt:203:9
 append-requires : tie.Need-append-requires Inv-loop μ-loop
 append-requires c κs = search needs
 
--- src/lib.rt:206:9
 add-t : tie.Need-add-t Inv-loop μ-loop
 add-t c = search needs
 
--- src/lib.rt:199:5
 loop-less : tie.Need-loop-less Inv-loop μ-loop
 loop-less c = search needs
 
--- src/lib.rt:199:5
 loop-again : tie.Need-loop-again Inv-loop μ-loop
 loop-again c = name-more (c .before .before .before .before .before .before .before .before .before .pre .0) ((c .before .before .before .before .before .before .before .before .before .pre .1) .nIs) (c .before .before .before .before .before .before .before .before .before .pre .2) (c .before .before .before .before .before .before .before .loop .inv) (c .before .before .before .before .before .before .loop-test .taken) (name-step ((c .before .before .before .before .before .before .before .before .before .pre .1) .nIs) (c .before .before .before .before .before .before .before .loop .inv) (c .before .before .before .before .before .before .loop-test .taken) (c .before .before .before .before .wide .ensures .0) refl) (c .before .before .next-edge .ensures) (c .before .edge-at .ensures) (c .append .ensures)
 
--- src/lib.rt:188:1
 returns : tie.Need-returns Inv-loop μ-loop
 returns c = name-end ((c .before .before .before .pre .1) .nIs) (c .before .loop .inv) (search needs)
 

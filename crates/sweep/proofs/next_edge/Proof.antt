@@ -1,16 +1,11 @@
+-- `sweep::next_edge` looks on from the first edge that leaves v. The loop's invariant: no edge passed leaves v and gives the total. The measure is how many
+-- are left.
 use borrow.Author.Needs.{needs}
 use Prim.Native.Nat.{_-_}
 use Rattle.sweep.specs.Loops.{InNext}
 use Rattle.sweep.proofs.Forward.{next-start, next-hit, next-miss, next-none}
 use Rattle.sweep.proofs.next_edge.Statement.{statement}
 use Rattle.sweep.proofs.next_edge.Tie as tie
-use Rattle.sweep.proofs.next_edge.Reads as reads
-use Rattle.sweep.proofs.next_edge.Lts as lts
-use Rattle.sweep.proofs.edge_at.Reads as edge-at-reads
-use Rattle.sweep.proofs.hit.Reads as hit-reads
-use Rattle.sweep.proofs.pay.Reads as pay-reads
-use Rattle.sweep.proofs.skip_to.Reads as skip-to-reads
-use Rattle.sweep.proofs.wide.Reads as wide-reads
 
 abbrev Inv-loop : tie.InvT-loop
 Inv-loop l pairs symbols lo hi t prices rows v total i₀ i = InNext l prices rows t lo hi v total i
@@ -18,83 +13,63 @@ Inv-loop l pairs symbols lo hi t prices rows v total i₀ i = InNext l prices ro
 abbrev μ-loop : tie.MeasureT-loop
 μ-loop l pairs symbols lo hi t prices rows v total i₀ i = hi - i
 
--- src/lib.rt:166:9
 skip-to-requires : tie.Need-skip-to-requires Inv-loop μ-loop
 skip-to-requires c κs = search needs
 
--- src/lib.rt:167:5
 loop-holds : tie.Need-loop-holds Inv-loop μ-loop
 loop-holds c = next-start (c .skip-to .ensures)
 
--- src/lib.rt:168:13
 edge-at-requires : tie.Need-edge-at-requires Inv-loop μ-loop
 edge-at-requires c κs = search needs
 
--- src/lib.rt:170:22
 mul-symbol : tie.Need-mul-symbol Inv-loop μ-loop
 mul-symbol c = search needs
 
--- src/lib.rt:170:30
 wide-requires : tie.Need-wide-requires Inv-loop μ-loop
 wide-requires c κs = search needs
 
--- src/lib.rt:170:22
 add-symbol : tie.Need-add-symbol Inv-loop μ-loop
 add-symbol c = search needs
 
--- src/lib.rt:171:26
 add-to : tie.Need-add-to Inv-loop μ-loop
 add-to c = search needs
 
--- src/lib.rt:171:18
 mul-to : tie.Need-mul-to Inv-loop μ-loop
 mul-to c = search needs
 
--- src/lib.rt:171:18
 add-to-2 : tie.Need-add-to-2 Inv-loop μ-loop
 add-to-2 c = search needs
 
--- src/lib.rt:172:24
 mul-pay : tie.Need-mul-pay Inv-loop μ-loop
 mul-pay c = search needs
 
--- src/lib.rt:172:24
 element-copy-out-pay : tie.Need-element-copy-out-pay Inv-loop μ-loop
 element-copy-out-pay c = search needs
 
--- src/lib.rt:172:40
 mul-pay-2 : tie.Need-mul-pay-2 Inv-loop μ-loop
 mul-pay-2 c = search needs
 
--- src/lib.rt:172:40
 element-copy-out-pay-2 : tie.Need-element-copy-out-pay-2 Inv-loop μ-loop
 element-copy-out-pay-2 c = search needs
 
--- src/lib.rt:172:13
 pay-requires : tie.Need-pay-requires Inv-loop μ-loop
 pay-requires c κs = search needs
 
--- src/lib.rt:173:12
 hit-requires : tie.Need-hit-requires Inv-loop μ-loop
 hit-requires c κs = search needs
 
--- src/lib.rt:174:13
 returns : tie.Need-returns Inv-loop μ-loop
 returns c = next-hit (c .before .before .before .before .before .before .before .before .before .loop .inv) (c .before .before .before .before .before .before .before .before .loop-test .taken) (c .before .before .before .before .before .before .before .edge-at .ensures) (c .before .before .before .before .before .before .wide .ensures .0) (c .before .before .pay .ensures) (c .before .hit .ensures) (c .if1 .taken)
 
--- src/lib.rt:176:9
 add-i : tie.Need-add-i Inv-loop μ-loop
 add-i c = search needs
 
--- src/lib.rt:167:5
 loop-less : tie.Need-loop-less Inv-loop μ-loop
 loop-less c = search needs
 
--- src/lib.rt:167:5
 loop-again : tie.Need-loop-again Inv-loop μ-loop
 loop-again c = next-miss (c .before .before .before .before .before .before .before .before .before .loop .inv) (c .before .before .before .before .before .before .before .before .loop-test .taken) (c .before .before .before .before .before .before .before .edge-at .ensures) (c .before .before .before .before .before .before .wide .ensures .0) (c .before .before .pay .ensures) (c .before .hit .ensures) (c .if1 .left)
 
--- src/lib.rt:162:1
 returns-2 : tie.Need-returns-2 Inv-loop μ-loop
 returns-2 c = next-none (c .before .loop .inv) (search needs)
 

@@ -1,12 +1,10 @@
+-- `sweep::skip_to` passes edges that leave other vertices. The loop's invariant: none of those passed leaves v. The measure is how many are left.
 use borrow.Author.Needs.{needs}
 use Prim.Native.Nat.{_-_}
 use Rattle.sweep.specs.Loops.{SkipTo}
 use Rattle.sweep.proofs.Forward.{skip-start, skip-more}
 use Rattle.sweep.proofs.skip_to.Statement.{statement}
 use Rattle.sweep.proofs.skip_to.Tie as tie
-use Rattle.sweep.proofs.skip_to.Reads as reads
-use Rattle.sweep.proofs.skip_to.Lts as lts
-use Rattle.sweep.proofs.wide.Reads as wide-reads
 
 abbrev Inv-loop : tie.InvT-loop
 Inv-loop l pairs symbols lo hi v i₀ i = SkipTo l lo hi v i
@@ -14,47 +12,36 @@ Inv-loop l pairs symbols lo hi v i₀ i = SkipTo l lo hi v i
 abbrev μ-loop : tie.MeasureT-loop
 μ-loop l pairs symbols lo hi v i₀ i = hi - i
 
--- src/lib.rt:146:5
 loop-holds : tie.Need-loop-holds Inv-loop μ-loop
 loop-holds c = skip-start (search needs)
 
--- src/lib.rt:147:27
 mul-wide : tie.Need-mul-wide Inv-loop μ-loop
 mul-wide c = search needs
 
--- src/lib.rt:147:19
 add-wide : tie.Need-add-wide Inv-loop μ-loop
 add-wide c = search needs
 
--- src/lib.rt:147:17
 mul-wide-2 : tie.Need-mul-wide-2 Inv-loop μ-loop
 mul-wide-2 c = search needs
 
--- src/lib.rt:147:17
 shared-slice-read-wide : tie.Need-shared-slice-read-wide Inv-loop μ-loop
 shared-slice-read-wide c = search needs
 
--- src/lib.rt:147:12
 wide-requires : tie.Need-wide-requires Inv-loop μ-loop
 wide-requires c κs = search needs
 
--- src/lib.rt:148:13
 returns : tie.Need-returns Inv-loop μ-loop
 returns c = c .before .before .before .before .loop .inv
 
--- src/lib.rt:150:9
 add-i : tie.Need-add-i Inv-loop μ-loop
 add-i c = search needs
 
--- src/lib.rt:146:5
 loop-less : tie.Need-loop-less Inv-loop μ-loop
 loop-less c = search needs
 
--- src/lib.rt:146:5
 loop-again : tie.Need-loop-again Inv-loop μ-loop
 loop-again c = let a = c .before .before .before .before in skip-more (a .before .before .pre .0) (a .loop .inv) (c .before .before .before .loop-test .taken) (c .before .wide .ensures .0) (c .if1 .left)
 
--- src/lib.rt:141:1
 returns-2 : tie.Need-returns-2 Inv-loop μ-loop
 returns-2 c = c .before .loop .inv
 

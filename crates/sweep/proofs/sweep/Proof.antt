@@ -1,3 +1,4 @@
+-- `sweep::sweep` makes the rows from the last depth to the first. The loop's invariant: the rows from depth t on hold the least costs. The measure is t.
 use borrow.Author.Needs.{needs}
 use mathlib.Core.Path.{refl}
 use Rattle.sweep.specs.Loops.{InSweep}
@@ -6,11 +7,6 @@ use Rattle.sweep.proofs.Lowering.{is-clear}
 use Rattle.sweep.proofs.Sweeping.{sweep-start, last-fits, last-step, sweep-more, sweep-end}
 use Rattle.sweep.proofs.sweep.Statement.{statement}
 use Rattle.sweep.proofs.sweep.Tie as tie
-use Rattle.sweep.proofs.sweep.Reads as reads
-use Rattle.sweep.proofs.sweep.Lts as lts
-use Rattle.sweep.proofs.clear.Reads as clear-reads
-use Rattle.sweep.proofs.lower.Reads as lower-reads
-use Rattle.sweep.proofs.wide.Reads as wide-reads
 
 abbrev Inv-loop : tie.InvT-loop
 Inv-loop l prices rows₀ n pairs symbols t₀ hi₀ rows t hi = InSweep l prices rows₀ rows n t hi
@@ -18,71 +14,54 @@ Inv-loop l prices rows₀ n pairs symbols t₀ hi₀ rows t hi = InSweep l price
 abbrev μ-loop : tie.MeasureT-loop
 μ-loop l prices rows₀ n pairs symbols t₀ hi₀ rows t hi = t
 
--- src/lib.rt:131:5
 loop-holds : tie.Need-loop-holds Inv-loop μ-loop
 loop-holds c = sweep-start (c .before .pre .1) (c .before .pre .2)
 
--- src/lib.rt:132:9
 sub-t : tie.Need-sub-t Inv-loop μ-loop
 sub-t c = search needs
 
--- src/lib.rt:133:30
 add-wide : tie.Need-add-wide Inv-loop μ-loop
 add-wide c = search needs
 
--- src/lib.rt:133:30
 add-wide-2 : tie.Need-add-wide-2 Inv-loop μ-loop
 add-wide-2 c = search needs
 
--- src/lib.rt:133:28
 mul-wide : tie.Need-mul-wide Inv-loop μ-loop
 mul-wide c = search needs
 
--- src/lib.rt:133:28
 shared-slice-read-wide : tie.Need-shared-slice-read-wide Inv-loop μ-loop
 shared-slice-read-wide c = search needs
 
--- src/lib.rt:133:23
 wide-requires : tie.Need-wide-requires Inv-loop μ-loop
 wide-requires c κs = search needs
 
--- src/lib.rt:133:18
 sub-lo : tie.Need-sub-lo Inv-loop μ-loop
 sub-lo c = last-fits ((c .before .before .before .before .before .pre .1) .nIs) (c .before .before .before .loop .inv) (c .before .before .loop-test .taken) (c .wide .ensures .0)
 
--- src/lib.rt:134:25
 add-wide-3 : tie.Need-add-wide-3 Inv-loop μ-loop
 add-wide-3 c = search needs
 
--- src/lib.rt:134:23
 mul-wide-2 : tie.Need-mul-wide-2 Inv-loop μ-loop
 mul-wide-2 c = search needs
 
--- src/lib.rt:134:23
 shared-slice-read-wide-2 : tie.Need-shared-slice-read-wide-2 Inv-loop μ-loop
 shared-slice-read-wide-2 c = search needs
 
--- src/lib.rt:134:18
 wide-requires-2 : tie.Need-wide-requires-2 Inv-loop μ-loop
 wide-requires-2 c κs = search needs
 
--- src/lib.rt:134:9
 clear-requires : tie.Need-clear-requires Inv-loop μ-loop
 clear-requires c κs = let F = (c .before .before .before .before .before .before .before .before .pre .0) in let I = (c .before .before .before .before .before .before .loop .inv) in (search needs, rw ((c .before .wide2 .ensures .0)) (vertices-to F (search needs)), search needs)
 
--- src/lib.rt:135:9
 lower-requires : tie.Need-lower-requires Inv-loop μ-loop
 lower-requires c κs = let S = last-step ((c .before .before .before .before .before .before .before .before .before .before .pre .1) .nIs) (c .before .before .before .before .before .before .before .before .loop .inv) (c .before .before .before .before .before .before .before .loop-test .taken) (c .before .before .before .before .before .wide .ensures .0) refl in (reads-at (c .before .before .before .before .before .before .before .before .before .before .pre .0) (c .before .before .before .before .before .before .before .before .before .before .pre .1), step-in (S .inside) (S .lo-is) (S .hi-is), is-clear (c .before .clear .ensures) (c .before .before .before .wide2 .ensures .0))
 
--- src/lib.rt:131:5
 loop-less : tie.Need-loop-less Inv-loop μ-loop
 loop-less c = search needs
 
--- src/lib.rt:131:5
 loop-again : tie.Need-loop-again Inv-loop μ-loop
 loop-again c = sweep-more (c .before .before .before .before .before .before .before .before .before .before .before .pre .0) ((c .before .before .before .before .before .before .before .before .before .before .before .pre .1) .nIs) (c .before .before .before .before .before .before .before .before .before .loop .inv) (c .before .before .before .before .before .before .before .before .loop-test .taken) (last-step ((c .before .before .before .before .before .before .before .before .before .before .before .pre .1) .nIs) (c .before .before .before .before .before .before .before .before .before .loop .inv) (c .before .before .before .before .before .before .before .before .loop-test .taken) (c .before .before .before .before .before .before .wide .ensures .0) refl) (c .before .before .clear .ensures) (c .lower .ensures)
 
--- src/lib.rt:122:1
 returns : tie.Need-returns Inv-loop μ-loop
 returns c = sweep-end (c .before .loop .inv) (search needs)
 

@@ -29,7 +29,7 @@ returns : tie.Need-returns Inv-loop μ-loop
 returns c =
     let at-wide = c .before .before in
     let entry = at-wide .before .before in
-    λ e B. earlier-none (entry .pre .0) (entry .pre .1) (at-wide .wide .ensures) (c .before .if1 .taken) (c .run-within .ensures e) B
+    λ e B. earlier-none (entry .pre .0) (entry .pre .1) (at-wide .wide .ensures .0) (c .before .if1 .taken) (c .run-within .ensures e) B
 
 add-k : tie.Need-add-k Inv-loop μ-loop
 add-k c = search needs
@@ -38,7 +38,7 @@ loop-holds : tie.Need-loop-holds Inv-loop μ-loop
 loop-holds c =
     let at-wide = c .before in
     let entry = at-wide .before .before in
-    alike-none (entry .pre .0) (entry .pre .1) (at-wide .wide .ensures) (c .if1 .left)
+    alike-none (entry .pre .0) (entry .pre .1) (at-wide .wide .ensures .0) (c .if1 .left)
 
 within-if-alike-requires : tie.Need-within-if-alike-requires Inv-loop μ-loop
 within-if-alike-requires c κs = search needs

@@ -48,7 +48,7 @@ loop-holds : tie.Need-loop-holds Inv-loop2 μ-loop2 Inv-loop μ-loop Inv-search 
 loop-holds c =
     let test = c .before .before in
     let at-next = test .before in
-    enter-J (at-next .before .before .pre) (at-next .next-candidate .ensures .before) (test .if1 .left) (c .wide .ensures)
+    enter-J (at-next .before .before .pre) (at-next .next-candidate .ensures .before) (test .if1 .left) (c .wide .ensures .0)
 
 mul-wide-2 : tie.Need-mul-wide-2 Inv-loop2 μ-loop2 Inv-loop μ-loop Inv-search μ-search
 mul-wide-2 c = search needs
@@ -64,7 +64,7 @@ loop2-holds : tie.Need-loop2-holds Inv-loop2 μ-loop2 Inv-loop μ-loop Inv-searc
 loop2-holds c =
     let turn = c .before .before .before in
     let entry = turn .before .before .before .before .before .before in
-    enter-K (entry .pre) (turn .loop .inv) (search needs) (c .wide2 .ensures)
+    enter-K (entry .pre) (turn .loop .inv) (search needs) (c .wide2 .ensures .0)
 
 refutes-requires : tie.Need-refutes-requires Inv-loop2 μ-loop2 Inv-loop μ-loop Inv-search μ-search
 refutes-requires c κs = search needs

@@ -42,7 +42,7 @@ wide-requires c κs = search needs
 loop-holds : tie.Need-loop-holds Inv-loop μ-loop
 loop-holds c =
     let entry = c .before .before .before .before .before in
-    ending-none (entry .pre .0) (entry .pre .1) refl refl (c .wide .ensures)
+    ending-none (entry .pre .0) (entry .pre .1) refl refl (c .wide .ensures .0)
 
 in-run-requires : tie.Need-in-run-requires Inv-loop μ-loop
 in-run-requires c κs = search needs

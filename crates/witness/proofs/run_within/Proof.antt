@@ -37,7 +37,7 @@ loop-holds : tie.Need-loop-holds Inv-loop μ-loop
 loop-holds c =
     let at-wide = c .before in
     let entry = at-wide .before .before .before in
-    within-none (entry .pre .0) (entry .pre .1) (entry .pre .2) refl refl (at-wide .wide .ensures) (c .wide2 .ensures)
+    within-none (entry .pre .0) (entry .pre .1) (entry .pre .2) refl refl (at-wide .wide .ensures .0) (c .wide2 .ensures .0)
 
 in-run-requires : tie.Need-in-run-requires Inv-loop μ-loop
 in-run-requires c κs = search needs

@@ -1,0 +1,24 @@
+-- `link_merge` is merging, its answer in numbers.
+use Rattle.link_kit.proofs.Numbering.{merge-left}
+use borrow.Author.Needs.{needs}
+use Rattle.link_kit.proofs.link_merge.Statement.{statement}
+use Rattle.link_kit.proofs.link_merge.Tie as tie
+
+merge-requires : tie.Need-merge-requires
+merge-requires c κs = search needs
+
+merged-requires : tie.Need-merged-requires
+merged-requires c κs = search needs
+
+same-length : tie.Need-same-length
+same-length c = search needs
+
+same-length-2 : tie.Need-same-length-2
+same-length-2 c = search needs
+
+returns : tie.Need-returns
+returns c = merge-left (c .before .before .before .before .before .before .merge .ensures) (c .before .merged .ensures)
+
+pub link-merge-spec : {M : Type 1} → statement M
+link-merge-spec =
+    tie.close (tie.spec merge-requires merged-requires same-length same-length-2 returns)

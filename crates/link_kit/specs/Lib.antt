@@ -1,0 +1,3 @@
+-- What the kit's functions for other languages leave.
+pub mod Numbers
+pub mod Left

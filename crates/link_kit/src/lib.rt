@@ -1,0 +1,78 @@
+// The kit's front door. Rattle programs get the layers' functions with their enums and promises from here. Programs in C or Rust, which take no enum of
+// ours, get one call for each: it returns document 01's number, puts the numbers returned with it into `values`, and leaves every buffer as its layer
+// does. No call asks anything of its arguments.
+ghost use Rattle.merge.specs.Merging.{merging};
+ghost use Rattle.read_back.specs.ReadingBack.{readingBack};
+ghost use Rattle.chain.specs.Decoding.{decoding};
+ghost use Rattle.link_kit.specs.Left.{MergeLeft, ReadBackLeft, DecodeLeft};
+
+mod answers;
+
+pub use chain::Decoded;
+pub use chain::decode;
+pub use label::distance as label_distance;
+pub use merge::Merged;
+pub use merge::merge;
+pub use read_back::ReadBack;
+pub use read_back::read_back;
+
+// Merges the table in `file`.
+#[no_mangle]
+pub extern "C" fn link_merge(
+    file: &[u8],
+    map: &mut [u16],
+    section: &mut [u16],
+    values: &mut [u32; 4],
+) -> u32
+    ensures { λ r. ⌜ MergeLeft (merging (now (file .entry)) (now (map .entry)) (now (section .entry))) r (now (map .exit)) (now (section .exit)) (now (values .exit)) ⌝ }
+{
+    let answer = answers::merged(merge::merge(file, map, section));
+    let four = answer.values;
+    *values = four;
+    answer.number
+}
+
+// Writes the table file of a section's words into `file`.
+#[no_mangle]
+pub extern "C" fn link_read_back(section: &[u16], file: &mut [u8], values: &mut [u32; 4]) -> u32
+    ensures { λ r. ⌜ ReadBackLeft (readingBack (now (section .entry)) (now (file .entry))) r (now (file .exit)) (now (values .exit)) ⌝ }
+{
+    let answer = answers::read(read_back::read_back(section, file));
+    let four = answer.values;
+    *values = four;
+    answer.number
+}
+
+// Decodes a chain of blocks over k sections.
+#[no_mangle]
+pub extern "C" fn link_decode(
+    sections: &[u16],
+    k: usize,
+    indices: &[u8],
+    received: &[u16],
+    erased: &[u8],
+    start: u8,
+    end: u8,
+    costs: &mut [u32],
+    labels: &mut [u16],
+    goals: &mut [u8],
+    values: &mut [u32; 4],
+) -> u32
+    ensures { λ r. ⌜ DecodeLeft (decoding (now (sections .entry)) k (now (indices .entry)) (now (received .entry)) (now (erased .entry)) start end (now (costs .entry)) (now (labels .entry)) (now (goals .entry))) r (now (costs .exit)) (now (labels .exit)) (now (goals .exit)) (now (values .exit)) ⌝ }
+{
+    let answer = answers::decoded(chain::decode(
+        sections,
+        k,
+        indices,
+        received,
+        erased,
+        start,
+        end,
+        costs,
+        labels,
+        goals,
+    ));
+    let four = answer.values;
+    *values = four;
+    answer.number
+}

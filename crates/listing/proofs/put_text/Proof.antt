@@ -1,0 +1,62 @@
+-- `listing::put_text` puts the refusal of a file that is too long, or what the answer of merging comes to.
+use Rattle.listing.proofs.Outcomes.{made-long, made-merged}
+use borrow.Author.Needs.{needs}
+use Rattle.listing.proofs.put_text.Statement.{statement}
+use Rattle.listing.proofs.put_text.Tie as tie
+
+put-refusal-requires : tie.Need-put-refusal-requires
+put-refusal-requires c κs = search needs
+
+same-length : tie.Need-same-length
+same-length c = search needs
+
+returns : tie.Need-returns
+returns c = let p = c .before .before in let t = p .before .before in made-long (t .before .before .before .args .file .now) (t .if1 .taken) (p .put-refusal .ensures)
+
+slice-aggregate-merge : tie.Need-slice-aggregate-merge
+slice-aggregate-merge c = search needs
+
+slice-aggregate-merge-2 : tie.Need-slice-aggregate-merge-2
+slice-aggregate-merge-2 c = search needs
+
+merge-requires : tie.Need-merge-requires
+merge-requires c κs = search needs
+
+word-count-requires : tie.Need-word-count-requires
+word-count-requires c κs = search needs
+
+wide-requires : tie.Need-wide-requires
+wide-requires c κs = search needs
+
+slice-aggregate-put-answer : tie.Need-slice-aggregate-put-answer
+slice-aggregate-put-answer c = search needs
+
+put-answer-requires : tie.Need-put-answer-requires
+put-answer-requires c κs = search needs
+
+same-length-2 : tie.Need-same-length-2
+same-length-2 c = search needs
+
+returns-2 : tie.Need-returns-2
+returns-2 c = let p = c .before .before in
+    let w = p .before .before .before in
+    let m = w .before .before .before .before in
+    let t = m .before .before .before in
+    made-merged (t .before .before .before .args .file .now) (t .if1 .left) (m .merge .ensures) (w .before .word-count .ensures) (w .wide .ensures .0) (p .put-answer .ensures)
+
+pub put-text-spec : {M : Type 1} → statement M
+put-text-spec =
+    tie.close
+    (tie.spec
+    put-refusal-requires
+    same-length
+    returns
+    slice-aggregate-merge
+    slice-aggregate-merge-2
+    merge-requires
+    word-count-requires
+    wide-requires
+    slice-aggregate-put-answer
+    put-answer-requires
+    same-length-2
+    returns-2)

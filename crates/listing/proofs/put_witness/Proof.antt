@@ -1,0 +1,31 @@
+-- `listing::put_witness` puts the line of refusal 6.
+use Rattle.listing.specs.Text.{refusalLine}
+use borrow.Author.Needs.{needs}
+use Rattle.listing.proofs.put_witness.Statement.{statement}
+use Rattle.listing.proofs.put_witness.Tie as tie
+
+slice-aggregate-put-line : tie.Need-slice-aggregate-put-line
+slice-aggregate-put-line c = search needs
+
+slice-aggregate-put-line-2 : tie.Need-slice-aggregate-put-line-2
+slice-aggregate-put-line-2 c = search needs
+
+put-line-requires : tie.Need-put-line-requires
+put-line-requires c κs = search needs
+
+same-length : tie.Need-same-length
+same-length c = search needs
+
+returns : tie.Need-returns
+unfolding refusalLine
+returns c = c .before .before .put-line .ensures
+
+pub put-witness-spec : {M : Type 1} → statement M
+put-witness-spec =
+    tie.close
+    (tie.spec
+    slice-aggregate-put-line
+    slice-aggregate-put-line-2
+    put-line-requires
+    same-length
+    returns)

@@ -1,0 +1,3 @@
+-- The printed sizes of a table: their bytes, and what a call leaves.
+pub mod Text
+pub mod Listing

@@ -1,0 +1,137 @@
+// The printed sizes of a table: document 01's listing of a table file, or the line of its refusal, as bytes in a lent buffer. The promise is an equation
+// with `listing`, whose text comes from the section that merging gives.
+ghost use mathlib.Core.Path.{_≡_};
+ghost use mathlib.Core.List.{[], _∷_};
+ghost use Prim.Native.Nat.{suc, _+_, _-_, _≤_};
+ghost use lib.ListN.{length, getD};
+ghost use Rattle.trellis.specs.Outcome.{outcome, notRectangular};
+ghost use Rattle.trellis.specs.Layout.{nOf, joinedUp};
+ghost use Rattle.merge.specs.Answer.{outcomeOf};
+ghost use Rattle.text.specs.Put.{Put};
+ghost use Rattle.listing.specs.Text.{entering, depthLine, sums, sizesOf, refusalLine, textFrom};
+ghost use Rattle.listing.specs.Listing.{leaves, listedOutcome, Made, listing};
+use merge::Merged;
+use numbers::number;
+use numbers::total;
+use numbers::wide;
+use text::put_bytes;
+use text::put_line;
+
+// The length of the text, or the length that the buffer would need.
+pub enum Listed {
+    Text(usize),
+    Short(usize),
+}
+
+fn edges_entering(section: &[u16], n: usize, t: usize) -> usize
+    requires { ⌜ (n ≡ nOf (now section)) × (n ≤ 65535) × (t ≤ n) ⌝ }
+    ensures { λ r. ⌜ r ≡ entering (now (section .entry)) t ⌝ }
+{
+    if t == 0 {
+        return 0;
+    }
+    wide(number(section, 3 + n + t))
+}
+
+fn put_depths(section: &[u16], n: usize, text: &mut [u8], at: usize) -> usize
+    requires { ⌜ (n ≡ nOf (now section)) × (n ≤ 65535) ⌝ }
+    ensures { λ r. ⌜ Put (now (text .entry)) at (joinedUp (depthLine (now (section .entry))) (suc n)) (now (text .exit)) r ⌝ }
+{
+    let mut end = at;
+    let mut t: usize = 0;
+    while t <= n {
+        let numbers = [
+            t,
+            wide(number(section, 3 + t)),
+            edges_entering(section, n, t),
+        ];
+        end = put_line(text, end, b"depth", &numbers);
+        t += 1;
+    }
+    end
+}
+
+// Selections never come out below 0; the test spares this function the proof of it.
+fn less(a: usize, b: usize) -> usize
+    ensures { λ r. ⌜ r ≡ a - b ⌝ }
+{
+    if a < b { 0 } else { a - b }
+}
+
+fn put_sums(section: &[u16], n: usize, text: &mut [u8], at: usize) -> usize
+    requires { ⌜ (n ≡ nOf (now section)) × (n ≤ 65535) ⌝ }
+    ensures { λ r. ⌜ Put (now (text .entry)) at (sums (now (section .entry))) (now (text .exit)) r ⌝ }
+{
+    let edges = total(section, 4 + n, n);
+    let vertices = total(section, 3, n + 1);
+    let roots = wide(number(section, 3));
+    let additions = [edges];
+    let end = put_line(text, at, b"additions", &additions);
+    let selections = [less(edges + roots, vertices)];
+    put_line(text, end, b"selections", &selections)
+}
+
+fn put_sizes(section: &[u16], words: usize, text: &mut [u8]) -> usize
+    ensures { λ r. ⌜ Put (now (text .entry)) 0 (sizesOf words (now (section .entry))) (now (text .exit)) r ⌝ }
+{
+    let n = wide(number(section, 1));
+    let numbers = [wide(number(section, 0)), n, wide(number(section, 2)), words];
+    let sized = put_line(text, 0, b"section", &numbers);
+    let end = put_depths(section, n, text, sized);
+    put_sums(section, n, text, end)
+}
+
+fn put_refusal(text: &mut [u8], refusal: usize, value: usize) -> usize
+    ensures { λ r. ⌜ Put (now (text .entry)) 0 (refusalLine (outcome refusal (value ∷ []))) (now (text .exit)) r ⌝ }
+{
+    let numbers = [refusal, value];
+    put_line(text, 0, b"refused", &numbers)
+}
+
+fn put_witness(text: &mut [u8], depth: usize, i: usize, j: usize, k: usize) -> usize
+    ensures { λ r. ⌜ Put (now (text .entry)) 0 (refusalLine (notRectangular depth i j k)) (now (text .exit)) r ⌝ }
+{
+    let numbers = [6, depth, i, j, k];
+    put_line(text, 0, b"refused", &numbers)
+}
+
+fn put_answer(answer: Merged, words: usize, section: &[u16], text: &mut [u8]) -> usize
+    ensures { λ r. ⌜ Put (now (text .entry)) 0 (textFrom words (outcomeOf answer) (now (section .entry))) (now (text .exit)) r ⌝ }
+{
+    match answer {
+        Merged::Section(length) => put_sizes(section, words, text),
+        Merged::Length(length) => put_refusal(text, 1, length),
+        Merged::Size(place) => put_refusal(text, 2, place),
+        Merged::Word(index) => put_refusal(text, 3, index),
+        Merged::Order(index) => put_refusal(text, 4, index),
+        Merged::ShortMap(needed) => put_refusal(text, 5, needed),
+        Merged::NotRectangular(depth, i, j, k) => put_witness(text, depth, i, j, k),
+        Merged::ShortSection(needed) => put_refusal(text, 7, needed),
+    }
+}
+
+// Both buffers are long enough for every table.
+fn put_text(file: &[u8], text: &mut [u8]) -> usize
+    ensures { λ r. ⌜ Made (now (file .entry)) (now (text .entry)) (now (text .exit)) r ⌝ }
+{
+    if file.len() > 65535 {
+        return put_refusal(text, 1, 65536);
+    }
+    let mut map = [0u16; 9216];
+    let mut section = [0u16; 26644];
+    let answer = merge::merge(file, &mut map, &mut section);
+    put_answer(answer, wide(table::word_count(file)), &section, text)
+}
+
+// Writes the listing of the table in `file`, or the line of its refusal, to the front of `text`.
+pub fn listing(file: &[u8], text: &mut [u8]) -> Listed
+    ensures { λ r. ⌜ leaves (listedOutcome r) (now (text .exit)) ≡ listing (now (file .entry)) (now (text .entry)) ⌝ }
+{
+    let mut made = [0u8; 1024];
+    let length = put_text(file, &mut made);
+    if text.len() < length {
+        return Listed::Short(length);
+    }
+    put_bytes(text, 0, &made[..length]);
+    Listed::Text(length)
+}

@@ -1,0 +1,57 @@
+// End states: whether those of the roots and of the goals ascend strictly and are below S.
+ghost use mathlib.Core.Path.{_≡_};
+ghost use mathlib.Core.Bool.{_&&_};
+ghost use Prim.Native.Nat.{_+_, _≤_};
+ghost use lib.Dec.{ltb};
+ghost use lib.ListN.{getD};
+ghost use Rattle.trellis.specs.Layout.{rootsPlace, goalsPlace};
+ghost use Rattle.section_file.specs.Usable.{higher, rising, statesRight};
+ghost use Rattle.section_file.specs.Places.{Counted};
+use numbers::number;
+use numbers::wide;
+
+// Whether vertex v has a state above that of the vertex before it.
+fn is_higher(l: &[u16], at: usize, v: usize) -> bool
+    requires { ⌜ (at ≤ 4000000) × (v ≤ 1024) ⌝ }
+    ensures { λ r. ⌜ r ≡ higher (λ u. getD (now (l .entry)) (at + u) 0) v ⌝ }
+{
+    if v == 0 {
+        return true;
+    }
+    number(l, at + (v - 1)) < number(l, at + v)
+}
+
+fn state_right(l: &[u16], at: usize, v: usize, bound: u16) -> bool
+    requires { ⌜ (at ≤ 4000000) × (v ≤ 1024) ⌝ }
+    ensures { λ r. ⌜ r ≡ (ltb (getD (now (l .entry)) (at + v) 0) bound && higher (λ u. getD (now (l .entry)) (at + u) 0) v) ⌝ }
+{
+    if number(l, at + v) >= bound {
+        return false;
+    }
+    is_higher(l, at, v)
+}
+
+fn is_rising(l: &[u16], at: usize, count: usize, bound: u16) -> bool
+    requires { ⌜ (at ≤ 4000000) × (count ≤ 1024) ⌝ }
+    ensures { λ r. ⌜ r ≡ rising (λ v. getD (now (l .entry)) (at + v) 0) count bound ⌝ }
+{
+    let mut v: usize = 0;
+    while v < count {
+        if !state_right(l, at, v, bound) {
+            return false;
+        }
+        v += 1;
+    }
+    true
+}
+
+pub fn states_right(l: &[u16], n: usize, roots: usize, goals: usize) -> bool
+    requires { ⌜ Counted (now l) n × (roots ≡ rootsPlace (now l)) × (goals ≡ goalsPlace (now l)) × (goals ≤ 4000000) × (roots ≤ 4000000) ⌝ }
+    ensures { λ r. ⌜ r ≡ statesRight (now (l .entry)) ⌝ }
+{
+    let states = number(l, 2);
+    if !is_rising(l, roots, wide(number(l, 3)), states) {
+        return false;
+    }
+    is_rising(l, goals, wide(number(l, 3 + n)), states)
+}

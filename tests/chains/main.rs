@@ -1,0 +1,180 @@
+//! Decodes many small chains with the compiled `link_decode` and compares the answer and every place of the three buffers with a plain listing of all
+//! paths, written from document 01 alone; then long chains, the bounds on blocks, sections and states, and marked cases 7 and 8.
+
+#[path = "../common/mod.rs"]
+mod common;
+
+mod making;
+mod plain;
+
+use common::archive::{self, Answer, Buffers, Frame};
+use common::merging::section_of;
+use common::tables::{Table, large_tables};
+use common::{Differing, Numbers};
+use std::collections::BTreeMap;
+
+#[derive(Default)]
+struct Tally {
+    chains: usize,
+    outcomes: BTreeMap<u32, usize>,
+    ties: usize,
+    with_erasures: usize,
+}
+
+impl Tally {
+    /// Compares the compiled answer and buffers with the plain ones.
+    fn compare(&mut self, differing: &mut Differing, frame: &Frame, lengths: [usize; 3], small: bool) -> Answer {
+        let mut wanted = making::buffers(lengths);
+        let mut got = wanted.clone();
+        let answer = match plain::blocks_of(frame, &wanted) {
+            Ok(blocks) => {
+                let found = plain::by_words(&blocks, frame.start, frame.end);
+                if small {
+                    let listed = plain::by_paths(&blocks, frame.start, frame.end);
+                    differing.compare(&listed, &found, || format!("the two plain ways: {frame:?}"));
+                }
+                self.ties += (found.least > 1) as usize;
+                self.with_erasures += frame.erased.iter().any(|&m| m != 0) as usize;
+                plain::write(&found, &mut wanted)
+            }
+            Err(answer) => answer,
+        };
+        let given = archive::decode(frame, &mut got);
+        self.chains += 1;
+        *self.outcomes.entry(answer.number).or_default() += 1;
+        differing.compare(&(&answer, wanted), &(&given, got), || format!("{frame:?}"));
+        answer
+    }
+
+    fn report(&self, what: &str) {
+        let Tally {
+            chains,
+            outcomes,
+            ties,
+            with_erasures,
+        } = self;
+        println!("{what}: {chains} chains, outcomes {outcomes:?}, {ties} with ties, {with_erasures} with erasures");
+    }
+}
+
+fn small_chains(differing: &mut Differing, numbers: &mut Numbers) {
+    let (mut right, mut spoiled) = (Tally::default(), Tally::default());
+    for _ in 0..10_000 {
+        let k = numbers.from_to(1, 3);
+        let mut frame = making::chain(k, 5, 2000, numbers);
+        let mut lengths = making::lengths_for(frame.indices.len(), numbers);
+        right.compare(differing, &frame, lengths, true);
+        for _ in 0..numbers.from_to(1, 3) {
+            making::spoil(&mut frame, &mut lengths, numbers);
+            spoiled.compare(differing, &frame, lengths, true);
+        }
+    }
+    right.report("small chains");
+    spoiled.report("small chains with one to three faults");
+}
+
+fn long_chains(differing: &mut Differing, numbers: &mut Numbers) {
+    let mut tally = Tally::default();
+    for _ in 0..200 {
+        let k = numbers.from_to(1, 16);
+        let blocks = numbers.from_to(6, 256);
+        let frame = making::chain(k, blocks, usize::MAX, numbers);
+        let lengths = making::lengths_for(blocks, numbers);
+        tally.compare(differing, &frame, lengths, false);
+    }
+    tally.report("long chains");
+}
+
+/// Chains over the largest sections that merging leaves, from every state.
+fn large_sections(differing: &mut Differing, numbers: &mut Numbers) {
+    let mut tally = Tally::default();
+    for table in large_tables() {
+        for start in 0..table.states {
+            let mut frame = copies(&table, 1, 6, 0);
+            (frame.start, frame.end) = (start, numbers.below(table.states as usize) as u8);
+            for received in &mut frame.received {
+                *received = table.words[numbers.below(1024)].1 ^ numbers.below(2) as u16;
+            }
+            tally.compare(differing, &frame, [384, 6, 6], false);
+        }
+    }
+    tally.report("sections of 1,024 words");
+}
+
+/// A table of one symbol between 64 states, each leading to two, for the bounds on states.
+fn wide_table() -> Table {
+    let words = (0..64).flat_map(|s| [(s, 0, 63 - s), (s, 1, s)]).collect();
+    Table {
+        q: 2,
+        n: 1,
+        states: 64,
+        words,
+    }
+}
+
+/// A chain over copies of one section, all blocks received alike.
+fn copies(table: &Table, k: usize, blocks: usize, received: u16) -> Frame {
+    Frame {
+        sections: section_of(table).repeat(k),
+        k,
+        indices: (0..blocks).map(|b| (b % k) as u8).collect(),
+        received: vec![received; blocks],
+        erased: vec![0; blocks],
+        start: 63,
+        end: 0,
+    }
+}
+
+fn bounds(differing: &mut Differing) {
+    let mut tally = Tally::default();
+    let table = wide_table();
+    let lengths = [64 * 257 + 3, 260, 259];
+    for (k, blocks, start, end, number, value) in [
+        (1, 256, 63, 0, 0, 1),
+        (1, 257, 63, 0, 9, 257),
+        (16, 256, 63, 63, 0, 0),
+        (17, 256, 63, 0, 8, 17),
+        (16, 3, 64, 0, 9, 3),
+        (16, 3, 0, 64, 9, 3),
+        (16, 0, 63, 0, 9, 0),
+    ] {
+        let mut frame = copies(&table, k, blocks, 1);
+        (frame.start, frame.end) = (start, end);
+        let answer = tally.compare(differing, &frame, lengths, false);
+        differing.compare(&Answer::new(number, &[value]), &answer, || "a bound".to_string());
+    }
+    tally.report("256 and 257 blocks, 16 and 17 sections, states 63 and 64");
+}
+
+/// Marked cases 7 and 8, with their answers as document 01 has them.
+fn marked_cases(differing: &mut Differing) {
+    let table = Table {
+        q: 2,
+        n: 2,
+        states: 1,
+        words: vec![(0, 0, 0), (0, 5, 0)],
+    };
+    for (received, erased, labels) in [(vec![1, 5], vec![0, 0], vec![0, 5]), (vec![0], vec![1], vec![0])] {
+        let mut frame = copies(&table, 1, labels.len(), 0);
+        (frame.received, frame.erased, frame.start) = (received, erased, 0);
+        let mut got = Buffers::new(64 * labels.len(), labels.len(), labels.len());
+        let answer = archive::decode(&frame, &mut got);
+        let goals = vec![0; labels.len()];
+        let wanted = (Answer::new(0, &[1]), labels, goals, 1);
+        let given = (answer, got.labels, got.goals, got.costs[0]);
+        differing.compare(&wanted, &given, || format!("a marked case: {frame:?}"));
+        Tally::default().compare(differing, &frame, [64 * wanted.1.len() + 5, 4, 5], true);
+    }
+    println!("marked cases 7 and 8");
+}
+
+fn main() {
+    let mut numbers = Numbers::new();
+    let mut differing = Differing::default();
+    small_chains(&mut differing, &mut numbers);
+    long_chains(&mut differing, &mut numbers);
+    large_sections(&mut differing, &mut numbers);
+    bounds(&mut differing);
+    marked_cases(&mut differing);
+    differing.finish();
+}

@@ -1,0 +1,70 @@
+//! What the running programs share: calls of the kit's archive, small tables, and document 01's merging and sections written plainly.
+#![allow(dead_code)]
+
+pub mod archive;
+pub mod merging;
+pub mod sections;
+pub mod tables;
+
+/// A fixed sequence of numbers with no pattern (xorshift).
+pub struct Numbers(u64);
+
+impl Numbers {
+    pub fn new() -> Numbers {
+        Numbers(2_685_821_657_736_338_717)
+    }
+
+    fn next(&mut self) -> u64 {
+        self.0 ^= self.0 << 13;
+        self.0 ^= self.0 >> 7;
+        self.0 ^= self.0 << 17;
+        self.0
+    }
+
+    /// A number below `bound`.
+    pub fn below(&mut self, bound: usize) -> usize {
+        (self.next() % bound as u64) as usize
+    }
+
+    /// A number from `low` to `high`.
+    pub fn from_to(&mut self, low: usize, high: usize) -> usize {
+        low + self.below(high - low + 1)
+    }
+
+    pub fn one_in(&mut self, count: usize) -> bool {
+        self.below(count) == 0
+    }
+
+    /// Puts `list` into some order.
+    pub fn shuffle<T>(&mut self, list: &mut [T]) {
+        for i in 1..list.len() {
+            list.swap(i, self.below(i + 1));
+        }
+    }
+}
+
+/// Says what differs, for the first few differences only, and ends the program with 1 if there are any.
+#[derive(Default)]
+pub struct Differing {
+    pub comparisons: usize,
+    pub differing: usize,
+}
+
+impl Differing {
+    pub fn compare<T: PartialEq + std::fmt::Debug>(&mut self, wanted: &T, got: &T, what: impl FnOnce() -> String) {
+        self.comparisons += 1;
+        if wanted != got {
+            self.differing += 1;
+            if self.differing <= 3 {
+                println!("differs: {}\n  wanted {wanted:?}\n  got {got:?}", what());
+            }
+        }
+    }
+
+    pub fn finish(&self) {
+        println!("{} comparisons, {} differing", self.comparisons, self.differing);
+        if self.differing != 0 {
+            std::process::exit(1);
+        }
+    }
+}

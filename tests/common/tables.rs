@@ -1,0 +1,135 @@
+//! Small tables: their files, and the many that the programs run over.
+
+use super::Numbers;
+use std::collections::BTreeSet;
+
+/// Root, label, goal: their order is the words' order.
+pub type Word = (u8, u16, u8);
+
+#[derive(Clone, Debug)]
+pub struct Table {
+    pub q: u8,
+    pub n: u8,
+    pub states: u8,
+    pub words: Vec<Word>,
+}
+
+impl Table {
+    /// Document 01's table file.
+    pub fn file(&self) -> Vec<u8> {
+        let mut file = vec![self.q, self.n, self.states];
+        file.extend((self.words.len() as u16).to_le_bytes());
+        file.extend(self.words.iter().flat_map(|w| [w.0, w.2]));
+        file.extend(self.words.iter().flat_map(|w| w.1.to_le_bytes()));
+        file
+    }
+
+    /// W·(n+1)
+    pub fn map_length(&self) -> usize {
+        self.words.len() * (self.n as usize + 1)
+    }
+}
+
+/// The symbols of a label, the first one first.
+pub fn symbols(label: u16, n: u8) -> Vec<u16> {
+    (0..n).rev().map(|k| label >> (2 * k) & 3).collect()
+}
+
+/// All words of q, n, S, ascending.
+pub fn all_words(q: u8, n: u8, states: u8) -> Vec<Word> {
+    let good = |l: &u16| symbols(*l, n).iter().all(|&s| s < q as u16);
+    let labels: Vec<u16> = (0..=(4u32.pow(n as u32) - 1) as u16).filter(good).collect();
+    let mut words = Vec::new();
+    for root in 0..states {
+        for &label in &labels {
+            words.extend((0..states).map(|goal| (root, label, goal)));
+        }
+    }
+    words
+}
+
+/// Every table of q, n, S but the empty one.
+pub fn all_tables(q: u8, n: u8, states: u8) -> impl Iterator<Item = Table> {
+    let all = all_words(q, n, states);
+    (1u64..1 << all.len()).map(move |chosen| {
+        let taken = (0..all.len()).filter(|i| chosen >> i & 1 == 1);
+        let words = taken.map(|i| all[i]).collect();
+        Table { q, n, states, words }
+    })
+}
+
+/// A table of q, n, S that is rectangular by its making, as each word goes through vertices drawn for it. It can be empty.
+pub fn drawn(q: u8, n: u8, states: u8, numbers: &mut Numbers) -> Table {
+    let width = numbers.from_to(1, 4);
+    let keep = numbers.from_to(1, 4);
+    let marks: Vec<usize> = (0..=n).map(|_| numbers.below(1000)).collect();
+    let passes = |w: &Word| {
+        let mut at = w.0 as usize % width;
+        for (t, s) in symbols(w.1, n).into_iter().enumerate() {
+            at = (at + s as usize * (marks[t] % width)) % width;
+        }
+        at == w.2 as usize % width && (w.0 as usize + w.2 as usize + marks[0]) % keep == 0
+    };
+    let words = all_words(q, n, states).into_iter().filter(passes).take(1024).collect();
+    Table { q, n, states, words }
+}
+
+/// A table of few words taken anywhere.
+pub fn scattered(q: u8, n: u8, states: u8, numbers: &mut Numbers) -> Table {
+    let all = all_words(q, n, states);
+    let count = numbers.from_to(1, 12);
+    let places: BTreeSet<usize> = (0..count).map(|_| numbers.below(all.len())).collect();
+    let words = places.into_iter().map(|i| all[i]).collect();
+    Table { q, n, states, words }
+}
+
+/// A table, and the same with one word out; nothing of a table too small for that.
+fn with_one_out(table: Table, numbers: &mut Numbers) -> Vec<Table> {
+    if table.words.len() < 2 {
+        return Vec::new();
+    }
+    let mut holed = table.clone();
+    holed.words.remove(numbers.below(table.words.len()));
+    vec![table, holed]
+}
+
+/// The small tables of each kind that the enumerator merges and the next program reads back.
+pub struct Small {
+    pub all: Vec<Table>,
+    pub drawn: Vec<Table>,
+    pub deep: Vec<Table>,
+    pub scattered: Vec<Table>,
+}
+
+pub fn small_tables(numbers: &mut Numbers) -> Small {
+    let sizes = [(1, 1), (2, 1), (1, 2), (2, 2)];
+    let all = sizes.iter().flat_map(|&(n, states)| all_tables(2, n, states)).collect();
+    let (mut wide, mut deep, mut few) = (Vec::new(), Vec::new(), Vec::new());
+    for round in 0..300 {
+        for q in [3, 4] {
+            wide.extend(with_one_out(drawn(q, 3, 3, numbers), numbers));
+            few.push(scattered(q, 3, 3, numbers));
+        }
+        if round % 5 == 0 {
+            deep.extend(with_one_out(drawn(2, 6, 2, numbers), numbers));
+        }
+    }
+    Small {
+        all,
+        drawn: wide,
+        deep,
+        scattered: few,
+    }
+}
+
+/// Tables of 1,024 words with n 8 and with 64 states, for the largest sections that merging leaves.
+pub fn large_tables() -> [Table; 2] {
+    let mut long = all_words(2, 8, 4);
+    long.retain(|w| w.0 == w.2);
+    let mut wide = all_words(4, 2, 64);
+    wide.retain(|w| w.0 as usize / 4 == w.2 as usize % 16 && w.1 as usize >> 2 == w.2 as usize / 16);
+    [(2, 8, 4, long), (4, 2, 64, wide)].map(|(q, n, states, mut words)| {
+        words.truncate(1024);
+        Table { q, n, states, words }
+    })
+}

@@ -1,0 +1,162 @@
+//! One call of the archive on a large argument, named by the first word after the program's name, for counting the instructions that it takes:
+//! `valgrind --tool=callgrind --callgrind-out-file=/dev/null --toggle-collect=link_merge target/tests/measure merge-sparse`.
+
+#[path = "../common/mod.rs"]
+mod common;
+
+use common::Numbers;
+use common::archive::{self, Answer, Buffers, Frame};
+use common::merging::section_of;
+use common::sections::{Edge, Section, usable};
+use common::tables::{Table, Word, large_tables};
+use std::collections::BTreeSet;
+
+fn merge(table: &Table) -> Answer {
+    let mut map = vec![0; 9 * 1024];
+    let mut section = vec![0; 30_000];
+    archive::merge(&table.file(), &mut map, &mut section)
+}
+
+/// 1,024 words of q 4, n 8, S 64 with all beginnings of two symbols, each with an ending of its own: as many edges as a table can have.
+fn sparse(numbers: &mut Numbers) -> Table {
+    let mut endings: BTreeSet<(u16, u8)> = BTreeSet::new();
+    while endings.len() < 1024 {
+        endings.insert((numbers.below(4096) as u16, numbers.below(64) as u8));
+    }
+    let mut endings: Vec<(u16, u8)> = endings.into_iter().collect();
+    numbers.shuffle(&mut endings);
+    let word = |(i, &(rest, goal)): (usize, &(u16, u8))| ((i / 16) as u8, (i % 16) as u16 * 4096 + rest, goal);
+    Table {
+        q: 4,
+        n: 8,
+        states: 64,
+        words: endings.iter().enumerate().map(word).collect(),
+    }
+}
+
+/// 1,024 words of which depth 1 refuses only the last three. Before them stand beginnings with the same `run` endings, and in front of these as many words
+/// with endings of their own as there is room for.
+fn refused_late(beginnings: usize, run: usize) -> Table {
+    let mut words: Vec<Word> = (0..1021 - beginnings * run).map(|i| (0, i as u16, 1)).collect();
+    for b in 0..beginnings {
+        words.extend((0..run).map(|e| ((1 + b / 4) as u8, (b % 4 * 16_384 + e) as u16, 0)));
+    }
+    words.extend([(62, 16_000, 9), (62, 16_001, 9), (63, 16_000, 9)]);
+    Table {
+        q: 4,
+        n: 8,
+        states: 64,
+        words,
+    }
+}
+
+/// Beginnings with the same `run` endings, the last of them with one ending more behind these: its first word is the first of a witness, its last one
+/// the second.
+fn refused_at_one_more(beginnings: usize, run: usize) -> Table {
+    let mut words: Vec<Word> = Vec::new();
+    for b in 0..beginnings {
+        words.extend((0..run).map(|e| (b as u8, e as u16, 0)));
+    }
+    words.push((beginnings as u8 - 1, run as u16, 0));
+    Table {
+        q: 4,
+        n: 8,
+        states: 64,
+        words,
+    }
+}
+
+/// Case 9: the rate 2/3 section of document 004.
+fn case_9() -> Table {
+    let bit = |x: u16, k: u16| x >> k & 1;
+    let mut words: Vec<Word> = Vec::new();
+    for bits in 0..16u16 {
+        let (r1, r2, g1, g2) = (bit(bits, 3), bit(bits, 2), bit(bits, 1), bit(bits, 0));
+        let v = (r1 * 0b111) ^ (r2 * 0b001) ^ (g1 * 0b101) ^ (g2 * 0b110);
+        let label = bit(v, 2) << 4 | bit(v, 1) << 2 | bit(v, 0);
+        words.push(((2 * r1 + r2) as u8, label, (2 * g1 + g2) as u8));
+    }
+    words.sort();
+    Table {
+        q: 2,
+        n: 3,
+        states: 4,
+        words,
+    }
+}
+
+/// From each vertex by four symbols to four vertices of their own, and from each four vertices to one.
+fn spread(froms: u16) -> Vec<Edge> {
+    (0..4 * froms).map(|v| (v / 4, v % 4, v)).collect()
+}
+
+fn gather(froms: u16) -> Vec<Edge> {
+    (0..froms).map(|v| (v, v % 4, v / 4)).collect()
+}
+
+/// A usable section with as many edges as the bounds allow: 256 or 1,024 vertices at depths 2 to 6, and 1,024 edges a step between depths 1 and 7.
+fn largest(vertices: u16) -> Section {
+    let symbols = 1024 / vertices;
+    let edges = (0..vertices).flat_map(|v| (0..symbols).map(move |s| (v, s, (v + s) % vertices)));
+    let between: Vec<Edge> = edges.collect();
+    let mut steps = vec![between; 8];
+    (steps[0], steps[7]) = (spread(64), gather(256));
+    if vertices == 1024 {
+        (steps[1], steps[6]) = (spread(256), gather(1024));
+    }
+    let states: Vec<u16> = (0..64).collect();
+    let mut counts = vec![vertices; 9];
+    (counts[0], counts[1], counts[7], counts[8]) = (64, 256, 256, 64);
+    Section {
+        q: 4,
+        n: 8,
+        states: 64,
+        vertices: counts,
+        roots: states.clone(),
+        goals: states,
+        steps,
+    }
+}
+
+/// Reads a section back, with zeros behind it up to `length` numbers.
+fn read_back(mut numbers: Vec<u16>, length: usize) -> Answer {
+    numbers.resize(numbers.len().max(length), 0);
+    archive::read_back(&numbers, &mut vec![0; 5000])
+}
+
+/// Decodes blocks of one section from its last root to its last goal, for which the forward pass looks at most edges.
+fn decode(numbers: Vec<u16>, blocks: usize) -> Answer {
+    let (section, _) = usable(&numbers).expect("a usable section");
+    println!("{} edges, {blocks} blocks", section.steps.concat().len());
+    let frame = Frame {
+        sections: numbers,
+        k: 1,
+        indices: vec![0; blocks],
+        received: vec![1; blocks],
+        erased: vec![0; blocks],
+        start: section.roots[section.roots.len() - 1] as u8,
+        end: section.goals[section.goals.len() - 1] as u8,
+    };
+    archive::decode(&frame, &mut Buffers::new(64 * blocks, blocks, blocks))
+}
+
+fn main() {
+    let words: Vec<String> = std::env::args().skip(1).collect();
+    let number = |place: usize| words[place].parse::<usize>().expect("a number");
+    let [long, wide] = large_tables();
+    let answer = match words[0].as_str() {
+        "merge-long" => merge(&long),
+        "merge-wide" => merge(&wide),
+        "merge-sparse" => merge(&sparse(&mut Numbers::new())),
+        "merge-refused" => merge(&refused_late(number(1), number(2))),
+        "merge-one-more" => merge(&refused_at_one_more(number(1), number(2))),
+        "read-long" => read_back(section_of(&long), 0),
+        "read-largest" => read_back(largest(number(1) as u16).numbers(), number(2)),
+        "decode-case-9" => decode(section_of(&case_9()), number(1)),
+        "decode-wide" => decode(section_of(&wide), number(1)),
+        "decode-long" => decode(section_of(&long), number(1)),
+        "decode-largest" => decode(largest(number(2) as u16).numbers(), number(1)),
+        other => panic!("{other} names no call"),
+    };
+    println!("{answer:?}");
+}
