@@ -1,19 +1,23 @@
 -- The prices of a step, written four at a time.
 use mathlib.Core.Path.{_≡_, sym, ap, subst, _∙_}
 use mathlib.Core.List.{List}
-use Prim.Native.Nat.{ℕ, zero, suc, _+_, _*_, _≤_, _<_}
-use native.Mathlib.Nat.{not-suc-le-zero, add-zero}
+use Prim.Native.Nat.{ℕ, zero, suc, _+_, _-_, _*_, _^_, _≤_, _<_}
+use native.Mathlib.Nat.{add-zero, mul-assoc, pow-suc, pow-le-pow-right, mul-le-mul}
 use native.Mathlib.Decide.{ℕ-discrete}
 use native.Mathlib.Omega.{arith}
 use mathlib.Core.Bool.{Bool}
+use lib.Dec.{lit<}
 use lib.ListN.{length, getD, set, length-set}
 use lib.Seq.{getD-set-same, getD-set-other}
 use Rattle.trellis.specs.Label.{symbol}
+use Rattle.paths.specs.Ranked.{ranked, rankedCost}
 use Rattle.block.specs.Received.{erasedAt, costOver, symbolCost, Prices}
 use Rattle.block.specs.Loops.{InPrices}
 
-pub prices-start : {n received mask : ℕ} {prices : List ℕ} → length prices ≡ 32 → InPrices n received mask prices 0
-prices-start h = record { t-le = omega arith; long = h; at = λ u a l. absurd (not-suc-le-zero l) }
+pub prices-start : {n received mask : ℕ} {prices : List ℕ} → length prices ≡ 32 → InPrices n received mask prices 65536 n
+prices-start {n} h =
+    let e : n - n ≡ 0 = omega arith in
+    record { t-le = omega arith; long = h; weightIs = sym (ap (λ k. 4 ^ k * 65536) e); light = omega arith; at = λ u a k l. absurd (omega arith) }
 
 -- four places written, one behind another
 abbrev four : List ℕ → ℕ → ℕ → ℕ → ℕ → ℕ → List ℕ
@@ -41,40 +45,68 @@ module _ (l : List ℕ) (i w x y z : ℕ) (h : i + 3 < length l) where
   four-3 : getD (four l i w x y z) (i + 3) 0 ≡ z
   four-3 = getD-set-same (set (set (set l i w) (i + 1) x) (i + 2) y) (i + 3) z 0 (simp length-set (omega arith))
 
-  four-other : (j : ℕ) → j < i → getD (four l i w x y z) j 0 ≡ getD l j 0
+  four-other : (j : ℕ) → i + 3 < j → getD (four l i w x y z) j 0 ≡ getD l j 0
   four-other j k =
       getD-set-other (set (set (set l i w) (i + 1) x) (i + 2) y) (i + 3) j z 0 (λ e. absurd (omega arith))
       ∙ getD-set-other (set (set l i w) (i + 1) x) (i + 2) j y 0 (λ e. absurd (omega arith))
       ∙ getD-set-other (set l i w) (i + 1) j x 0 (λ e. absurd (omega arith))
       ∙ getD-set-other l i j w 0 (λ e. absurd (omega arith))
 
-pub prices-more : {n received mask t r w x y z : ℕ} {prices : List ℕ} {erased : Bool} → n ≤ 8 → InPrices n received mask prices t → t < n
-    → erased ≡ erasedAt n t mask → r ≡ symbol n t received
-    → w ≡ costOver erased r 0 → x ≡ costOver erased r 1 → y ≡ costOver erased r 2 → z ≡ costOver erased r 3
-    → InPrices n received mask (four prices (4 * t) w x y z) (t + 1)
-unfolding symbolCost
-prices-more {n} {received} {mask} {t} {r} {w} {x} {y} {z} {prices} {erased} few I h p q a b c d =
-    record { t-le = omega arith; long = simp length-set (I .long); at = at }
+-- what is written for the symbol a
+price-is : (n t cost a weight : ℕ) → weight ≡ 4 ^ (n - suc t) * 65536 → cost * 4294967296 + a * weight ≡ ranked cost (a * 4 ^ (n - suc t)) 0
+unfolding ranked
+price-is n t cost a weight e =
+    let m : a * (4 ^ (n - suc t) * 65536) ≡ a * 4 ^ (n - suc t) * 65536 = sym (mul-assoc a (4 ^ (n - suc t)) 65536) in
+    ap (λ x. cost * 4294967296 + a * x) e ∙ omega (arith, m)
+
+pub prices-more : {n received mask t r weight c₀ c₁ c₂ c₃ w x y z : ℕ} {prices : List ℕ} {erased : Bool} → n ≤ 8 → InPrices n received mask prices weight t → 0 < t
+    → erased ≡ erasedAt n (t - 1) mask → r ≡ symbol n (t - 1) received
+    → c₀ ≡ costOver erased r 0 → w ≡ c₀ * 4294967296 + 0 * weight → c₁ ≡ costOver erased r 1 → x ≡ c₁ * 4294967296 + 1 * weight
+    → c₂ ≡ costOver erased r 2 → y ≡ c₂ * 4294967296 + 2 * weight → c₃ ≡ costOver erased r 3 → z ≡ c₃ * 4294967296 + 3 * weight
+    → InPrices n received mask (four prices (4 * (t - 1)) w x y z) (weight * 4) (t - 1)
+unfolding symbolCost rankedCost
+prices-more {n} {received} {mask} {t} {r} {weight} {w = w} {x} {y} {z} {prices} {erased} few I h p q c₀-is a c₁-is b c₂-is c c₃-is d =
+    record { t-le = omega (arith, I .t-le); long = simp length-set (I .long); weightIs = weights; light = lighter; at = at }
   where
-    room : 4 * t + 3 < length prices
-    room = omega (arith, I .long)
+    room : 4 * (t - 1) + 3 < length prices
+    room = omega (arith, I .long, I .t-le)
 
-    is : (s : ℕ) → costOver erased r s ≡ symbolCost n received mask t s
-    is s = ap (λ e. costOver e r s) p ∙ ap (λ k. costOver (erasedAt n t mask) k s) q
+    weights : weight * 4 ≡ 4 ^ (n - (t - 1)) * 65536
+    weights =
+        let e : n - (t - 1) ≡ suc (n - t) = omega (arith, I .t-le) in
+        omega (arith, I .weightIs, ap (λ k. 4 ^ k) e, pow-suc 4 (n - t))
 
-    here : (s : ℕ) → s < 4 → getD (four prices (4 * t) w x y z) (4 * t + s) 0 ≡ symbolCost n received mask t s
-    here zero l = rw (add-zero (4 * t)) (four-0 prices (4 * t) w x y z room ∙ a ∙ is 0)
-    here (suc zero) l = four-1 prices (4 * t) w x y z room ∙ b ∙ is 1
-    here (suc (suc zero)) l = four-2 prices (4 * t) w x y z room ∙ c ∙ is 2
-    here (suc (suc (suc zero))) l = four-3 prices (4 * t) w x y z room ∙ d ∙ is 3
+    lighter : weight * 4 ≤ 4294967296
+    lighter =
+        let m : 4 ^ (n - (t - 1)) ≤ 4 ^ 8 = pow-le-pow-right (lit< tt) (let k : n - (t - 1) ≤ 8 = omega arith in k) in
+        omega (arith, weights)
+
+    heavy : weight ≡ 4 ^ (n - suc (t - 1)) * 65536
+    heavy = let e : n - t ≡ n - suc (t - 1) = omega arith in I .weightIs ∙ ap (λ k. 4 ^ k * 65536) e
+
+    is : (s : ℕ) {k : ℕ} → k ≡ costOver erased r s → k * 4294967296 + s * weight ≡ rankedCost n (symbolCost n received mask) (t - 1) s
+    is s {k} k-is =
+        price-is n (t - 1) k s weight heavy
+        ∙ ap (λ k. ranked k (s * 4 ^ (n - suc (t - 1))) 0) (k-is ∙ ap (λ e. costOver e r s) p ∙ ap (λ k. costOver (erasedAt n (t - 1) mask) k s) q)
+
+    here : (s : ℕ) → s < 4 → getD (four prices (4 * (t - 1)) w x y z) (4 * (t - 1) + s) 0 ≡ rankedCost n (symbolCost n received mask) (t - 1) s
+    here zero l = rw (add-zero (4 * (t - 1))) (four-0 prices (4 * (t - 1)) w x y z room ∙ a ∙ is 0 c₀-is)
+    here (suc zero) l = four-1 prices (4 * (t - 1)) w x y z room ∙ b ∙ is 1 c₁-is
+    here (suc (suc zero)) l = four-2 prices (4 * (t - 1)) w x y z room ∙ c ∙ is 2 c₂-is
+    here (suc (suc (suc zero))) l = four-3 prices (4 * (t - 1)) w x y z room ∙ d ∙ is 3 c₃-is
     here (suc (suc (suc (suc s)))) l = absurd (omega arith)
 
-    at : (u s : ℕ) → u < t + 1 → s < 4 → getD (four prices (4 * t) w x y z) (4 * u + s) 0 ≡ symbolCost n received mask u s
-    at u s l k = go (ℕ-discrete u t)
+    at : (u s : ℕ) → t - 1 ≤ u → u < n → s < 4 → getD (four prices (4 * (t - 1)) w x y z) (4 * u + s) 0 ≡ rankedCost n (symbolCost n received mask) u s
+    at u s l m k = go (ℕ-discrete u (t - 1))
       where
-        go : Dec (u ≡ t) → getD (four prices (4 * t) w x y z) (4 * u + s) 0 ≡ symbolCost n received mask u s
-        go (yes e) = subst (λ v. getD (four prices (4 * t) w x y z) (4 * v + s) 0 ≡ symbolCost n received mask v s) (sym e) (here s k)
-        go (no e) = four-other prices (4 * t) w x y z room (4 * u + s) (omega arith) ∙ I .at u s (omega arith) k
+        go : Dec (u ≡ t - 1) → getD (four prices (4 * (t - 1)) w x y z) (4 * u + s) 0 ≡ rankedCost n (symbolCost n received mask) u s
+        go (yes e) = subst (λ v. getD (four prices (4 * (t - 1)) w x y z) (4 * v + s) 0 ≡ rankedCost n (symbolCost n received mask) v s) (sym e) (here s k)
+        go (no e) = four-other prices (4 * (t - 1)) w x y z room (4 * u + s) (omega arith) ∙ I .at u s (omega arith) m k
 
-pub prices-end : {n received mask t : ℕ} {prices : List ℕ} → InPrices n received mask prices t → n ≤ t → Prices n received mask prices
-prices-end I h = record { at = λ u a k. I .at u a (omega (arith, I .t-le)) }
+pub prices-end : {n received mask weight t : ℕ} {prices : List ℕ} → InPrices n received mask prices weight t → t ≤ 0 → Prices n received mask prices
+prices-end I h = record { at = λ u a k. I .at u a (omega arith) k }
+
+-- ---- the size of a price
+
+pub symbol-least : (symbol weight : ℕ) → symbol ≤ 3 → weight ≤ 4294967296 → symbol * weight ≤ 12884901888
+symbol-least symbol weight h k = let m : symbol * weight ≤ 3 * 4294967296 = mul-le-mul h k in m

@@ -2,11 +2,12 @@
 use mathlib.Core.Path.{_≡_}
 use mathlib.Core.Bool.{cond}
 use mathlib.Core.List.{List}
-use Prim.Native.Nat.{ℕ, _+_, _*_, _^_, _≤_, _<_}
+use Prim.Native.Nat.{ℕ, _+_, _-_, _*_, _^_, _≤_, _<_}
 use lib.Dec.{T}
 use lib.ListN.{length, getD}
 use Rattle.trellis.specs.Lists.{one-if, sum}
 use Rattle.trellis.specs.Label.{symbol}
+use Rattle.paths.specs.Ranked.{rankedCost}
 use Rattle.block.specs.Received.{erasedAt, symbolCost, stray}
 
 -- no symbol before t is erased and not 0
@@ -14,11 +15,13 @@ pub record InStray (n received mask t : ℕ) : Type 0 where
   pub t-le : t ≤ n
   pub none : (u : ℕ) → u < t → T (stray n received mask u) → ⊥
 
--- the costs of the first t symbols are there
-pub record InPrices (n received mask : ℕ) (prices : List ℕ) (t : ℕ) : Type 0 where
+-- what the symbols from t on add is there, and the next one's weight is known
+pub record InPrices (n received mask : ℕ) (prices : List ℕ) (weight t : ℕ) : Type 0 where
   pub t-le : t ≤ n
   pub long : length prices ≡ 32
-  pub at : (u a : ℕ) → u < t → a < 4 → getD prices (4 * u + a) 0 ≡ symbolCost n received mask u a
+  pub weightIs : weight ≡ 4 ^ (n - t) * 65536
+  pub light : weight ≤ 4294967296
+  pub at : (u a : ℕ) → t ≤ u → u < n → a < 4 → getD prices (4 * u + a) 0 ≡ rankedCost n (symbolCost n received mask) u a
 
 -- the first t symbols of a label, 0 where they are erased, and how many are
 pub record InHeard (n mask label t heard erased : ℕ) : Type 0 where

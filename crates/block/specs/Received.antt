@@ -8,6 +8,7 @@ use lib.Dec.{T, ltb, eqb}
 use lib.ListN.{getD}
 use Rattle.trellis.specs.Lists.{one-if, sum, first}
 use Rattle.trellis.specs.Label.{symbol, isLabel}
+use Rattle.paths.specs.Ranked.{rankedCost}
 
 -- whether symbol t is erased
 unfoldable pub erasedAt : ℕ → ℕ → ℕ → Bool
@@ -43,6 +44,6 @@ module _ (n received mask : ℕ) where
     pub short : received < 4 ^ n
     pub zero : (t : ℕ) → t < n → T (erasedAt n t mask) → symbol n t received ≡ 0
 
-  -- the array holds the costs of the symbols, four a step
+  -- the array holds what the symbols add, four a step: their costs, ranked by the symbols
   pub record Prices (prices : List ℕ) : Type 0 where
-    pub at : (t a : ℕ) → t < n → a < 4 → getD prices (4 * t + a) 0 ≡ symbolCost t a
+    pub at : (t a : ℕ) → t < n → a < 4 → getD prices (4 * t + a) 0 ≡ rankedCost n symbolCost t a

@@ -65,7 +65,7 @@ pub fn fits(q: u16, n: usize, received: u16, mask: u8) -> bool
 }
 
 fn symbol_cost(erased: bool, received: u16, symbol: u16) -> u32
-    ensures { λ r. ⌜ r ≡ costOver erased received symbol ⌝ }
+    ensures { λ r. ⌜ (r ≡ costOver erased received symbol) × (r ≤ 1) ⌝ }
 {
     if erased {
         return ERASURE_COST;
@@ -73,21 +73,31 @@ fn symbol_cost(erased: bool, received: u16, symbol: u16) -> u32
     if symbol == received { 0 } else { 1 }
 }
 
-// What the symbols cost, four a step.
-pub fn prices(n: usize, received: u16, mask: u8) -> [u32; 32]
+// A cost and, below it, the symbol at its place in the label.
+fn price(cost: u32, symbol: u64, weight: u64) -> u64
+    requires { ⌜ (cost ≤ 1) × (symbol ≤ 3) × (weight ≤ 4294967296) ⌝ }
+    ensures { λ r. ⌜ r ≡ cost * 4294967296 + symbol * weight ⌝ }
+{
+    (cost as u64) * 4294967296 + symbol * weight
+}
+
+// What the symbols add, four a step: the cost ranks first, then the symbol.
+pub fn prices(n: usize, received: u16, mask: u8) -> [u64; 32]
     requires { ⌜ n ≤ 8 ⌝ }
     ensures { λ r. ⌜ Prices n received mask r ⌝ }
 {
-    let mut prices = [0u32; 32];
-    let mut t: usize = 0;
-    while t < n {
+    let mut prices = [0u64; 32];
+    let mut weight: u64 = 65536;
+    let mut t = n;
+    while t > 0 {
+        t -= 1;
         let erased = is_erased(mask, n, t);
         let symbol = label::symbol(received, n, t);
-        prices[4 * t] = symbol_cost(erased, symbol, 0);
-        prices[4 * t + 1] = symbol_cost(erased, symbol, 1);
-        prices[4 * t + 2] = symbol_cost(erased, symbol, 2);
-        prices[4 * t + 3] = symbol_cost(erased, symbol, 3);
-        t += 1;
+        prices[4 * t] = price(symbol_cost(erased, symbol, 0), 0, weight);
+        prices[4 * t + 1] = price(symbol_cost(erased, symbol, 1), 1, weight);
+        prices[4 * t + 2] = price(symbol_cost(erased, symbol, 2), 2, weight);
+        prices[4 * t + 3] = price(symbol_cost(erased, symbol, 3), 3, weight);
+        weight *= 4;
     }
     prices
 }

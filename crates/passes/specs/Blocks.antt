@@ -2,15 +2,20 @@
 -- sections begin. Block by block: its section, its words and their distances, and what the two passes leave.
 use mathlib.Core.Path.{_≡_}
 use mathlib.Core.Bool.{Bool, cond}
-use mathlib.Core.List.{List}
+use mathlib.Core.List.{List, _∷_}
 use Prim.Native.Nat.{ℕ, _+_, _-_, _*_, _≤_, _<_}
 use lib.Dec.{eqb, ltb}
 use lib.ListN.{length, getD, drop}
-use Rattle.trellis.specs.Word.{Word, wordAt}
+use Rattle.trellis.specs.Word.{Word, word, Before, wordAt}
 use Rattle.trellis.specs.Layout.{nOf, vertexCountOf, rootState, goalState, sectionWords}
 use Rattle.paths.specs.Chain.{chainLeast, chainTrace}
-use Rattle.sweep.specs.Rows.{top, Fits}
+use Rattle.paths.proofs.Ordered.{Ordered}
+use Rattle.sweep.specs.Rows.{Fits}
 use Rattle.block.specs.Received.{blockDistance, Clean}
+
+-- no path, in a cost table
+abbrev pub top : ℕ
+top = 4294967295
 
 -- what the passes need to know of a section
 pub record Good (l : List ℕ) : Type 0 where
@@ -19,6 +24,7 @@ pub record Good (l : List ℕ) : Type 0 where
   pub rootsBelow : (v : ℕ) → v < vertexCountOf l 0 → rootState l v < 64
   pub rootsAscend : (u v : ℕ) → u < v → v < vertexCountOf l 0 → rootState l u < rootState l v
   pub goalsBelow : (v : ℕ) → v < vertexCountOf l (nOf l) → goalState l v < 64
+  pub wordsAscend : Ordered Before (sectionWords l)
 
 -- a path may end in the end state
 abbrev pub endsIn : ℕ → ℕ → Bool
@@ -57,12 +63,23 @@ module _ (sections starts indices received erased : List ℕ) where
   pub record Table (end b : ℕ) (costs : List ℕ) : Type 0 where
     pub at : (c s : ℕ) → b ≤ c → c < length indices → s < 64 → getD costs (64 * c + s) 0 ≡ leastFrom end c s
 
-  -- the table is filled from block b on, and places beyond it are as they were
-  pub record Filled (end b : ℕ) (old new : List ℕ) : Type 0 where
+  -- where there is a path from state s before block c, its first word is the one whose label and goal are in this number
+  pub record Pick (end c s pick : ℕ) : Type 0 where
+    pub goalBelow : pick % 65536 < 64
+    pub path : pathFrom end c s ≡ word s (pick / 65536) (pick % 65536) ∷ pathFrom end (suc c) (pick % 65536)
+
+  -- the picks from block b on
+  pub record Picked (end b : ℕ) (picks : List ℕ) : Type 0 where
+    pub long : length picks ≡ 16384
+    pub at : (c s : ℕ) → b ≤ c → c < length indices → s < 64 → leastFrom end c s < top → Pick end c s (getD picks (64 * c + s) 0)
+
+  -- the table is filled from block b on, and places beyond it are as they were; and so are the picks
+  pub record Filled (end b : ℕ) (old new picks : List ℕ) : Type 0 where
     pub b-le : b ≤ length indices
     pub long : length new ≡ length old
     pub table : Table end b new
     pub kept : (i : ℕ) → 64 * length indices ≤ i → getD new i 0 ≡ getD old i 0
+    pub picked : Picked end b picks
 
   -- the labels and goals of the first b words of the path are written, and places beyond them are as they were
   pub record Written (end start b : ℕ) (labels newLabels goals newGoals : List ℕ) : Type 0 where

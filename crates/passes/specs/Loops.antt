@@ -5,29 +5,30 @@ use mathlib.Core.Logic.{_⊎_}
 use mathlib.Core.List.{List}
 use Prim.Native.Nat.{ℕ, suc, _+_, _*_, _≤_, _<_}
 use lib.ListN.{length, getD, drop}
-use Rattle.trellis.specs.Section.{packOnto}
 use Rattle.trellis.specs.Layout.{nOf, vertexCountOf, rootState, goalState, stepEdges}
-use Rattle.paths.specs.Sections.{sectionLeast, sectionTrace}
-use Rattle.sweep.specs.Rows.{top, Priced, Rows}
-use Rattle.block.specs.Received.{symbolCost, blockDistance}
-use Rattle.passes.specs.Blocks.{aheadOf, pathFrom, leastFrom, Written}
+use Rattle.paths.specs.Sections.{sectionLeast}
+use Rattle.paths.specs.Ranked.{topRank, rankedCost, rankedRest}
+use Rattle.sweep.specs.Rows.{Priced, Rows}
+use Rattle.block.specs.Received.{symbolCost}
+use Rattle.passes.specs.Blocks.{top, aheadOf, pathFrom, leastFrom, Written}
 
--- the table has the costs of ending in the goals
+-- the table has what is left to pay behind the goals
 abbrev pub Behind : List ℕ → List ℕ → ℕ → ℕ → ℕ → (ℕ → ℕ) → Type 0
-Behind l costs blocks end b number = (g : ℕ) → g < vertexCountOf l (nOf l) → aheadOf costs blocks end b (goalState l g) ≡ number g
+Behind l costs blocks end b rest = (g : ℕ) → g < vertexCountOf l (nOf l) → aheadOf costs blocks end b (goalState l g) ≡ rest (goalState l g)
 
 -- ---- the rows of a block
 
--- the first g places of row n have the costs of ending there
+-- the first g places of row n have what is left to pay there, ranked by the goals
 pub record InGoals (l costs : List ℕ) (blocks end b : ℕ) (rows : List ℕ) (g : ℕ) : Type 0 where
   pub g-le : g ≤ vertexCountOf l (nOf l)
   pub long : length rows ≡ 9216
-  pub at : (h : ℕ) → h < g → getD rows (1024 * nOf l + h) 0 ≡ aheadOf costs blocks end b (goalState l h)
+  pub at : (h : ℕ) → h < g → getD rows (1024 * nOf l + h) 0 ≡ rankedRest (aheadOf costs blocks end b) (goalState l h)
 
--- all rows are done, whatever the symbols cost
+-- all rows are done, whatever the symbols add
 pub record RowsOver (l prices costs : List ℕ) (blocks end b : ℕ) (rows : List ℕ) : Type 0 where
   pub long : length rows ≡ 9216
-  pub done : (cost : ℕ → ℕ → ℕ) (number : ℕ → ℕ) → Priced l prices cost → Behind l costs blocks end b number → Rows l cost number 0 rows
+  pub done : (cost : ℕ → ℕ → ℕ) (rest : ℕ → ℕ) → Priced l prices cost → Behind l costs blocks end b rest
+      → Rows l cost (λ g. rankedRest rest (goalState l g)) 0 rows
 
 -- ---- the table of a block
 
@@ -38,27 +39,32 @@ pub record InNone (b : ℕ) (old new : List ℕ) (s : ℕ) : Type 0 where
   pub none : (u : ℕ) → u < s → getD new (64 * b + u) 0 ≡ top
   pub kept : (i : ℕ) → (i < 64 * b) ⊎ (64 * b + 64 ≤ i) → getD new i 0 ≡ getD old i 0
 
--- the first v roots have their costs, and a state that is none of them has what it had
-pub record InRoots (l rows : List ℕ) (b : ℕ) (old new : List ℕ) (v : ℕ) : Type 0 where
+-- the first v roots have their costs and picks, and a state that is none of them has what it had
+pub record InRoots (l rows : List ℕ) (b : ℕ) (old new oldPicks picks : List ℕ) (v : ℕ) : Type 0 where
   pub v-le : v ≤ vertexCountOf l 0
   pub long : length new ≡ length old
-  pub root : (u : ℕ) → u < v → getD new (64 * b + rootState l u) 0 ≡ getD rows u 0
+  pub picksLong : length picks ≡ length oldPicks
+  pub root : (u : ℕ) → u < v → getD new (64 * b + rootState l u) 0 ≡ getD rows u 0 / 4294967296
+  pub pick : (u : ℕ) → u < v → getD picks (64 * b + rootState l u) 0 ≡ getD rows u 0 % 4294967296
   pub other : (i : ℕ) → ((u : ℕ) → u < v → 64 * b + rootState l u ≡ i → ⊥) → getD new i 0 ≡ getD old i 0
+  pub otherPick : (i : ℕ) → ((u : ℕ) → u < v → 64 * b + rootState l u ≡ i → ⊥) → getD picks i 0 ≡ getD oldPicks i 0
 
--- the least distances from the states before the block, its symbols costing what the received label and the mask say
-pub record BlockTable (l : List ℕ) (received mask : ℕ) (blocks end b : ℕ) (old new : List ℕ) : Type 0 where
+-- the least distance from vertex v of depth 0 and the first word that has it, in one number
+abbrev pub rankFrom : List ℕ → ℕ → ℕ → (ℕ → ℕ) → ℕ → ℕ
+rankFrom l received mask rest v =
+    sectionLeast (stepEdges l) (rankedCost (nOf l) (symbolCost (nOf l) received mask)) topRank (λ g. rankedRest rest (goalState l g)) (nOf l) 0 v
+
+-- the least distances from the states before the block, its symbols costing what the received label and the mask say, and the picks
+pub record BlockTable (l : List ℕ) (received mask : ℕ) (blocks end b : ℕ) (old new oldPicks picks : List ℕ) : Type 0 where
   pub long : length new ≡ length old
-  pub root : (number : ℕ → ℕ) → Behind l old blocks end (suc b) number → (v : ℕ) → v < vertexCountOf l 0
-      → getD new (64 * b + rootState l v) 0 ≡ sectionLeast (stepEdges l) (symbolCost (nOf l) received mask) top number (nOf l) 0 v
+  pub picksLong : length picks ≡ length oldPicks
+  pub root : (rest : ℕ → ℕ) → Behind l old blocks end (suc b) rest → (v : ℕ) → v < vertexCountOf l 0
+      → getD new (64 * b + rootState l v) 0 ≡ rankFrom l received mask rest v / 4294967296
+  pub pick : (rest : ℕ → ℕ) → Behind l old blocks end (suc b) rest → (v : ℕ) → v < vertexCountOf l 0
+      → getD picks (64 * b + rootState l v) 0 ≡ rankFrom l received mask rest v % 4294967296
   pub none : (s : ℕ) → s < 64 → ((v : ℕ) → v < vertexCountOf l 0 → rootState l v ≡ s → ⊥) → getD new (64 * b + s) 0 ≡ top
   pub kept : (i : ℕ) → (i < 64 * b) ⊎ (64 * b + 64 ≤ i) → getD new i 0 ≡ getD old i 0
-
--- ---- the word of a block
-
--- no root before v is s
-pub record InRoot (l : List ℕ) (s v : ℕ) : Type 0 where
-  pub v-le : v ≤ vertexCountOf l 0
-  pub none : (u : ℕ) → u < v → rootState l u ≡ s → ⊥
+  pub keptPick : (i : ℕ) → (i < 64 * b) ⊎ (64 * b + 64 ≤ i) → getD picks i 0 ≡ getD oldPicks i 0
 
 -- root r is s; r is the number of roots where none is
 pub record RootAt (l : List ℕ) (s r : ℕ) : Type 0 where
@@ -66,27 +72,7 @@ pub record RootAt (l : List ℕ) (s r : ℕ) : Type 0 where
   pub is : r < vertexCountOf l 0 → rootState l r ≡ s
   pub none : vertexCountOf l 0 ≤ r → (u : ℕ) → u < vertexCountOf l 0 → rootState l u ≡ s → ⊥
 
--- there is a path from state s on
-pub record Onward (l : List ℕ) (received mask : ℕ) (costs : List ℕ) (blocks end b s : ℕ) : Type 0 where
-  pub number : ℕ → ℕ
-  pub behind : Behind l costs blocks end b number
-  pub root : ℕ
-  pub rootIn : root < vertexCountOf l 0
-  pub rootIs : rootState l root ≡ s
-  pub below : sectionLeast (stepEdges l) (symbolCost (nOf l) received mask) top number (nOf l) 0 root < top
-
--- the first word of least distance from state s on, and its own distance
-pub record WordFrom (l : List ℕ) (received mask : ℕ) (costs : List ℕ) (blocks end b s label goal distance : ℕ) : Type 0 where
-  pub root : ℕ
-  pub rootIn : root < vertexCountOf l 0
-  pub rootIs : rootState l root ≡ s
-  pub goalBelow : goal < 64
-  pub labelIs : (number : ℕ → ℕ) → Behind l costs blocks end b number
-      → label ≡ packOnto 0 (sectionTrace (stepEdges l) (symbolCost (nOf l) received mask) top number (nOf l) 0 root .symbols)
-  pub goalIs : (number : ℕ → ℕ) → Behind l costs blocks end b number
-      → goal ≡ goalState l (sectionTrace (stepEdges l) (symbolCost (nOf l) received mask) top number (nOf l) 0 root .end)
-  pub distanceIs : distance ≡ blockDistance (nOf l) received mask label
-  pub distanceTo : distance ≤ 8
+-- ---- the words
 
 -- b words are written, state s is reached, and `total` is their distance; the rest of the path is the one from there
 pub record InWords (sections starts indices received erased : List ℕ) (end start : ℕ) (labels newLabels goals newGoals : List ℕ) (b s total : ℕ) : Type 0 where

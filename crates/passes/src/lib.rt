@@ -1,17 +1,20 @@
-// The two passes over the blocks of a chain: backward, the cost table, and forward, the words of the first path of least distance. Both go over the
-// edges of the blocks' sections and never over their words.
+// The two passes over the blocks of a chain. Backward, over the edges of the blocks' sections and never over their words: the cost table, and for each
+// block and state a pick, the label and the goal of the first word of least distance. Forward, the picks are followed.
 ghost use mathlib.Core.Path.{_≡_};
-ghost use Prim.Native.Nat.{_+_, _*_, _<_, _≤_};
+ghost use Prim.Native.Nat.{_+_, _*_, _/_, _%_, _<_, _≤_};
 ghost use lib.ListN.{length};
 ghost use Rattle.trellis.specs.Layout.{nOf, vertexCountOf};
-ghost use Rattle.sweep.specs.Rows.{top, Placed};
-ghost use Rattle.block.specs.Received.{Clean};
-ghost use Rattle.passes.specs.Blocks.{Good, Ready, Table, Filled, aheadOf, leastFrom};
-ghost use Rattle.passes.specs.Loops.{InGoals, RowsOver, InNone, InRoots, BlockTable, RootAt, Onward, WordFrom, Named};
+ghost use Rattle.paths.specs.Ranked.{rankedRest};
+ghost use Rattle.sweep.specs.Rows.{Placed};
+ghost use Rattle.passes.specs.Blocks.{top, Good, Ready, Picked, Filled, aheadOf, leastFrom};
+ghost use Rattle.passes.specs.Loops.{InGoals, RowsOver, InNone, InRoots, BlockTable, Named};
 use numbers::wide;
 use numbers::widened;
 use sweep::Places;
 use sweep::TOP;
+
+// No path, in a cost table.
+pub const NO_PATH: u32 = 4294967295;
 
 // What is left to pay from state s before block b; behind the last block, nothing in the end state.
 fn ahead(costs: &[u32], blocks: usize, end: usize, b: usize, s: usize) -> u32
@@ -21,7 +24,19 @@ fn ahead(costs: &[u32], blocks: usize, end: usize, b: usize, s: usize) -> u32
     if b < blocks {
         return costs[64 * b + s];
     }
-    if s == end { 0 } else { TOP }
+    if s == end { 0 } else { NO_PATH }
+}
+
+// The same, ranked by the state.
+fn ranked_ahead(costs: &[u32], blocks: usize, end: usize, b: usize, s: usize) -> u64
+    requires { ⌜ (64 * blocks ≤ length (now costs)) × (blocks ≤ 256) × (s < 64) ⌝ }
+    ensures { λ r. ⌜ r ≡ rankedRest (aheadOf (now (costs .entry)) blocks end b) s ⌝ }
+{
+    let cost = ahead(costs, blocks, end, b, s);
+    if cost < NO_PATH {
+        return (cost as u64) * 4294967296 + (s as u64);
+    }
+    TOP
 }
 
 // Row n: what it costs to end in each goal.
@@ -32,7 +47,7 @@ fn put_goals(
     blocks: usize,
     end: usize,
     b: usize,
-    rows: &mut [u32; 9216],
+    rows: &mut [u64; 9216],
 )
     requires { ⌜ Good (now l) × Placed (now l) (at .n) (at .roots) (at .goals) (at .pairs) (at .symbols) (at .edges)
         × (64 * blocks ≤ length (now costs)) × (blocks ≤ 256) × (length (now rows) ≡ 9216) ⌝ }
@@ -44,7 +59,7 @@ fn put_goals(
     let mut g: usize = 0;
     while g < count {
         let s = wide(l[goals + g]);
-        rows[1024 * n + g] = ahead(costs, blocks, end, b, s);
+        rows[1024 * n + g] = ranked_ahead(costs, blocks, end, b, s);
         g += 1;
     }
 }
@@ -52,12 +67,12 @@ fn put_goals(
 fn fill_rows(
     l: &[u16],
     at: Places,
-    prices: &[u32; 32],
+    prices: &[u64; 32],
     costs: &[u32],
     blocks: usize,
     end: usize,
     b: usize,
-    rows: &mut [u32; 9216],
+    rows: &mut [u64; 9216],
 )
     requires { ⌜ Good (now l) × Placed (now l) (at .n) (at .roots) (at .goals) (at .pairs) (at .symbols) (at .edges)
         × (64 * blocks ≤ length (now costs)) × (blocks ≤ 256) × (length (now rows) ≡ 9216) ⌝ }
@@ -74,21 +89,44 @@ fn put_none(b: usize, costs: &mut [u32])
 {
     let mut s: usize = 0;
     while s < 64 {
-        costs[64 * b + s] = TOP;
+        costs[64 * b + s] = NO_PATH;
         s += 1;
     }
 }
 
-fn put_roots(l: &[u16], at: Places, rows: &[u32; 9216], b: usize, costs: &mut [u32])
-    requires { ⌜ Good (now l) × Placed (now l) (at .n) (at .roots) (at .goals) (at .pairs) (at .symbols) (at .edges) × (64 * b + 64 ≤ length (now costs)) × (b ≤ 256) ⌝ }
-    ensures { λ _. ⌜ InRoots (now (l .entry)) (now (rows .entry)) b (now (costs .entry)) (now (costs .exit)) (vertexCountOf (now (l .entry)) 0) ⌝ }
+// The distance of a rank, and the label and goal below it.
+fn high(rank: u64) -> u32
+    ensures { λ r. ⌜ r ≡ rank / 4294967296 ⌝ }
+{
+    (rank / 4294967296) as u32
+}
+
+fn low(rank: u64) -> u32
+    ensures { λ r. ⌜ r ≡ rank % 4294967296 ⌝ }
+{
+    (rank % 4294967296) as u32
+}
+
+fn put_roots(
+    l: &[u16],
+    at: Places,
+    rows: &[u64; 9216],
+    b: usize,
+    costs: &mut [u32],
+    picks: &mut [u32; 16384],
+)
+    requires { ⌜ Good (now l) × Placed (now l) (at .n) (at .roots) (at .goals) (at .pairs) (at .symbols) (at .edges)
+        × (64 * b + 64 ≤ length (now costs)) × (b < 256) × (length (now picks) ≡ 16384) ⌝ }
+    ensures { λ _. ⌜ InRoots (now (l .entry)) (now (rows .entry)) b (now (costs .entry)) (now (costs .exit)) (now (picks .entry)) (now (picks .exit)) (vertexCountOf (now (l .entry)) 0) ⌝ }
 {
     let roots = at.roots;
     let count = wide(l[3]);
     let mut v: usize = 0;
     while v < count {
         let s = wide(l[roots + v]);
-        costs[64 * b + s] = rows[v];
+        let rank = rows[v];
+        costs[64 * b + s] = high(rank);
+        picks[64 * b + s] = low(rank);
         v += 1;
     }
 }
@@ -101,20 +139,22 @@ fn table_block(
     blocks: usize,
     end: usize,
     b: usize,
-    rows: &mut [u32; 9216],
+    rows: &mut [u64; 9216],
     costs: &mut [u32],
+    picks: &mut [u32; 16384],
 )
-    requires { ⌜ Good (now l) × (64 * blocks ≤ length (now costs)) × (blocks ≤ 256) × (b < blocks) × (length (now rows) ≡ 9216) ⌝ }
-    ensures { λ _. ⌜ BlockTable (now (l .entry)) received mask blocks end b (now (costs .entry)) (now (costs .exit)) × (length (now (rows .exit)) ≡ 9216) ⌝ }
+    requires { ⌜ Good (now l) × (64 * blocks ≤ length (now costs)) × (blocks ≤ 256) × (b < blocks) × (length (now rows) ≡ 9216) × (length (now picks) ≡ 16384) ⌝ }
+    ensures { λ _. ⌜ BlockTable (now (l .entry)) received mask blocks end b (now (costs .entry)) (now (costs .exit)) (now (picks .entry)) (now (picks .exit))
+        × (length (now (rows .exit)) ≡ 9216) ⌝ }
 {
     let at = sweep::places_of(l);
     let prices = block::prices(at.n, received, mask);
     fill_rows(l, at, &prices, costs, blocks, end, b + 1, rows);
     put_none(b, costs);
-    put_roots(l, at, rows, b, costs);
+    put_roots(l, at, rows, b, costs, picks);
 }
 
-// Backward: the cost table of all blocks.
+// Backward: the cost table and the picks of all blocks.
 pub fn fill_table(
     sections: &[u16],
     starts: &[usize; 17],
@@ -123,9 +163,12 @@ pub fn fill_table(
     erased: &[u8],
     end: usize,
     costs: &mut [u32],
+    picks: &mut [u32; 16384],
 )
-    requires { ⌜ Ready (now sections) (now starts) (now indices) (now received) (now erased) × (64 * length (now indices) ≤ length (now costs)) ⌝ }
-    ensures { λ _. ⌜ Filled (now (sections .entry)) (now (starts .entry)) (now (indices .entry)) (now (received .entry)) (now (erased .entry)) end 0 (now (costs .entry)) (now (costs .exit)) ⌝ }
+    requires { ⌜ Ready (now sections) (now starts) (now indices) (now received) (now erased) × (64 * length (now indices) ≤ length (now costs))
+        × (length (now picks) ≡ 16384) ⌝ }
+    ensures { λ _. ⌜ Filled (now (sections .entry)) (now (starts .entry)) (now (indices .entry)) (now (received .entry)) (now (erased .entry)) end 0
+        (now (costs .entry)) (now (costs .exit)) (now (picks .exit)) ⌝ }
 {
     let blocks = indices.len();
     let mut rows = [TOP; 9216];
@@ -134,65 +177,21 @@ pub fn fill_table(
         b -= 1;
         let start = starts[widened(indices[b])];
         let l = &sections[start..];
-        table_block(l, received[b], erased[b], blocks, end, b, &mut rows, costs);
+        table_block(l, received[b], erased[b], blocks, end, b, &mut rows, costs, picks);
     }
 }
 
-// The root in state s, or the number of roots.
-fn root_of(l: &[u16], at: Places, s: usize) -> usize
-    requires { ⌜ Good (now l) × Placed (now l) (at .n) (at .roots) (at .goals) (at .pairs) (at .symbols) (at .edges) ⌝ }
-    ensures { λ r. ⌜ RootAt (now (l .entry)) s r ⌝ }
+fn label_of(pick: u32) -> u16
+    ensures { λ r. ⌜ r ≡ pick / 65536 ⌝ }
 {
-    let roots = at.roots;
-    let count = wide(l[3]);
-    let mut v: usize = 0;
-    while v < count {
-        if wide(l[roots + v]) == s {
-            return v;
-        }
-        v += 1;
-    }
-    v
+    (pick / 65536) as u16
 }
 
-struct Step {
-    label: u16,
-    goal: u8,
-    distance: u32,
-}
-
-// The first word of least distance from state s on.
-fn word_from(
-    l: &[u16],
-    received: u16,
-    mask: u8,
-    costs: &[u32],
-    blocks: usize,
-    end: usize,
-    b: usize,
-    s: usize,
-    rows: &mut [u32; 9216],
-) -> Step
-    requires { ⌜ Good (now l) × Clean (nOf (now l)) received mask × Onward (now l) received mask (now costs) blocks end b s
-        × (64 * blocks ≤ length (now costs)) × (blocks ≤ 256) × (length (now rows) ≡ 9216) ⌝ }
-    ensures { λ r. ⌜ WordFrom (now (l .entry)) received mask (now (costs .entry)) blocks end b s (r .label) (r .goal) (r .distance) × (length (now (rows .exit)) ≡ 9216) ⌝ }
+fn goal_of(pick: u32) -> u8
+    requires { ⌜ pick % 65536 < 64 ⌝ }
+    ensures { λ r. ⌜ r ≡ pick % 65536 ⌝ }
 {
-    let at = sweep::places_of(l);
-    let n = at.n;
-    let goals = at.goals;
-    let prices = block::prices(n, received, mask);
-    fill_rows(l, at, &prices, costs, blocks, end, b, rows);
-    let v = root_of(l, at, s);
-    let word = sweep::name_word(l, at, &prices, rows, v);
-    let label = word.label;
-    let g = word.end;
-    let goal = l[goals + g] as u8;
-    let distance = block::distance(n, received, mask, label);
-    Step {
-        label,
-        goal,
-        distance,
-    }
+    (pick % 65536) as u8
 }
 
 // Forward: the labels and goals of the first path of least distance, and that distance.
@@ -204,32 +203,31 @@ pub fn name_words(
     erased: &[u8],
     start: usize,
     end: usize,
-    costs: &[u32],
+    picks: &[u32; 16384],
     labels: &mut [u16],
     goals: &mut [u8],
 ) -> u32
     requires { ⌜ Ready (now sections) (now starts) (now indices) (now received) (now erased)
-        × Table (now sections) (now starts) (now indices) (now received) (now erased) end 0 (now costs)
-        × (64 * length (now indices) ≤ length (now costs)) × (length (now indices) ≤ length (now labels)) × (length (now indices) ≤ length (now goals)) × (start < 64)
+        × Picked (now sections) (now starts) (now indices) (now received) (now erased) end 0 (now picks)
+        × (length (now indices) ≤ length (now labels)) × (length (now indices) ≤ length (now goals)) × (start < 64)
         × (leastFrom (now sections) (now starts) (now indices) (now received) (now erased) end 0 start < top) ⌝ }
     ensures { λ r. ⌜ Named (now (sections .entry)) (now (starts .entry)) (now (indices .entry)) (now (received .entry)) (now (erased .entry)) end start
         (now (labels .entry)) (now (labels .exit)) (now (goals .entry)) (now (goals .exit)) r ⌝ }
 {
     let blocks = indices.len();
-    let mut rows = [TOP; 9216];
     let mut s = start;
     let mut total: u32 = 0;
     let mut b: usize = 0;
     while b < blocks {
         let at = starts[widened(indices[b])];
         let l = &sections[at..];
-        let word = received[b];
-        let mask = erased[b];
-        let step = word_from(l, word, mask, costs, blocks, end, b + 1, s, &mut rows);
-        labels[b] = step.label;
-        goals[b] = step.goal;
-        total += step.distance;
-        s = widened(step.goal);
+        let pick = picks[64 * b + s];
+        let label = label_of(pick);
+        let goal = goal_of(pick);
+        labels[b] = label;
+        goals[b] = goal;
+        total += block::distance(wide(l[1]), received[b], erased[b], label);
+        s = widened(goal);
         b += 1;
     }
     total

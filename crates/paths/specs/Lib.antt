@@ -4,3 +4,4 @@ pub mod Graph
 pub mod Costs
 pub mod Sections
 pub mod Chain
+pub mod Ranked

@@ -2,4 +2,3 @@
 pub mod Edges
 pub mod Lowering
 pub mod Sweeping
-pub mod Forward

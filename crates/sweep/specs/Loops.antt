@@ -1,17 +1,13 @@
 -- What the loops over a section keep, over raw lists and numbers.
 use mathlib.Core.Path.{_≡_}
 use mathlib.Core.List.{List}
-use mathlib.Core.Bool.{Bool, cond, _&&_}
-use mathlib.Core.Option.{Option, none as nothing, some as just}
-use Prim.Native.Nat.{ℕ, suc, _+_, _-_, _*_, _^_, _≤_, _<_, min}
-use lib.Dec.{eqb, ltb}
+use Prim.Native.Nat.{ℕ, suc, _+_, _-_, _*_, _≤_, _<_, min}
 use lib.ListN.{length, getD}
 use Rattle.trellis.specs.Lists.{run}
 use Rattle.trellis.specs.Own.{Edge}
-use Rattle.trellis.specs.Section.{leaving, packOnto}
+use Rattle.trellis.specs.Section.{leaving}
 use Rattle.trellis.specs.Layout.{nOf, vertexCountOf, edgesBefore, allEdges, pairsPlace, symbolsPlace, edgeNumber, stepEdges}
-use Rattle.paths.specs.Costs.{plus, minAll, firstWith}
-use Rattle.paths.specs.Sections.{sectionTrace}
+use Rattle.paths.specs.Costs.{plus, minAll}
 use Rattle.sweep.specs.Rows.{top, Fits, Priced, Rows}
 
 -- ---- edges
@@ -88,42 +84,3 @@ pub record InSweep (l prices old rows : List ℕ) (n t hi : ℕ) : Type 0 where
   pub hi-is : hi ≡ edgesBefore l t
   pub long : length rows ≡ 9216
   pub done : (cost : ℕ → ℕ → ℕ) (number : ℕ → ℕ) → Priced l prices cost → Rows l cost number (nOf l) old → Rows l cost number t rows
-
--- ---- forward
-
--- whether an edge leaves v and gives the total
-unfoldable pub hitAt : ℕ → ℕ → ℕ → ℕ → Bool
-hitAt from v here total = eqb from v && eqb here total
-
-abbrev pub firstEdge : List ℕ → List ℕ → List ℕ → ℕ → ℕ → ℕ → ℕ → ℕ → Option Edge
-firstEdge l prices rows t lo hi v total = firstWith (λ e. eqb (through prices rows t e) total) (leaving v (between l lo hi))
-
--- edge r leaves v, and no edge before it does; r is hi where none does
-pub record SkipTo (l : List ℕ) (lo hi v r : ℕ) : Type 0 where
-  pub lo-le : lo ≤ r
-  pub r-le : r ≤ hi
-  pub same : leaving v (between l lo hi) ≡ leaving v (between l r hi)
-
--- edge r is the first that leaves v and gives the total; r is hi where none does
-pub record NextAt (l prices rows : List ℕ) (t lo hi v total r : ℕ) : Type 0 where
-  pub lo-le : lo ≤ r
-  pub r-le : r ≤ hi
-  pub found : firstEdge l prices rows t lo hi v total ≡ cond (ltb r hi) (just (edgeNumber l r)) nothing
-
--- the first edge that leaves v and gives the total is one of those from i on
-pub record InNext (l prices rows : List ℕ) (t lo hi v total i : ℕ) : Type 0 where
-  pub lo-le : lo ≤ i
-  pub i-le : i ≤ hi
-  pub left : firstEdge l prices rows t lo hi v total ≡ firstEdge l prices rows t i hi v total
-
--- t symbols are named, and vertex v is reached; the rest is what the rows name from there
-pub record InName (l prices rows : List ℕ) (root n t lo v label : ℕ) : Type 0 where
-  pub t-le : t ≤ n
-  pub lo-is : lo ≡ edgesBefore l t
-  pub inside : v < vertexCountOf l t
-  pub below : getD rows (1024 * t + v) 0 < top
-  pub short : label < 4 ^ t
-  pub labelTo : (cost : ℕ → ℕ → ℕ) (number : ℕ → ℕ) → Priced l prices cost → Rows l cost number 0 rows
-      → packOnto 0 (sectionTrace (stepEdges l) cost top number n 0 root .symbols) ≡ packOnto label (sectionTrace (stepEdges l) cost top number (n - t) t v .symbols)
-  pub endTo : (cost : ℕ → ℕ → ℕ) (number : ℕ → ℕ) → Priced l prices cost → Rows l cost number 0 rows
-      → sectionTrace (stepEdges l) cost top number n 0 root .end ≡ sectionTrace (stepEdges l) cost top number (n - t) t v .end

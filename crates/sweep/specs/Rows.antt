@@ -4,13 +4,12 @@ use mathlib.Core.Path.{_≡_}
 use mathlib.Core.List.{List}
 use Prim.Native.Nat.{ℕ, suc, _+_, _-_, _*_, _≤_, _<_}
 use lib.ListN.{length, getD}
-use Rattle.trellis.specs.Section.{packOnto}
 use Rattle.trellis.specs.Layout.{nOf, vertexCountOf, edgeCountOf, edgesBefore, allEdges, rootsPlace, goalsPlace, pairsPlace, symbolsPlace, edgeNumber, stepEdges}
-use Rattle.paths.specs.Sections.{sectionLeast, sectionTrace}
+use Rattle.paths.specs.Sections.{sectionLeast}
 
 -- no path
 abbrev pub top : ℕ
-top = 4294967295
+top = 18446744073709551615
 
 -- what the code needs to know of a section: its parts are there, and its edges lead from vertices to vertices of their depths by symbols
 pub record Fits (l : List ℕ) : Type 0 where
@@ -51,20 +50,3 @@ pub record Rows (l : List ℕ) (cost : ℕ → ℕ → ℕ) (number : ℕ → �
 pub record Swept (l prices old new : List ℕ) : Type 0 where
   pub long : length new ≡ 9216
   pub rows : (cost : ℕ → ℕ → ℕ) (number : ℕ → ℕ) → Priced l prices cost → Rows l cost number (nOf l) old → Rows l cost number 0 new
-
--- all rows are done, and from vertex v of depth 0 there is a path
-pub record Open (l prices rows : List ℕ) (v : ℕ) : Type 0 where
-  pub cost : ℕ → ℕ → ℕ
-  pub number : ℕ → ℕ
-  pub priced : Priced l prices cost
-  pub done : Rows l cost number 0 rows
-  pub inside : v < vertexCountOf l 0
-  pub below : getD rows v 0 < top
-
--- the first path of least cost from vertex v of depth 0, its symbols packed to a label
-pub record Named (l prices rows : List ℕ) (v label end : ℕ) : Type 0 where
-  pub endIn : end < vertexCountOf l (nOf l)
-  pub labelIs : (cost : ℕ → ℕ → ℕ) (number : ℕ → ℕ) → Priced l prices cost → Rows l cost number 0 rows
-      → label ≡ packOnto 0 (sectionTrace (stepEdges l) cost top number (nOf l) 0 v .symbols)
-  pub endIs : (cost : ℕ → ℕ → ℕ) (number : ℕ → ℕ) → Priced l prices cost → Rows l cost number 0 rows
-      → end ≡ sectionTrace (stepEdges l) cost top number (nOf l) 0 v .end

@@ -1,25 +1,25 @@
-// The costs of one section, over its edges and never over its words: backward, row by row, the least cost from each vertex, and forward the first path
-// of least cost. What a symbol costs and what it costs to end in a vertex are the caller's.
+// The costs of one section, over its edges and never over its words: row by row from the last depth to the first, the least cost from each vertex. What a
+// symbol costs and what it costs to end in a vertex are the caller's.
 ghost use mathlib.Core.Path.{_≡_};
 ghost use Prim.Native.Nat.{_+_, _*_, _<_, _≤_, min};
 ghost use lib.ListN.{length};
 ghost use Rattle.trellis.specs.Layout.{allEdges};
 ghost use Rattle.paths.specs.Costs.{plus};
-ghost use Rattle.sweep.specs.Rows.{top, Fits, Placed, Swept, Open, Named};
-ghost use Rattle.sweep.specs.Loops.{InStep, Reads, EdgeAt, InClear, Clear, Lowered, hitAt, SkipTo, NextAt};
+ghost use Rattle.sweep.specs.Rows.{top, Fits, Placed, Swept};
+ghost use Rattle.sweep.specs.Loops.{InStep, Reads, EdgeAt, InClear, Clear, Lowered};
 use numbers::wide;
 
 // No path.
-pub const TOP: u32 = 4294967295;
+pub const TOP: u64 = 18446744073709551615;
 
 // d more to pay; from TOP on there is no path.
-fn pay(d: u32, x: u32) -> u32
+fn pay(d: u64, x: u64) -> u64
     ensures { λ r. ⌜ r ≡ plus top d x ⌝ }
 {
     if x > TOP - d { TOP } else { d + x }
 }
 
-fn lesser(x: u32, y: u32) -> u32
+fn lesser(x: u64, y: u64) -> u64
     ensures { λ r. ⌜ r ≡ min x y ⌝ }
 {
     if y < x { y } else { x }
@@ -72,7 +72,7 @@ fn edge_at(l: &[u16], pairs: usize, symbols: usize, i: usize) -> Edge
 }
 
 // No path yet from the first vertices of depth t.
-fn clear(t: usize, count: usize, rows: &mut [u32; 9216])
+fn clear(t: usize, count: usize, rows: &mut [u64; 9216])
     requires { ⌜ (t ≤ 8) × (count ≤ 1024) × (length (now rows) ≡ 9216) ⌝ }
     ensures { λ _. ⌜ InClear t count (now (rows .entry)) (now (rows .exit)) count ⌝ }
 {
@@ -91,8 +91,8 @@ fn lower(
     lo: usize,
     hi: usize,
     t: usize,
-    prices: &[u32; 32],
-    rows: &mut [u32; 9216],
+    prices: &[u64; 32],
+    rows: &mut [u64; 9216],
 )
     requires { ⌜ Reads (now l) pairs symbols × InStep (now l) t lo hi × Clear (now l) t (now rows) ⌝ }
     ensures { λ _. ⌜ Lowered (now (l .entry)) (now (prices .entry)) t lo hi (now (rows .entry)) (now (rows .exit)) ⌝ }
@@ -110,7 +110,7 @@ fn lower(
 }
 
 // All rows, from the row of depth n.
-pub fn sweep(l: &[u16], at: Places, prices: &[u32; 32], rows: &mut [u32; 9216])
+pub fn sweep(l: &[u16], at: Places, prices: &[u64; 32], rows: &mut [u64; 9216])
     requires { ⌜ Fits (now l) × Placed (now l) (at .n) (at .roots) (at .goals) (at .pairs) (at .symbols) (at .edges) × (length (now rows) ≡ 9216) ⌝ }
     ensures { λ _. ⌜ Swept (now (l .entry)) (now (prices .entry)) (now (rows .entry)) (now (rows .exit)) ⌝ }
 {
@@ -126,97 +126,4 @@ pub fn sweep(l: &[u16], at: Places, prices: &[u32; 32], rows: &mut [u32; 9216])
         lower(l, pairs, symbols, lo, hi, t, prices, rows);
         hi = lo;
     }
-}
-
-// The first edge from lo on that leaves v, or hi.
-fn skip_to(l: &[u16], pairs: usize, symbols: usize, lo: usize, hi: usize, v: usize) -> usize
-    requires { ⌜ Reads (now l) pairs symbols × (lo ≤ hi) × (hi ≤ allEdges (now l)) ⌝ }
-    ensures { λ r. ⌜ SkipTo (now (l .entry)) lo hi v r ⌝ }
-{
-    let mut i = lo;
-    while i < hi {
-        if wide(l[pairs + 2 * i]) == v {
-            return i;
-        }
-        i += 1;
-    }
-    i
-}
-
-fn hit(from: usize, v: usize, here: u32, total: u32) -> bool
-    ensures { λ r. ⌜ r ≡ hitAt from v here total ⌝ }
-{
-    if from == v { here == total } else { false }
-}
-
-// The first edge of step t that leaves v and gives the total, or hi.
-fn next_edge(
-    l: &[u16],
-    pairs: usize,
-    symbols: usize,
-    lo: usize,
-    hi: usize,
-    t: usize,
-    prices: &[u32; 32],
-    rows: &[u32; 9216],
-    v: usize,
-    total: u32,
-) -> usize
-    requires { ⌜ Reads (now l) pairs symbols × InStep (now l) t lo hi ⌝ }
-    ensures { λ r. ⌜ NextAt (now (l .entry)) (now (prices .entry)) (now (rows .entry)) t lo hi v total r ⌝ }
-{
-    let mut i = skip_to(l, pairs, symbols, lo, hi, v);
-    while i < hi {
-        let e = edge_at(l, pairs, symbols, i);
-        let from = e.from;
-        let symbol = 4 * t + wide(e.symbol);
-        let to = 1024 * (t + 1) + e.to;
-        let here = pay(prices[symbol], rows[to]);
-        if hit(from, v, here, total) {
-            return i;
-        }
-        i += 1;
-    }
-    i
-}
-
-// A label, and the vertex of depth n where its path ends.
-pub struct Word {
-    pub label: u16,
-    pub end: usize,
-}
-
-// The word of the first path of least cost from a vertex of depth 0.
-pub fn name_word(l: &[u16], at: Places, prices: &[u32; 32], rows: &[u32; 9216], root: usize) -> Word
-    requires { ⌜ Fits (now l) × Placed (now l) (at .n) (at .roots) (at .goals) (at .pairs) (at .symbols) (at .edges) × Open (now l) (now prices) (now rows) root ⌝ }
-    ensures { λ r. ⌜ Named (now (l .entry)) (now (prices .entry)) (now (rows .entry)) root (r .label) (r .end) ⌝ }
-{
-    let n = at.n;
-    let pairs = at.pairs;
-    let symbols = at.symbols;
-    let mut label: u16 = 0;
-    let mut v = root;
-    let mut lo: usize = 0;
-    let mut t: usize = 0;
-    while t < n {
-        let hi = lo + wide(l[4 + n + t]);
-        let i = next_edge(
-            l,
-            pairs,
-            symbols,
-            lo,
-            hi,
-            t,
-            prices,
-            rows,
-            v,
-            rows[1024 * t + v],
-        );
-        let e = edge_at(l, pairs, symbols, i);
-        label = label::append(label, e.symbol);
-        v = e.to;
-        lo = hi;
-        t += 1;
-    }
-    Word { label, end: v }
 }

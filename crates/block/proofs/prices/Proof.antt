@@ -1,20 +1,23 @@
--- `block::prices` writes the costs of the four symbols, step by step. The loop's invariant: the steps passed have theirs. The measure is how many are left.
-use borrow.Author.Needs.{needs}
+-- `block::prices` goes from the last symbol to the first, each weighing four times the one before it. The loop's invariant: the steps passed have what
+-- their symbols add. The measure is how many are left.
 use mathlib.Core.Path.{refl}
-use Prim.Native.Nat.{_-_}
 use Rattle.block.specs.Loops.{InPrices}
 use Rattle.block.proofs.Costs.{prices-start, prices-more, prices-end}
+use borrow.Author.Needs.{needs}
 use Rattle.block.proofs.prices.Statement.{statement}
 use Rattle.block.proofs.prices.Tie as tie
 
 abbrev Inv-loop : tie.InvT-loop
-Inv-loop n received mask prices₀ t₀ prices t = InPrices n received mask prices t
+Inv-loop n received mask prices₀ weight₀ t₀ prices weight t = InPrices n received mask prices weight t
 
 abbrev μ-loop : tie.MeasureT-loop
-μ-loop n received mask prices₀ t₀ prices t = n - t
+μ-loop n received mask prices₀ weight₀ t₀ prices weight t = t
 
 loop-holds : tie.Need-loop-holds Inv-loop μ-loop
 loop-holds c = prices-start refl
+
+sub-t : tie.Need-sub-t Inv-loop μ-loop
+sub-t c = search needs
 
 is-erased-requires : tie.Need-is-erased-requires Inv-loop μ-loop
 is-erased-requires c κs = search needs
@@ -24,6 +27,9 @@ symbol-requires c κs = search needs
 
 symbol-cost-requires : tie.Need-symbol-cost-requires Inv-loop μ-loop
 symbol-cost-requires c κs = search needs
+
+price-requires : tie.Need-price-requires Inv-loop μ-loop
+price-requires c κs = search needs
 
 mul-prices : tie.Need-mul-prices Inv-loop μ-loop
 mul-prices c = search needs
@@ -36,6 +42,9 @@ array-write-prices c = search needs
 
 symbol-cost-requires-2 : tie.Need-symbol-cost-requires-2 Inv-loop μ-loop
 symbol-cost-requires-2 c κs = search needs
+
+price-requires-2 : tie.Need-price-requires-2 Inv-loop μ-loop
+price-requires-2 c κs = search needs
 
 mul-prices-3 : tie.Need-mul-prices-3 Inv-loop μ-loop
 mul-prices-3 c = search needs
@@ -52,6 +61,9 @@ array-write-prices-2 c = search needs
 symbol-cost-requires-3 : tie.Need-symbol-cost-requires-3 Inv-loop μ-loop
 symbol-cost-requires-3 c κs = search needs
 
+price-requires-3 : tie.Need-price-requires-3 Inv-loop μ-loop
+price-requires-3 c κs = search needs
+
 mul-prices-5 : tie.Need-mul-prices-5 Inv-loop μ-loop
 mul-prices-5 c = search needs
 
@@ -67,6 +79,9 @@ array-write-prices-3 c = search needs
 symbol-cost-requires-4 : tie.Need-symbol-cost-requires-4 Inv-loop μ-loop
 symbol-cost-requires-4 c κs = search needs
 
+price-requires-4 : tie.Need-price-requires-4 Inv-loop μ-loop
+price-requires-4 c κs = search needs
+
 mul-prices-7 : tie.Need-mul-prices-7 Inv-loop μ-loop
 mul-prices-7 c = search needs
 
@@ -79,22 +94,27 @@ mul-prices-8 c = search needs
 array-write-prices-4 : tie.Need-array-write-prices-4 Inv-loop μ-loop
 array-write-prices-4 c = search needs
 
-add-t : tie.Need-add-t Inv-loop μ-loop
-add-t c = search needs
+mul-weight : tie.Need-mul-weight Inv-loop μ-loop
+mul-weight c = search needs
 
 loop-less : tie.Need-loop-less Inv-loop μ-loop
 loop-less c = search needs
 
 loop-again : tie.Need-loop-again Inv-loop μ-loop
 loop-again c =
-    let third = c .before in
-    let second = third .before in
-    let first = second .before in
-    let symbol = first .before in
+    let cost₃ = c .before in
+    let price₂ = cost₃ .before in
+    let cost₂ = price₂ .before in
+    let price₁ = cost₂ .before in
+    let cost₁ = price₁ .before in
+    let price₀ = cost₁ .before in
+    let cost₀ = price₀ .before in
+    let symbol = cost₀ .before in
     let erased = symbol .before in
     let turn = erased .before in
     prices-more (turn .before .before .pre) (turn .before .loop .inv) (turn .loop-test .taken) (erased .is-erased .ensures) (symbol .symbol .ensures)
-    (first .symbol-cost .ensures) (second .symbol-cost2 .ensures) (third .symbol-cost3 .ensures) (c .symbol-cost4 .ensures)
+    (cost₀ .symbol-cost .ensures .0) (price₀ .price .ensures) (cost₁ .symbol-cost2 .ensures .0) (price₁ .price2 .ensures)
+    (cost₂ .symbol-cost3 .ensures .0) (price₂ .price3 .ensures) (cost₃ .symbol-cost4 .ensures .0) (c .price4 .ensures)
 
 returns : tie.Need-returns Inv-loop μ-loop
 returns c = prices-end (c .before .loop .inv) (search needs)
@@ -106,28 +126,33 @@ prices-spec =
     Inv-loop
     μ-loop
     loop-holds
+    sub-t
     is-erased-requires
     symbol-requires
     symbol-cost-requires
+    price-requires
     mul-prices
     mul-prices-2
     array-write-prices
     symbol-cost-requires-2
+    price-requires-2
     mul-prices-3
     add-prices
     mul-prices-4
     array-write-prices-2
     symbol-cost-requires-3
+    price-requires-3
     mul-prices-5
     add-prices-2
     mul-prices-6
     array-write-prices-3
     symbol-cost-requires-4
+    price-requires-4
     mul-prices-7
     add-prices-3
     mul-prices-8
     array-write-prices-4
-    add-t
+    mul-weight
     loop-less
     loop-again
     returns)
