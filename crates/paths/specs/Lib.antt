@@ -3,4 +3,5 @@ pub mod Choice
 pub mod Graph
 pub mod Costs
 pub mod Sections
+pub mod Ranked
 pub mod Chain
