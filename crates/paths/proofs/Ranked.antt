@@ -4,9 +4,9 @@
 -- belongs to the one with the least label and goal, and as the words ascend, that is the first of them: the word that the distances name.
 use mathlib.Core.Path.{_≡_, refl, sym, ap, subst, _∙_}
 use mathlib.Core.Bool.{Bool, true, false, cond}
+use mathlib.Core.Logic.{⊎-elim}
 use mathlib.Core.Option.{some as just}
 use mathlib.Core.List.{List, [], _∷_, map, List·Memᴰ·head, List·Memᴰ·tail, List·Memᴰ·not-nil, List·Memᴰ·cases-cons, Memᴰ·of-map}
-use mathlib.Core.Logic.{⊎-elim}
 use Prim.Native.Nat.{ℕ, zero, suc, _+_, _-_, _*_, _/_, _%_, _^_, _≤_, _<_, min}
 use native.Mathlib.Nat.{pow-suc, pow-succ', pow-le-pow-right, mul-le-mul-right, add-mul, mul-assoc, lt-of-lt-of-le}
 use native.Mathlib.Omega.{arith}
@@ -41,6 +41,7 @@ pack-behind {k = suc k} {us = a ∷ rest} (one-more p s) x =
     let g : (0 * 4 + a) * 4 ^ k ≡ a * 4 ^ k = ap (λ y. y * 4 ^ k) (omega arith) in
     omega (arith, pack-behind s (x * 4 + a), pack-behind s (0 * 4 + a))
 
+-- a label of k symbols is below 4 ^ k
 pack-fits : {k : ℕ} {us : List ℕ} → Symbols k us → packOnto 0 us < 4 ^ k
 unfolding packOnto
 pack-fits no-more = omega arith
@@ -48,6 +49,7 @@ pack-fits {k = suc k} {us = a ∷ rest} (one-more p s) =
     let q : (0 * 4 + a) * 4 ^ k ≤ 3 * 4 ^ k = mul-le-mul-right (4 ^ k) (omega arith) in
     omega (arith, pack-behind s (0 * 4 + a), pack-fits s, pow-suc 4 k)
 
+-- what the symbols add together: their cost, and their label
 ranked-from : (n : ℕ) (cost : ℕ → ℕ → ℕ) {k : ℕ} {us : List ℕ} → Symbols k us → (t : ℕ) → t + k ≡ n
     → costFrom (rankedCost n cost) t us ≡ costFrom cost t us * 4294967296 + packOnto 0 us * 65536
 unfolding costFrom packOnto rankedCost ranked
@@ -57,12 +59,12 @@ ranked-from n cost {k = suc k} {us = a ∷ rest} (one-more p s) t h =
     let g : (0 * 4 + a) * 4 ^ k ≡ a * 4 ^ k = ap (λ y. y * 4 ^ k) (omega arith) in
     omega (arith, pack-behind s (0 * 4 + a), ranked-from n cost s (suc t) (omega arith))
 
--- ---- one word: its distance f, its label and goal K, and both in one number F
+-- ---- one word: its distance f, its label and goal in one number K, and all three in one number F
 
-pub record Ranks (f F K : ℕ) : Type 0 where
-  pub front : F / 4294967296 ≡ f
-  pub whole : f < 4294967295 → F ≡ f * 4294967296 + K
-  pub small : K < 4294967296
+record Ranks (f F K : ℕ) : Type 0 where
+  front : F / 4294967296 ≡ f
+  whole : f < 4294967295 → F ≡ f * 4294967296 + K
+  small : K < 4294967296
 
 ranks : (rest : ℕ → ℕ) (d label goal : ℕ) → rest goal ≤ 4294967295 → label < 65536 → goal < 65536
     → Ranks (plus 4294967295 d (rest goal)) (plus topRank (d * 4294967296 + label * 65536) (rankedRest rest goal)) (label * 65536 + goal)
@@ -70,7 +72,8 @@ unfolding plus rankedRest ranked
 ranks rest d label goal h l g = go (ltb (rest goal) 4294967295) refl
   where
     go : (b : Bool) → ltb (rest goal) 4294967295 ≡ b
-        → Ranks (min 4294967295 (d + rest goal)) (min topRank (d * 4294967296 + label * 65536 + cond b (rest goal * 4294967296 + (0 * 65536 + goal)) topRank)) (label * 65536 + goal)
+        → Ranks (min 4294967295 (d + rest goal))
+        (min topRank (d * 4294967296 + label * 65536 + cond b (rest goal * 4294967296 + (0 * 65536 + goal)) topRank)) (label * 65536 + goal)
     go true e = let k = ltb-true (rest goal) 4294967295 e in record { front = omega arith; whole = λ z. omega arith; small = omega arith }
     go false e = let k = ltb-false (rest goal) 4294967295 e in record { front = omega arith; whole = λ z. omega arith; small = omega arith }
 
@@ -109,7 +112,8 @@ module _ {A : Type 0} {f F K : A → ℕ} where
       omega arith
 
   -- the first of those with the least distance has the least number
-  least-first : {xs : List A} → Ordered (λ x y. K x < K y) xs → ((x : A) → x ∈ xs → Ranks (f x) (F x) (K x)) → (c : ℕ) → c < 4294967295 → ((x : A) → x ∈ xs → c ≤ f x)
+  least-first : {xs : List A} → Ordered (λ x y. K x < K y) xs → ((x : A) → x ∈ xs → Ranks (f x) (F x) (K x))
+      → (c : ℕ) → c < 4294967295 → ((x : A) → x ∈ xs → c ≤ f x)
       → (w : A) → K w < 4294967296 → firstWith (λ x. eqb (f x) c) xs ≡ just w → minAll topRank F xs ≡ c * 4294967296 + K w
   unfolding firstWith minAll
   least-first ended r c h l w k e = let z : _≡_ {A = ℕ} 0 1 = cc in absurd (omega arith)
@@ -123,7 +127,9 @@ module _ {A : Type 0} {f F K : A → ℕ} where
           let j = ap K q in
           let u = eqb-true (f x) c t in
           let v = r x (List·Memᴰ·head refl) .whole (omega arith) in
-          let s = least-from topRank F xs (c * 4294967296 + K w) (omega arith) (λ y m. let z = a y m in above (r y (List·Memᴰ·tail m)) c (K w) h k (l y (List·Memᴰ·tail m)) (omega arith)) in
+          let s
+          = least-from topRank F xs (c * 4294967296 + K w) (omega arith)
+          (λ y m. let z = a y m in above (r y (List·Memᴰ·tail m)) c (K w) h k (l y (List·Memᴰ·tail m)) (omega arith)) in
           omega arith
       go false t i e =
           let p = r x (List·Memᴰ·head refl) .front in
@@ -238,33 +244,46 @@ module _ {words : ℕ → List Word} {dist : ℕ → Word → ℕ} {b : ℕ} {ed
       rises x y X Y (bySecond p q) = let i = X .goal-lt in omega arith
       rises x y X Y (byThird p q r) = omega arith
 
-  rank-is : (v : ℕ) → minAll topRank onRank (mine v) ≡ sectionLeast edges (rankedCost n cost) topRank (λ g. rankedRest rest (goalOf g)) n 0 v
+  -- the least distance from vertex v, the path that the distances name, and the least number
+  abbrev pub leastFrom : ℕ → ℕ
+  leastFrom v = sectionLeast edges cost 4294967295 (λ g. rest (goalOf g)) n 0 v
+
+  abbrev pub named : ℕ → Path
+  named v = sectionTrace edges cost 4294967295 (λ g. rest (goalOf g)) n 0 v
+
+  abbrev pub rankFrom : ℕ → ℕ
+  rankFrom v = sectionLeast edges (rankedCost n cost) topRank (λ g. rankedRest rest (goalOf g)) n 0 v
+
+  distance-is : (v : ℕ) → minAll 4294967295 onWord (mine v) ≡ leastFrom v
+  distance-is v = block-cost edges n v (spells v) 4294967295 rest bound
+
+  rank-is : (v : ℕ) → minAll topRank onRank (mine v) ≡ rankFrom v
   rank-is v =
+      let e : suc (n - 1) ≡ n = omega (arith, R .some) in
       block-cost edges n v (spells-ranked v) topRank restRanked rest-ranked-le
-      ∙ sym (subst (λ k. sectionLeast edges (rankedCost n cost) topRank (λ g. rankedRest rest (goalOf g)) k 0 v ≡ sectionLeast edges (rankedCost n cost) topRank (λ g. restRanked (goalOf g)) k 0 v) (omega (arith, R .some))
+      ∙ sym (subst (λ k. sectionLeast edges (rankedCost n cost) topRank (λ g. rankedRest rest (goalOf g)) k 0 v
+      ≡ sectionLeast edges (rankedCost n cost) topRank (λ g. restRanked (goalOf g)) k 0 v) e
       (least-capped edges (rankedCost n cost) topRank (λ g. rankedRest rest (goalOf g)) (n - 1) 0 v))
 
   -- the least number has the least distance
-  pub ranked-cost : (v : ℕ) → sectionLeast edges (rankedCost n cost) topRank (λ g. rankedRest rest (goalOf g)) n 0 v / 4294967296 ≡ sectionLeast edges cost 4294967295 (λ g. rest (goalOf g)) n 0 v
-  ranked-cost v = ap (λ x. x / 4294967296) (sym (rank-is v)) ∙ least-front (mine v) (mine-ranks v) ∙ block-cost edges n v (spells v) 4294967295 rest bound
+  pub ranked-cost : (v : ℕ) → rankFrom v / 4294967296 ≡ leastFrom v
+  ranked-cost v = ap (λ x. x / 4294967296) (sym (rank-is v)) ∙ least-front (mine v) (mine-ranks v) ∙ distance-is v
 
-  -- and the label and the goal of the path that the distances name
-  pub ranked-word : (v : ℕ) → v ∈ roots → sectionLeast edges cost 4294967295 (λ g. rest (goalOf g)) n 0 v < 4294967295
-      → Reads (sectionLeast edges (rankedCost n cost) topRank (λ g. rankedRest rest (goalOf g)) n 0 v) (sectionLeast edges cost 4294967295 (λ g. rest (goalOf g)) n 0 v)
-      (wordOf rootOf goalOf v (sectionTrace edges cost 4294967295 (λ g. rest (goalOf g)) n 0 v) .label)
-      (wordOf rootOf goalOf v (sectionTrace edges cost 4294967295 (λ g. rest (goalOf g)) n 0 v) .goal)
+  -- and below it the label and the goal of the word that the distances name
+  pub ranked-word : (v : ℕ) → v ∈ roots → leastFrom v < 4294967295
+      → Reads (rankFrom v) (leastFrom v) (wordOf rootOf goalOf v (named v) .label) (wordOf rootOf goalOf v (named v) .goal)
   ranked-word v m h =
-      let c = sectionLeast edges cost 4294967295 (λ g. rest (goalOf g)) n 0 v in
-      let w = spell v (sectionTrace edges cost 4294967295 (λ g. rest (goalOf g)) n 0 v) in
-      let e = block-word edges n v (spells v) 4294967295 rest bound c refl h in
-      let i = of-first (λ x. eqb (onWord x) c) (mine v) e .0 in
+      let w = spell v (named v) in
+      let e = block-word edges n v (spells v) 4294967295 rest bound (leastFrom v) refl h in
+      let i = of-first (λ x. eqb (onWord x) (leastFrom v)) (mine v) e .0 in
+      let l : (x : Word) → x ∈ mine v → leastFrom v ≤ onWord x
+      = λ x k. subst (λ z. z ≤ onWord x) (distance-is v) (least-under 4294967295 onWord (mine v) x k) in
       let M = mine-is v w i in
-      let l : (x : Word) → x ∈ mine v → c ≤ onWord x = λ x k. subst (λ z. z ≤ onWord x) (block-cost edges n v (spells v) 4294967295 rest bound) (least-under 4294967295 onWord (mine v) x k) in
-      reads c (w .label) (w .goal) (sym (rank-is v) ∙ least-first (mine-ascend v m) (mine-ranks v) c h l w (mine-ranks v w i .small) e) (M .label-lt) (M .goal-lt)
+      let q = least-first (mine-ascend v m) (mine-ranks v) (leastFrom v) h l w (mine-ranks v w i .small) e in
+      reads (leastFrom v) (w .label) (w .goal) (sym (rank-is v) ∙ q) (M .label-lt) (M .goal-lt)
 
-  -- the same, symbol by symbol
-  pub ranked-symbols : (v : ℕ) → v ∈ roots → sectionLeast edges cost 4294967295 (λ g. rest (goalOf g)) n 0 v < 4294967295
-      → Reads (sectionLeast edges (rankedCost n cost) topRank (λ g. rankedRest rest (goalOf g)) n 0 v) (sectionLeast edges cost 4294967295 (λ g. rest (goalOf g)) n 0 v)
-      (packOnto 0 (sectionTrace edges cost 4294967295 (λ g. rest (goalOf g)) n 0 v .symbols)) (goalOf (sectionTrace edges cost 4294967295 (λ g. rest (goalOf g)) n 0 v .end))
+  -- which are the path's symbols, packed, and the state where it ends
+  pub ranked-path : (v : ℕ) → v ∈ roots → leastFrom v < 4294967295
+      → Reads (rankFrom v) (leastFrom v) (packOnto 0 (named v .symbols)) (goalOf (named v .end))
   unfolding wordOf
-  ranked-symbols v m h = ranked-word v m h
+  ranked-path v m h = ranked-word v m h
