@@ -13,3 +13,4 @@ pub mod Chain
 pub mod Winner
 pub mod Block
 pub mod Blocks
+pub mod Ranked

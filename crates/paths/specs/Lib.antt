@@ -3,5 +3,6 @@ pub mod Choice
 pub mod Graph
 pub mod Costs
 pub mod Sections
+pub mod Ranked
 pub mod Chain
 pub mod Ranked

@@ -4,6 +4,7 @@ use mathlib.Core.Bool.{cond}
 use Prim.Native.Nat.{ℕ, suc, _+_, _-_, _*_, _^_}
 use lib.Dec.{ltb}
 
+-- label and goal take 16 bits each, the distance what is above them
 unfoldable pub ranked : ℕ → ℕ → ℕ → ℕ
 ranked d label goal = d * 4294967296 + (label * 65536 + goal)
 
@@ -11,10 +12,10 @@ ranked d label goal = d * 4294967296 + (label * 65536 + goal)
 abbrev pub topRank : ℕ
 topRank = 18446744073709551615
 
--- what the symbol a adds as symbol t of n
+-- what the symbol a adds as symbol t of n: its cost, and its place in the label
 unfoldable pub rankedCost : ℕ → (ℕ → ℕ → ℕ) → ℕ → ℕ → ℕ
 rankedCost n cost t a = ranked (cost t a) (a * 4 ^ (n - suc t)) 0
 
--- what is added behind the block, in the state s
+-- what is added behind the block, in the state s: the distance from there on, and the goal
 unfoldable pub rankedRest : (ℕ → ℕ) → ℕ → ℕ
 rankedRest rest s = cond (ltb (rest s) 4294967295) (ranked (rest s) 0 s) topRank

@@ -1,0 +1,289 @@
+-- One number for a distance and a word. Label and goal together stay below 4294967296, so the number divided by it is the distance, and a smaller
+-- distance always gives a smaller number. Symbol by symbol the costs add up to the distance, and the symbols, each at its place, to the label; what is
+-- added behind the block brings the goal. So the least number over the words of a root has the least distance; among the words of that distance it
+-- belongs to the one with the least label and goal, and as the words ascend, that is the first of them: the word that the distances name.
+use mathlib.Core.Path.{_≡_, refl, sym, ap, subst, _∙_}
+use mathlib.Core.Bool.{Bool, true, false, cond}
+use mathlib.Core.Logic.{⊎-elim}
+use mathlib.Core.Option.{some as just}
+use mathlib.Core.List.{List, [], _∷_, map, List·Memᴰ·head, List·Memᴰ·tail, List·Memᴰ·not-nil, List·Memᴰ·cases-cons, Memᴰ·of-map}
+use Prim.Native.Nat.{ℕ, zero, suc, _+_, _-_, _*_, _/_, _%_, _^_, _≤_, _<_, min}
+use native.Mathlib.Nat.{pow-suc, pow-succ', pow-le-pow-right, mul-le-mul-right, add-mul, mul-assoc, lt-of-lt-of-le}
+use native.Mathlib.Omega.{arith}
+use native.Mathlib.Decide.{decLe}
+use lib.Dec.{eqb, ltb, lit<}
+use borrow.Author.Tests.{ltb-true, ltb-false, eqb-true, eqb-false}
+use Rattle.trellis.specs.Lists.{_∈_, byFirst, bySecond, byThird}
+use Rattle.trellis.specs.Word.{Word, Before}
+use Rattle.trellis.specs.Own.{Edge}
+use Rattle.trellis.specs.Section.{Path, leaving, pathsFrom, packOnto, wordOf, wordsOf}
+use Rattle.paths.specs.Costs.{plus, minAll, least, firstWith}
+use Rattle.paths.specs.Sections.{costFrom, sectionLeast, sectionTrace}
+use Rattle.paths.specs.Ranked.{ranked, topRank, rankedCost, rankedRest}
+use Rattle.paths.specs.Chain.{rootedAt}
+use Rattle.paths.proofs.Ordered.{Ordered, leads, ended, ordered-keep, ordered-as}
+use Rattle.paths.proofs.Ascent.{Symbols, no-more, one-more, Bounded}
+use Rattle.paths.proofs.Capped.{min-same}
+use Rattle.paths.proofs.Trace.{of-first}
+use Rattle.paths.proofs.Words.{rooted-words, whole-fits}
+use Rattle.paths.proofs.Block.{Spells, block-cost, block-word}
+use Rattle.paths.proofs.Blocks.{Uses}
+
+-- ---- symbols
+
+-- what stands in front counts above the symbols
+pack-behind : {k : ℕ} {us : List ℕ} → Symbols k us → (x : ℕ) → packOnto x us ≡ x * 4 ^ k + packOnto 0 us
+unfolding packOnto
+pack-behind no-more x = omega arith
+pack-behind {k = suc k} {us = a ∷ rest} (one-more p s) x =
+    let e : x * 4 ^ suc k ≡ x * 4 * 4 ^ k = ap (λ y. x * y) (pow-succ' 4 k) ∙ sym (mul-assoc x 4 (4 ^ k)) in
+    let f : (x * 4 + a) * 4 ^ k ≡ x * 4 * 4 ^ k + a * 4 ^ k = add-mul (x * 4) a (4 ^ k) in
+    let g : (0 * 4 + a) * 4 ^ k ≡ a * 4 ^ k = ap (λ y. y * 4 ^ k) (omega arith) in
+    omega (arith, pack-behind s (x * 4 + a), pack-behind s (0 * 4 + a))
+
+-- a label of k symbols is below 4 ^ k
+pack-fits : {k : ℕ} {us : List ℕ} → Symbols k us → packOnto 0 us < 4 ^ k
+unfolding packOnto
+pack-fits no-more = omega arith
+pack-fits {k = suc k} {us = a ∷ rest} (one-more p s) =
+    let q : (0 * 4 + a) * 4 ^ k ≤ 3 * 4 ^ k = mul-le-mul-right (4 ^ k) (omega arith) in
+    omega (arith, pack-behind s (0 * 4 + a), pack-fits s, pow-suc 4 k)
+
+-- what the symbols add together: their cost, and their label
+ranked-from : (n : ℕ) (cost : ℕ → ℕ → ℕ) {k : ℕ} {us : List ℕ} → Symbols k us → (t : ℕ) → t + k ≡ n
+    → costFrom (rankedCost n cost) t us ≡ costFrom cost t us * 4294967296 + packOnto 0 us * 65536
+unfolding costFrom packOnto rankedCost ranked
+ranked-from n cost no-more t h = refl
+ranked-from n cost {k = suc k} {us = a ∷ rest} (one-more p s) t h =
+    let e : a * 4 ^ (n - suc t) ≡ a * 4 ^ k = ap (λ j. a * 4 ^ j) (omega arith) in
+    let g : (0 * 4 + a) * 4 ^ k ≡ a * 4 ^ k = ap (λ y. y * 4 ^ k) (omega arith) in
+    omega (arith, pack-behind s (0 * 4 + a), ranked-from n cost s (suc t) (omega arith))
+
+-- ---- one word: its distance f, its label and goal in one number K, and all three in one number F
+
+record Ranks (f F K : ℕ) : Type 0 where
+  front : F / 4294967296 ≡ f
+  whole : f < 4294967295 → F ≡ f * 4294967296 + K
+  small : K < 4294967296
+
+ranks : (rest : ℕ → ℕ) (d label goal : ℕ) → rest goal ≤ 4294967295 → label < 65536 → goal < 65536
+    → Ranks (plus 4294967295 d (rest goal)) (plus topRank (d * 4294967296 + label * 65536) (rankedRest rest goal)) (label * 65536 + goal)
+unfolding plus rankedRest ranked
+ranks rest d label goal h l g = go (ltb (rest goal) 4294967295) refl
+  where
+    go : (b : Bool) → ltb (rest goal) 4294967295 ≡ b
+        → Ranks (min 4294967295 (d + rest goal))
+        (min topRank (d * 4294967296 + label * 65536 + cond b (rest goal * 4294967296 + (0 * 65536 + goal)) topRank)) (label * 65536 + goal)
+    go true e = let k = ltb-true (rest goal) 4294967295 e in record { front = omega arith; whole = λ z. omega arith; small = omega arith }
+    go false e = let k = ltb-false (rest goal) 4294967295 e in record { front = omega arith; whole = λ z. omega arith; small = omega arith }
+
+-- what is not cheaper, and comes no sooner where it is as cheap
+above : {f F K : ℕ} → Ranks f F K → (c k : ℕ) → c < 4294967295 → k < 4294967296 → c ≤ f → k ≤ K → c * 4294967296 + k ≤ F
+above {f} {F} {K} r c k h s l j = go (decLe f c)
+  where
+    go : Dec (f ≤ c) → c * 4294967296 + k ≤ F
+    go (yes a) = let w = r .whole (omega arith) in omega arith
+    go (no a) = let w = r .front in omega arith
+
+-- ---- a list of words
+
+least-from : {A : Type 0} (top : ℕ) (f : A → ℕ) (xs : List A) (c : ℕ) → c ≤ top → ((x : A) → x ∈ xs → c ≤ f x) → c ≤ minAll top f xs
+unfolding minAll
+least-from top f [] c h l = h
+least-from top f (x ∷ xs) c h l =
+    let e = l x (List·Memᴰ·head refl) in
+    let i = least-from top f xs c h (λ y m. l y (List·Memᴰ·tail m)) in
+    omega arith
+
+least-under : {A : Type 0} (top : ℕ) (f : A → ℕ) (xs : List A) (x : A) → x ∈ xs → minAll top f xs ≤ f x
+unfolding minAll
+least-under top f [] x m = absurd (List·Memᴰ·not-nil m)
+least-under top f (y ∷ xs) x m =
+    ⊎-elim (λ e. let i = ap f e in omega arith) (λ k. let i = least-under top f xs x k in omega arith) (List·Memᴰ·cases-cons m)
+
+module _ {A : Type 0} {f F K : A → ℕ} where
+  -- the distance of the least number is the least distance
+  least-front : (xs : List A) → ((x : A) → x ∈ xs → Ranks (f x) (F x) (K x)) → minAll topRank F xs / 4294967296 ≡ minAll 4294967295 f xs
+  unfolding minAll
+  least-front [] r = omega arith
+  least-front (x ∷ xs) r =
+      let e = r x (List·Memᴰ·head refl) .front in
+      let i = least-front xs (λ y m. r y (List·Memᴰ·tail m)) in
+      omega arith
+
+  -- the first of those with the least distance has the least number
+  least-first : {xs : List A} → Ordered (λ x y. K x < K y) xs → ((x : A) → x ∈ xs → Ranks (f x) (F x) (K x))
+      → (c : ℕ) → c < 4294967295 → ((x : A) → x ∈ xs → c ≤ f x)
+      → (w : A) → K w < 4294967296 → firstWith (λ x. eqb (f x) c) xs ≡ just w → minAll topRank F xs ≡ c * 4294967296 + K w
+  unfolding firstWith minAll
+  least-first ended r c h l w k e = let z : _≡_ {A = ℕ} 0 1 = cc in absurd (omega arith)
+  least-first (leads {x = x} {xs = xs} a o) r c h l w k e =
+      go (eqb (f x) c) refl (least-first o (λ y m. r y (List·Memᴰ·tail m)) c h (λ y m. l y (List·Memᴰ·tail m)) w k) e
+    where
+      go : (b : Bool) → eqb (f x) c ≡ b → (firstWith (λ x. eqb (f x) c) xs ≡ just w → minAll topRank F xs ≡ c * 4294967296 + K w)
+          → cond b (just x) (firstWith (λ x. eqb (f x) c) xs) ≡ just w → min (F x) (minAll topRank F xs) ≡ c * 4294967296 + K w
+      go true t i e =
+          let q : x ≡ w = cc in
+          let j = ap K q in
+          let u = eqb-true (f x) c t in
+          let v = r x (List·Memᴰ·head refl) .whole (omega arith) in
+          let s
+          = least-from topRank F xs (c * 4294967296 + K w) (omega arith)
+          (λ y m. let z = a y m in above (r y (List·Memᴰ·tail m)) c (K w) h k (l y (List·Memᴰ·tail m)) (omega arith)) in
+          omega arith
+      go false t i e =
+          let p = r x (List·Memᴰ·head refl) .front in
+          let u : f x ≡ c → ⊥ = eqb-false (f x) c t in
+          let v = l x (List·Memᴰ·head refl) in
+          let s = i e in
+          omega arith
+
+-- ---- what is above top behind the block may as well be top
+
+plus-capped : (top d x : ℕ) → plus top d x ≡ plus top d (min top x)
+unfolding plus
+plus-capped top d x = omega arith
+
+least-capped : (edges : ℕ → List Edge) (cost : ℕ → ℕ → ℕ) (top : ℕ) (number : ℕ → ℕ) (k t v : ℕ)
+    → sectionLeast edges cost top number (suc k) t v ≡ sectionLeast edges cost top (λ g. min top (number g)) (suc k) t v
+unfolding sectionLeast least
+least-capped edges cost top number zero t v = min-same top (λ e. plus-capped top (cost t (e .symbol)) (number (e .to))) (leaving v (edges t))
+least-capped edges cost top number (suc k) t v =
+    min-same top (λ e. ap (plus top (cost t (e .symbol))) (least-capped edges cost top number k (suc t) (e .to))) (leaving v (edges t))
+
+-- ---- one block that is a section
+
+-- what is asked of the section: at least one symbol and 8 at most, each below 4; goal states of 16 bits; words in word order
+pub record Rankable (edges : ℕ → List Edge) (n goals : ℕ) (roots : List ℕ) (rootOf goalOf : ℕ → ℕ) : Type 0 where
+  pub some : 0 < n
+  pub short : n ≤ 8
+  pub fits : Bounded edges n goals
+  pub small : (g : ℕ) → g < goals → goalOf g < 65536
+  pub ordered : Ordered Before (wordsOf n edges roots rootOf goalOf)
+
+-- the number of a distance, a label and a goal, and what can be read off it
+pub record Reads (rank d label goal : ℕ) : Type 0 where
+  pub is : rank ≡ ranked d label goal
+  pub below : rank % 4294967296 ≡ label * 65536 + goal
+  pub label-is : rank % 4294967296 / 65536 ≡ label
+  pub goal-is : rank % 4294967296 % 65536 ≡ goal
+  pub label-lt : label < 65536
+  pub goal-lt : goal < 65536
+
+reads : {rank : ℕ} (d label goal : ℕ) → rank ≡ d * 4294967296 + (label * 65536 + goal) → label < 65536 → goal < 65536 → Reads rank d label goal
+unfolding ranked
+reads d label goal e l g = record { is = e; below = omega arith; label-is = omega arith; goal-is = omega arith; label-lt = l; goal-lt = g }
+
+module _ {words : ℕ → List Word} {dist : ℕ → Word → ℕ} {b : ℕ} {edges : ℕ → List Edge} {n goals : ℕ} {roots : List ℕ} {rootOf goalOf : ℕ → ℕ} {cost : ℕ → ℕ → ℕ} (U : Uses words dist b edges n roots rootOf goalOf cost) (R : Rankable edges n goals roots rootOf goalOf) (rest : ℕ → ℕ) (bound : (s : ℕ) → rest s ≤ 4294967295) where
+  abbrev spell : ℕ → Path → Word
+  spell v p = wordOf rootOf goalOf v p
+
+  abbrev mine : ℕ → List Word
+  mine v = map (spell v) (pathsFrom edges n 0 v)
+
+  abbrev distRanked : Word → ℕ
+  distRanked w = dist b w * 4294967296 + w .label * 65536
+
+  abbrev restRanked : ℕ → ℕ
+  restRanked s = min topRank (rankedRest rest s)
+
+  spells : (v : ℕ) → Spells cost goalOf (dist b) (spell v) (pathsFrom edges n 0 v)
+  unfolding wordOf
+  spells v = record { same-cost = U .same-cost v; same-goal = λ p. refl }
+
+  spells-ranked : (v : ℕ) → Spells (rankedCost n cost) goalOf distRanked (spell v) (pathsFrom edges n 0 v)
+  unfolding wordOf
+  spells-ranked v =
+      record {
+        same-cost = λ p m. ap (λ d. d * 4294967296 + packOnto 0 (p .symbols) * 65536) (U .same-cost v p m)
+            ∙ sym (ranked-from n cost (whole-fits edges n goals (R .fits) (R .some) v p m .symbols-fit) 0 (omega arith));
+        same-goal = λ p. refl;
+      }
+
+  rest-ranked-le : (s : ℕ) → restRanked s ≤ topRank
+  rest-ranked-le s = omega arith
+
+  -- a word of vertex v
+  record Mine (v : ℕ) (w : Word) : Type 0 where
+    root-is : w .root ≡ rootOf v
+    label-lt : w .label < 65536
+    goal-lt : w .goal < 65536
+
+  mine-is : (v : ℕ) (w : Word) → w ∈ mine v → Mine v w
+  unfolding wordOf
+  mine-is v w m =
+      let x = Memᴰ·of-map (spell v) (pathsFrom edges n 0 v) m in
+      let P = whole-fits edges n goals (R .fits) (R .some) v (x .0) (x .1) in
+      let h : 4 ^ n ≤ 4 ^ 8 = pow-le-pow-right (lit< tt) (R .short) in
+      subst (Mine v) (x .2) (record { root-is = refl; label-lt = lt-of-lt-of-le (pack-fits (P .symbols-fit)) h; goal-lt = R .small (x .0 .end) (P .end-fits) })
+
+  abbrev onWord : Word → ℕ
+  onWord w = plus 4294967295 (dist b w) (rest (w .goal))
+
+  abbrev onRank : Word → ℕ
+  onRank w = plus topRank (distRanked w) (restRanked (w .goal))
+
+  abbrev key : Word → ℕ
+  key w = w .label * 65536 + w .goal
+
+  mine-ranks : (v : ℕ) (w : Word) → w ∈ mine v → Ranks (onWord w) (onRank w) (key w)
+  mine-ranks v w m =
+      let M = mine-is v w m in
+      subst (λ x. Ranks (onWord w) x (key w)) (plus-capped topRank (distRanked w) (rankedRest rest (w .goal)))
+      (ranks rest (dist b w) (w .label) (w .goal) (bound (w .goal)) (M .label-lt) (M .goal-lt))
+
+  -- the words of a vertex ascend by label and goal
+  mine-ascend : (v : ℕ) → v ∈ roots → Ordered (λ x y. key x < key y) (mine v)
+  unfolding rootedAt
+  mine-ascend v m =
+      ordered-as (λ x y j k. rises x y (mine-is v x j) (mine-is v y k))
+      (subst (Ordered Before) (rooted-words edges n rootOf goalOf roots (U .roots-ascend) v m) (ordered-keep (λ w. eqb (w .root) (rootOf v)) (R .ordered)))
+    where
+      rises : (x y : Word) → Mine v x → Mine v y → Before x y → key x < key y
+      rises x y X Y (byFirst p) = let i = X .root-is in let j = Y .root-is in absurd (omega arith)
+      rises x y X Y (bySecond p q) = let i = X .goal-lt in omega arith
+      rises x y X Y (byThird p q r) = omega arith
+
+  -- the least distance from vertex v, the path that the distances name, and the least number
+  abbrev pub leastFrom : ℕ → ℕ
+  leastFrom v = sectionLeast edges cost 4294967295 (λ g. rest (goalOf g)) n 0 v
+
+  abbrev pub named : ℕ → Path
+  named v = sectionTrace edges cost 4294967295 (λ g. rest (goalOf g)) n 0 v
+
+  abbrev pub rankFrom : ℕ → ℕ
+  rankFrom v = sectionLeast edges (rankedCost n cost) topRank (λ g. rankedRest rest (goalOf g)) n 0 v
+
+  distance-is : (v : ℕ) → minAll 4294967295 onWord (mine v) ≡ leastFrom v
+  distance-is v = block-cost edges n v (spells v) 4294967295 rest bound
+
+  rank-is : (v : ℕ) → minAll topRank onRank (mine v) ≡ rankFrom v
+  rank-is v =
+      let e : suc (n - 1) ≡ n = omega (arith, R .some) in
+      block-cost edges n v (spells-ranked v) topRank restRanked rest-ranked-le
+      ∙ sym (subst (λ k. sectionLeast edges (rankedCost n cost) topRank (λ g. rankedRest rest (goalOf g)) k 0 v
+      ≡ sectionLeast edges (rankedCost n cost) topRank (λ g. restRanked (goalOf g)) k 0 v) e
+      (least-capped edges (rankedCost n cost) topRank (λ g. rankedRest rest (goalOf g)) (n - 1) 0 v))
+
+  -- the least number has the least distance
+  pub ranked-cost : (v : ℕ) → rankFrom v / 4294967296 ≡ leastFrom v
+  ranked-cost v = ap (λ x. x / 4294967296) (sym (rank-is v)) ∙ least-front (mine v) (mine-ranks v) ∙ distance-is v
+
+  -- and below it the label and the goal of the word that the distances name
+  pub ranked-word : (v : ℕ) → v ∈ roots → leastFrom v < 4294967295
+      → Reads (rankFrom v) (leastFrom v) (wordOf rootOf goalOf v (named v) .label) (wordOf rootOf goalOf v (named v) .goal)
+  ranked-word v m h =
+      let w = spell v (named v) in
+      let e = block-word edges n v (spells v) 4294967295 rest bound (leastFrom v) refl h in
+      let i = of-first (λ x. eqb (onWord x) (leastFrom v)) (mine v) e .0 in
+      let l : (x : Word) → x ∈ mine v → leastFrom v ≤ onWord x
+      = λ x k. subst (λ z. z ≤ onWord x) (distance-is v) (least-under 4294967295 onWord (mine v) x k) in
+      let M = mine-is v w i in
+      let q = least-first (mine-ascend v m) (mine-ranks v) (leastFrom v) h l w (mine-ranks v w i .small) e in
+      reads (leastFrom v) (w .label) (w .goal) (sym (rank-is v) ∙ q) (M .label-lt) (M .goal-lt)
+
+  -- which are the path's symbols, packed, and the state where it ends
+  pub ranked-path : (v : ℕ) → v ∈ roots → leastFrom v < 4294967295
+      → Reads (rankFrom v) (leastFrom v) (packOnto 0 (named v .symbols)) (goalOf (named v .end))
+  unfolding wordOf
+  ranked-path v m h = ranked-word v m h
