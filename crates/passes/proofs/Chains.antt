@@ -59,18 +59,18 @@ bounded-by {l} F = record { symbol-lt = symbol-lt; goal-lt = goal-lt }
         subst (λ u. e .to < vertexCountOf l u) h
         (subst (λ f. f .to < vertexCountOf l (suc t)) (sym (w .is)) (F .toBelow t (edgesBefore l t + w .at) (omega arith) (omega arith) (omega arith)))
 
--- which root is in state s
-pub root-at : (l : List ℕ) (s : ℕ) → RootAt l s (first (λ v. eqb (rootState l v) s) (vertexCountOf l 0))
+-- the root in state s, or the number of roots
+abbrev pub rootOf : List ℕ → ℕ → ℕ
+rootOf l s = first (λ v. eqb (rootState l v) s) (vertexCountOf l 0)
+
+pub root-at : (l : List ℕ) (s : ℕ) → RootAt l s (rootOf l s)
 root-at l s = record {
   r-le = F .most;
-  is = λ h. eqb→eq (rootState l r) s (F .hit h);
+  is = λ h. eqb→eq (rootState l (rootOf l s)) s (F .hit h);
   none = λ h u k e. F .miss u (omega arith) (subst (λ x. T (eqb x s)) (sym e) (eqb-refl s));
 }
   where
-    r : ℕ
-    r = first (λ v. eqb (rootState l v) s) (vertexCountOf l 0)
-
-    F : First (λ v. eqb (rootState l v) s) (vertexCountOf l 0) r
+    F : First (λ v. eqb (rootState l v) s) (vertexCountOf l 0) (rootOf l s)
     F = first-ok (λ v. eqb (rootState l v) s) (vertexCountOf l 0)
 
 -- ---- the chain
@@ -150,60 +150,56 @@ module _ {sections starts indices received erased : List ℕ} (R : Ready section
   pub fill-start : {end : ℕ} {costs : List ℕ} → Filled sections starts indices received erased end (length indices) costs costs
   fill-start = record { b-le = omega arith; long = refl; table = record { at = λ c s h k. absurd (omega arith) }; kept = λ i h. refl }
 
-  pub fill-more : {end b i : ℕ} {old mid new : List ℕ} → Filled sections starts indices received erased end b old mid → 0 < b → BlockAt (b - 1) i
-      → BlockTable (partAt i) (getD received (b - 1) 0) (getD erased (b - 1) 0) (length indices) end (b - 1) mid new
-      → Filled sections starts indices received erased end (b - 1) old new
+  -- block b, from the table behind it
+  fill-block : {end b i : ℕ} {old mid new : List ℕ} → Filled sections starts indices received erased end (suc b) old mid → BlockAt b i
+      → BlockTable (partAt i) (getD received b 0) (getD erased b 0) (length indices) end b mid new → Filled sections starts indices received erased end b old new
   unfolding leastFrom
-  fill-more {end} {b} {old = old} {mid} {new} I h A B =
+  fill-block {end} {b} {old = old} {mid} {new} I A B =
       record { b-le = omega (arith, I .b-le); long = B .long ∙ I .long; table = record { at = at }; kept = kept }
     where
-      c : ℕ
-      c = b - 1
+      inside : b < length indices
+      inside = I .b-le
 
-      inside : b - 1 < length indices
-      inside = omega (arith, I .b-le)
+      left : ℕ
+      left = length indices - suc b
 
-      back : b ≡ suc (b - 1)
-      back = omega arith
+      D : BlockTable (part b) (getD received b 0) (getD erased b 0) (length indices) end b mid new
+      D = subst (λ l. BlockTable l (getD received b 0) (getD erased b 0) (length indices) end b mid new) (A .part-is) B
 
-      D : BlockTable (part (b - 1)) (getD received (b - 1) 0) (getD erased (b - 1) 0) (length indices) end (b - 1) mid new
-      D = subst (λ l. BlockTable l (getD received (b - 1) 0) (getD erased (b - 1) 0) (length indices) end (b - 1) mid new) (A .part-is) B
+      at-root : (s v : ℕ) → v < vertexCountOf (part b) 0 → rootState (part b) v ≡ s → getD new (64 * b + s) 0 ≡ leastAhead end (suc left) b s
+      at-root s v y e =
+          subst (λ x. getD new (64 * b + x) 0 ≡ leastAhead end (suc left) b x) e
+          (D .root (λ g. leastAhead end left (suc b) (goalState (part b) g)) (behind-is (I .table) inside) v y
+          ∙ sym (least-root (uses b inside) (endsIn end) top left v (root-listed b v y)))
 
-      table : Table sections starts indices received erased end (suc (b - 1)) mid
-      table = subst (λ x. Table sections starts indices received erased end x mid) back (I .table)
-
-      here : (s : ℕ) → s < 64 → getD new (64 * (b - 1) + s) 0 ≡ leastAhead end (suc (length indices - suc (b - 1))) (b - 1) s
-      here s k = go (root-at (part (b - 1)) s) (decLt (first (λ v. eqb (rootState (part (b - 1)) v) s) (vertexCountOf (part (b - 1)) 0)) (vertexCountOf (part (b - 1)) 0))
+      here : (s : ℕ) → s < 64 → getD new (64 * b + s) 0 ≡ leastAhead end (suc left) b s
+      here s k = go (root-at (part b) s) (decLt (rootOf (part b) s) (vertexCountOf (part b) 0))
         where
-          v : ℕ
-          v = first (λ v. eqb (rootState (part (b - 1)) v) s) (vertexCountOf (part (b - 1)) 0)
+          go : RootAt (part b) s (rootOf (part b) s) → Dec (rootOf (part b) s < vertexCountOf (part b) 0)
+              → getD new (64 * b + s) 0 ≡ leastAhead end (suc left) b s
+          go F (yes y) = at-root s (rootOf (part b) s) y (F .is y)
+          go F (no y) =
+              D .none s k (F .none (omega arith))
+              ∙ sym (least-else (uses b inside) (endsIn end) top left s (none-listed b s (F .none (omega arith))))
 
-          go : RootAt (part (b - 1)) s (first (λ v. eqb (rootState (part (b - 1)) v) s) (vertexCountOf (part (b - 1)) 0))
-              → Dec (first (λ v. eqb (rootState (part (b - 1)) v) s) (vertexCountOf (part (b - 1)) 0) < vertexCountOf (part (b - 1)) 0)
-              → getD new (64 * (b - 1) + s) 0 ≡ leastAhead end (suc (length indices - suc (b - 1))) (b - 1) s
-          go A (yes y) = at-root v y (A .is y)
-            where
-              at-root : (v : ℕ) → v < vertexCountOf (part (b - 1)) 0 → rootState (part (b - 1)) v ≡ s
-                  → getD new (64 * (b - 1) + s) 0 ≡ leastAhead end (suc (length indices - suc (b - 1))) (b - 1) s
-              at-root v y e =
-                  subst (λ x. getD new (64 * (b - 1) + x) 0 ≡ leastAhead end (suc (length indices - suc (b - 1))) (b - 1) x) e
-                  (D .root (λ g. leastAhead end (length indices - suc (b - 1)) (suc (b - 1)) (goalState (part (b - 1)) g)) (behind-is table inside) v y
-                  ∙ sym (least-root (uses (b - 1) inside) (endsIn end) top (length indices - suc (b - 1)) v (root-listed (b - 1) v y)))
-          go A (no y) =
-              D .none s k (A .none (omega arith))
-              ∙ sym (least-else (uses (b - 1) inside) (endsIn end) top (length indices - suc (b - 1)) s (none-listed (b - 1) s (A .none (omega arith))))
-
-      at : (d s : ℕ) → b - 1 ≤ d → d < length indices → s < 64 → getD new (64 * d + s) 0 ≡ leastAhead end (length indices - d) d s
-      at d s a f k = go (ℕ-discrete d (b - 1))
+      at : (d s : ℕ) → b ≤ d → d < length indices → s < 64 → getD new (64 * d + s) 0 ≡ leastAhead end (length indices - d) d s
+      at d s a f k = go (ℕ-discrete d b)
         where
-          go : Dec (d ≡ b - 1) → getD new (64 * d + s) 0 ≡ leastAhead end (length indices - d) d s
+          go : Dec (d ≡ b) → getD new (64 * d + s) 0 ≡ leastAhead end (length indices - d) d s
           go (yes e) =
-              let j : suc (length indices - suc (b - 1)) ≡ length indices - (b - 1) = omega arith in
-              subst (λ x. getD new (64 * x + s) 0 ≡ leastAhead end (length indices - x) x s) (sym e) (here s k ∙ ap (λ n. leastAhead end n (b - 1) s) j)
+              let j : suc (length indices - suc b) ≡ length indices - b = omega arith in
+              subst (λ x. getD new (64 * x + s) 0 ≡ leastAhead end (length indices - x) x s) (sym e) (here s k ∙ ap (λ n. leastAhead end n b s) j)
           go (no e) = D .kept (64 * d + s) (inr (omega arith)) ∙ I .table .at d s (omega arith) f k
 
       kept : (i : ℕ) → 64 * length indices ≤ i → getD new i 0 ≡ getD old i 0
-      kept i f = D .kept i (inr (omega arith)) ∙ I .kept i f
+      kept i f = D .kept i (inr (omega (arith, inside))) ∙ I .kept i f
+
+  pub fill-more : {end b i : ℕ} {old mid new : List ℕ} → Filled sections starts indices received erased end b old mid → 0 < b → BlockAt (b - 1) i
+      → BlockTable (partAt i) (getD received (b - 1) 0) (getD erased (b - 1) 0) (length indices) end (b - 1) mid new
+      → Filled sections starts indices received erased end (b - 1) old new
+  fill-more {end} {b} {old = old} {mid} I h A B =
+      let e : b ≡ suc (b - 1) = omega arith in
+      fill-block (subst (λ x. Filled sections starts indices received erased end x old mid) e I) A B
 
   pub fill-end : {end b : ℕ} {old new : List ℕ} → Filled sections starts indices received erased end b old new → b ≤ 0
       → Filled sections starts indices received erased end 0 old new

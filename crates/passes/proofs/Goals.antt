@@ -37,7 +37,6 @@ module _ (costs : List ℕ) (blocks end b s : ℕ) where
 -- goal g stands in the list, its state is small, and there is a place for it in row n
 pub record GoalAt (l : List ℕ) (goals g : ℕ) : Type 0 where
   pub below : g < vertexCountOf l (nOf l)
-  pub g-lt : g < 1024
   pub inside : goals + g < length l
   pub is : getD l (goals + g) 0 ≡ goalState l g
   pub small : getD l (goals + g) 0 < 64
@@ -53,7 +52,6 @@ goal-at {l} {goals = goals} {g = g} G P h =
     let e = G .fits .goalsIn in
     record {
       below = h;
-      g-lt = omega arith;
       inside = omega (arith, P .goalsIs);
       is = i;
       small = omega arith;

@@ -6,9 +6,7 @@ use Prim.Native.Nat.{ℕ, suc, _+_, _-_, _<_}
 use native.Mathlib.Decide.{decLt}
 use native.Mathlib.Numerals.{add-one}
 use native.Mathlib.Omega.{arith}
-use lib.Dec.{eqb}
 use lib.ListN.{length, getD}
-use Rattle.trellis.specs.Lists.{first}
 use Rattle.trellis.specs.Word.{Word}
 use Rattle.trellis.specs.Section.{Path, wordOf}
 use Rattle.trellis.specs.Layout.{nOf, vertexCountOf, rootState, goalState, stepEdges}
@@ -21,7 +19,7 @@ use Rattle.sweep.specs.Rows.{top}
 use Rattle.block.specs.Received.{symbolCost, blockDistance, Clean}
 use Rattle.passes.specs.Blocks.{endsIn, sectionOf, wordsOf, distanceOf, leastFrom, pathFrom, Ready, Table}
 use Rattle.passes.specs.Loops.{Behind, RootAt, Onward, WordFrom}
-use Rattle.passes.proofs.Chains.{root-at, root-listed, none-listed, leastAhead, uses, behind-is, partAt, BlockAt}
+use Rattle.passes.proofs.Chains.{rootOf, root-at, root-listed, none-listed, leastAhead, uses, behind-is, partAt, BlockAt}
 
 module _ {sections starts indices received erased : List ℕ} (R : Ready sections starts indices received erased) where
   abbrev part : ℕ → List ℕ
@@ -65,7 +63,7 @@ module _ {sections starts indices received erased : List ℕ} (R : Ready section
     onward-of o = rw (add-one b) (go (root-at (part b) s) (decLt r (vertexCountOf (part b) 0)))
       where
         r : ℕ
-        r = first (λ v. eqb (rootState (part b) v) s) (vertexCountOf (part b) 0)
+        r = rootOf (part b) s
 
         go : RootAt (part b) s r → Dec (r < vertexCountOf (part b) 0) → Onward (part b) (getD received b 0) (getD erased b 0) costs (length indices) end (suc b) s
         go A (yes y) =

@@ -10,7 +10,8 @@ use Rattle.passes.proofs.fill_table.Statement.{statement}
 use Rattle.passes.proofs.fill_table.Tie as tie
 
 abbrev Inv-loop : tie.InvT-loop
-Inv-loop sections starts indices received erased end costs₀ blocks rows₀ b₀ costs rows b = Filled sections starts indices received erased end b costs₀ costs × (length rows ≡ 9216)
+Inv-loop sections starts indices received erased end costs₀ blocks rows₀ b₀ costs rows b =
+    Filled sections starts indices received erased end b costs₀ costs × (length rows ≡ 9216)
 
 abbrev μ-loop : tie.MeasureT-loop
 μ-loop sections starts indices received erased end costs₀ blocks rows₀ b₀ costs rows b = b
@@ -21,10 +22,11 @@ abbrev μ-loop : tie.MeasureT-loop
 abbrev entry : tie.After-slice-known Inv-loop μ-loop → tie.Start Inv-loop μ-loop
 entry begun = begun .before .before .before .before .before
 
--- a turn, once the section index of its block is read
+-- a turn, seen from where the section index of its block is read
 abbrev turn-of : tie.After-widened Inv-loop μ-loop → tie.In-loop Inv-loop μ-loop
 turn-of read = read .before .before
 
+-- that place, seen from where the table is lent
 abbrev read-of : tie.After-table-block-arg Inv-loop μ-loop → tie.After-widened Inv-loop μ-loop
 read-of lent = lent .before .before .before .before .before .before
 

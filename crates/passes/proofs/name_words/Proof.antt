@@ -24,10 +24,11 @@ abbrev μ-loop : tie.MeasureT-loop
 abbrev entry : tie.After-slice-known2 Inv-loop μ-loop → tie.Start Inv-loop μ-loop
 entry begun = begun .before .before .before .before .before .before .before
 
--- a turn, once the section index of its block is read
+-- a turn, seen from where the section index of its block is read
 abbrev turn-of : tie.After-widened Inv-loop μ-loop → tie.In-loop Inv-loop μ-loop
 turn-of read = read .before .before
 
+-- that place, seen from where the rows are lent
 abbrev read-of : tie.After-rows Inv-loop μ-loop → tie.After-widened Inv-loop μ-loop
 read-of lent = lent .before .before .before .before .before
 

@@ -7,12 +7,15 @@ use Rattle.passes.proofs.word_from.Tie as tie
 
 -- ---- the places of the code that the needs look back to
 
+-- the function's entry, seen from where the section's parts are found
 abbrev entry : tie.After-places-of → tie.Start
 entry placed = placed .before .before .before
 
+-- that place, seen from where the root is found
 abbrev placed-of : tie.After-root-of → tie.After-places-of
 placed-of rooted = rooted .before .before .before .before .before
 
+-- that place, seen from where the word is named
 abbrev rooted-of : tie.After-name-word → tie.After-root-of
 rooted-of named = named .before .before .before
 
