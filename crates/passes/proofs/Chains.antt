@@ -1,10 +1,10 @@
 -- Block by block, the table is that of the chain: each block's section carries the block's words, a word costs what its path costs, and so the least
 -- distances before a block follow along its edges from those behind it.
-use mathlib.Core.Path.{_≡_, refl, sym, ap, subst, _∙_}
+use mathlib.Core.Path.{_≡_, refl, sym, ap, ap₂, subst, _∙_}
 use mathlib.Core.Bool.{cond}
 use mathlib.Core.Logic.{inr}
-use mathlib.Core.List.{List}
-use Prim.Native.Nat.{ℕ, zero, suc, _+_, _-_, _*_, _≤_, _<_}
+use mathlib.Core.List.{List, _∷_}
+use Prim.Native.Nat.{ℕ, zero, suc, _+_, _-_, _*_, _/_, _%_, _≤_, _<_}
 use native.Mathlib.Nat.{zero-add, le-of-eq}
 use native.Mathlib.Decide.{ℕ-discrete, decLt}
 use native.Mathlib.Omega.{arith}
@@ -13,22 +13,26 @@ use lib.ListN.{length, getD, take, drop, length-drop}
 use lib.Seq.{take-all}
 use borrow.Author.Tests.{lt-ltb, le-ltb}
 use Rattle.trellis.specs.Lists.{_∈_, run, each, first}
+use Rattle.trellis.specs.Word.{Word, word}
 use Rattle.trellis.specs.Own.{Edge}
-use Rattle.trellis.specs.Section.{wordOf}
+use Rattle.trellis.specs.Section.{Path, wordOf, packOnto}
 use Rattle.trellis.specs.Layout.{nOf, vertexCountOf, edgeCountOf, edgesBefore, rootState, goalState, edgeNumber, stepEdges, sectionWords}
 use Rattle.trellis.proofs.Lists.{of-run, in-each, First, first-ok}
 use Rattle.paths.specs.Costs.{least}
-use Rattle.paths.specs.Chain.{chainLeast}
+use Rattle.paths.specs.Sections.{sectionLeast, sectionTrace}
+use Rattle.paths.specs.Chain.{chainLeast, chainTrace}
 use Rattle.paths.proofs.Ordered.{Ordered, ended, leads}
 use Rattle.paths.proofs.Ascent.{Bounded}
 use Rattle.paths.proofs.Packed.{cost-packed}
 use Rattle.paths.proofs.Words.{whole-fits}
-use Rattle.paths.proofs.Blocks.{Uses, least-root, least-else}
-use Rattle.sweep.specs.Rows.{top, Fits}
+use Rattle.paths.proofs.Chain.{cost-table, table-le}
+use Rattle.paths.proofs.Blocks.{Uses, least-root, least-else, trace-root}
+use Rattle.paths.proofs.Ranked.{Rankable, Reads, ranked-cost, ranked-path}
+use Rattle.sweep.specs.Rows.{Fits}
 use Rattle.sweep.proofs.Edges.{before-more, before-le}
 use Rattle.block.specs.Received.{symbolCost, blockDistance}
-use Rattle.passes.specs.Blocks.{Good, endsIn, sectionOf, wordsOf, distanceOf, leastFrom, Ready, Table, Filled, aheadOf}
-use Rattle.passes.specs.Loops.{Behind, BlockTable, RootAt}
+use Rattle.passes.specs.Blocks.{top, Good, endsIn, sectionOf, wordsOf, distanceOf, leastFrom, pathFrom, Ready, Table, Pick, Filled, aheadOf}
+use Rattle.passes.specs.Loops.{Behind, rankFrom, BlockTable, RootAt}
 
 -- ---- one section
 
@@ -59,18 +63,18 @@ bounded-by {l} F = record { symbol-lt = symbol-lt; goal-lt = goal-lt }
         subst (λ u. e .to < vertexCountOf l u) h
         (subst (λ f. f .to < vertexCountOf l (suc t)) (sym (w .is)) (F .toBelow t (edgesBefore l t + w .at) (omega arith) (omega arith) (omega arith)))
 
--- which root is in state s
-pub root-at : (l : List ℕ) (s : ℕ) → RootAt l s (first (λ v. eqb (rootState l v) s) (vertexCountOf l 0))
+-- the root in state s, or the number of roots
+abbrev pub rootOf : List ℕ → ℕ → ℕ
+rootOf l s = first (λ v. eqb (rootState l v) s) (vertexCountOf l 0)
+
+pub root-at : (l : List ℕ) (s : ℕ) → RootAt l s (rootOf l s)
 root-at l s = record {
   r-le = F .most;
-  is = λ h. eqb→eq (rootState l r) s (F .hit h);
+  is = λ h. eqb→eq (rootState l (rootOf l s)) s (F .hit h);
   none = λ h u k e. F .miss u (omega arith) (subst (λ x. T (eqb x s)) (sym e) (eqb-refl s));
 }
   where
-    r : ℕ
-    r = first (λ v. eqb (rootState l v) s) (vertexCountOf l 0)
-
-    F : First (λ v. eqb (rootState l v) s) (vertexCountOf l 0) r
+    F : First (λ v. eqb (rootState l v) s) (vertexCountOf l 0) (rootOf l s)
     F = first-ok (λ v. eqb (rootState l v) s) (vertexCountOf l 0)
 
 -- ---- the chain
@@ -96,6 +100,21 @@ module _ {sections starts indices received erased : List ℕ} (R : Ready section
         let P = whole-fits (stepEdges (part b)) (nOf (part b)) (vertexCountOf (part b) (nOf (part b))) (bounded-by (R .good b h .fits)) (R .good b h .some) v p m in
         cost-packed (prices b) (nOf (part b)) (P .symbols-fit) 0 0 (zero-add (nOf (part b)));
   }
+
+  -- its words ascend, and labels and goals are small, so that they can be ranked
+  rankable : (b : ℕ) → b < length indices
+      → Rankable (stepEdges (part b)) (nOf (part b)) (vertexCountOf (part b) (nOf (part b))) (each (λ v. v) (vertexCountOf (part b) 0)) (rootState (part b))
+      (goalState (part b))
+  unfolding sectionWords
+  rankable b h =
+      let G = R .good b h in
+      record { some = G .some; short = G .fits .nTo; fits = bounded-by (G .fits); small = λ g k. omega (arith, G .goalsBelow g k); ordered = G .wordsAscend }
+
+  least-top : (end k b s : ℕ) → leastAhead end k b s ≤ top
+  least-top end k b s =
+      let W = wordsOf sections starts indices received erased in
+      let D = distanceOf sections starts indices received erased in
+      subst (λ x. x ≤ top) (cost-table W (endsIn end) D top k b s) (table-le W (endsIn end) D top k b s)
 
   pub root-listed : (b v : ℕ) → v < vertexCountOf (part b) 0 → v ∈ each (λ u. u) (vertexCountOf (part b) 0)
   root-listed b v h = in-each (λ u. u) (vertexCountOf (part b) 0) v v h refl
@@ -142,73 +161,153 @@ module _ {sections starts indices received erased : List ℕ} (R : Ready section
           ∙ sym (ap (λ j. leastAhead end j b s) e)
 
   pub behind-is : {end b : ℕ} {costs : List ℕ} → Table sections starts indices received erased end (suc b) costs → b < length indices
-      → Behind (part b) costs (length indices) end (suc b) (λ g. leastAhead end (length indices - suc b) (suc b) (goalState (part b) g))
+      → Behind (part b) costs (length indices) end (suc b) (leastAhead end (length indices - suc b) (suc b))
   behind-is {end} {b} D h g k = ahead-is D h (goalState (part b) g) (R .good b h .goalsBelow g k)
 
   -- ---- backward
 
-  pub fill-start : {end : ℕ} {costs : List ℕ} → Filled sections starts indices received erased end (length indices) costs costs
-  fill-start = record { b-le = omega arith; long = refl; table = record { at = λ c s h k. absurd (omega arith) }; kept = λ i h. refl }
+  pub fill-start : {end : ℕ} {costs picks : List ℕ} → length picks ≡ 16384 → Filled sections starts indices received erased end (length indices) costs costs picks
+  fill-start l = record {
+    b-le = omega arith;
+    long = refl;
+    table = record { at = λ c s h k. absurd (omega arith) };
+    kept = λ i h. refl;
+    picked = record { long = l; at = λ c s h k. absurd (omega arith) };
+  }
 
-  pub fill-more : {end b i : ℕ} {old mid new : List ℕ} → Filled sections starts indices received erased end b old mid → 0 < b → BlockAt (b - 1) i
-      → BlockTable (partAt i) (getD received (b - 1) 0) (getD erased (b - 1) 0) (length indices) end (b - 1) mid new
-      → Filled sections starts indices received erased end (b - 1) old new
-  unfolding leastFrom
-  fill-more {end} {b} {old = old} {mid} {new} I h A B =
-      record { b-le = omega (arith, I .b-le); long = B .long ∙ I .long; table = record { at = at }; kept = kept }
+  -- a root's rank has, below its distance, the label and the goal of the first word of least distance
+  pick-root : {end b v s pick : ℕ} → b < length indices → v < vertexCountOf (part b) 0 → rootState (part b) v ≡ s
+      → pick ≡ rankFrom (part b) (getD received b 0) (getD erased b 0) (leastAhead end (length indices - suc b) (suc b)) v % 4294967296
+      → leastAhead end (suc (length indices - suc b)) b s < top → Pick sections starts indices received erased end b s pick
+  unfolding pathFrom wordOf
+  pick-root {end} {b} {v} {s} {pick} h y e p o = record {
+    goalBelow = subst (λ x. x < 64) (sym goal-is) (K .goal-lt);
+    path =
+        ap (λ j. onward j b s) left ∙ traced ∙ ap₂ (λ w g. w ∷ onward (length indices - suc b) (suc b) g) same (sym goal-is);
+  }
     where
-      c : ℕ
-      c = b - 1
+      left : length indices - b ≡ suc (length indices - suc b)
+      left = omega arith
 
-      inside : b - 1 < length indices
-      inside = omega (arith, I .b-le)
+      onward : ℕ → ℕ → ℕ → List Word
+      onward j c u = chainTrace (wordsOf sections starts indices received erased) (endsIn end) (distanceOf sections starts indices received erased) top j c u
 
-      back : b ≡ suc (b - 1)
-      back = omega arith
+      q : Path
+      q = sectionTrace (stepEdges (part b)) (prices b) top (λ g. leastAhead end (length indices - suc b) (suc b) (goalState (part b) g)) (nOf (part b)) 0 v
 
-      D : BlockTable (part (b - 1)) (getD received (b - 1) 0) (getD erased (b - 1) 0) (length indices) end (b - 1) mid new
-      D = subst (λ l. BlockTable l (getD received (b - 1) 0) (getD erased (b - 1) 0) (length indices) end (b - 1) mid new) (A .part-is) B
+      here : leastAhead end (suc (length indices - suc b)) b (rootState (part b) v) < top
+      here = subst (λ x. leastAhead end (suc (length indices - suc b)) b x < top) (sym e) o
 
-      table : Table sections starts indices received erased end (suc (b - 1)) mid
-      table = subst (λ x. Table sections starts indices received erased end x mid) back (I .table)
+      K : Reads (rankFrom (part b) (getD received b 0) (getD erased b 0) (leastAhead end (length indices - suc b) (suc b)) v)
+          (sectionLeast (stepEdges (part b)) (prices b) top (λ g. leastAhead end (length indices - suc b) (suc b) (goalState (part b) g)) (nOf (part b)) 0 v)
+          (packOnto 0 (q .symbols)) (goalState (part b) (q .end))
+      K =
+          ranked-path (uses b h) (rankable b h) (leastAhead end (length indices - suc b) (suc b)) (least-top end (length indices - suc b) (suc b)) v (root-listed b v y)
+          (subst (λ x. x < top) (least-root (uses b h) (endsIn end) top (length indices - suc b) v (root-listed b v y)) here)
 
-      here : (s : ℕ) → s < 64 → getD new (64 * (b - 1) + s) 0 ≡ leastAhead end (suc (length indices - suc (b - 1))) (b - 1) s
-      here s k = go (root-at (part (b - 1)) s) (decLt (first (λ v. eqb (rootState (part (b - 1)) v) s) (vertexCountOf (part (b - 1)) 0)) (vertexCountOf (part (b - 1)) 0))
+      goal-is : pick % 65536 ≡ goalState (part b) (q .end)
+      goal-is = ap (λ x. x % 65536) p ∙ K .goal-is
+
+      label-is : pick / 65536 ≡ packOnto 0 (q .symbols)
+      label-is = ap (λ x. x / 65536) p ∙ K .label-is
+
+      same : word (rootState (part b) v) (packOnto 0 (q .symbols)) (goalState (part b) (q .end)) ≡ word s (pick / 65536) (pick % 65536)
+      same = λ i. word (e i) (sym label-is i) (sym goal-is i)
+
+      traced : onward (suc (length indices - suc b)) b s
+          ≡ word (rootState (part b) v) (packOnto 0 (q .symbols)) (goalState (part b) (q .end)) ∷ onward (length indices - suc b) (suc b) (goalState (part b) (q .end))
+      traced =
+          subst (λ x. onward (suc (length indices - suc b)) b x ≡ word (rootState (part b) v) (packOnto 0 (q .symbols)) (goalState (part b) (q .end))
+          ∷ onward (length indices - suc b) (suc b) (goalState (part b) (q .end))) e
+          (trace-root (uses b h) (endsIn end) top (length indices - suc b) v (root-listed b v y) here)
+
+  -- block b, from the table behind it
+  fill-block : {end b i : ℕ} {old mid new midPicks picks : List ℕ} → Filled sections starts indices received erased end (suc b) old mid midPicks → BlockAt b i
+      → BlockTable (partAt i) (getD received b 0) (getD erased b 0) (length indices) end b mid new midPicks picks
+      → Filled sections starts indices received erased end b old new picks
+  unfolding leastFrom
+  fill-block {end} {b} {old = old} {mid} {new} {midPicks} {picks} I A B = record {
+    b-le = omega (arith, I .b-le);
+    long = B .long ∙ I .long;
+    table = record { at = at };
+    kept = kept;
+    picked = record { long = B .picksLong ∙ I .picked .long; at = pick-at };
+  }
+    where
+      inside : b < length indices
+      inside = I .b-le
+
+      left : ℕ
+      left = length indices - suc b
+
+      D : BlockTable (part b) (getD received b 0) (getD erased b 0) (length indices) end b mid new midPicks picks
+      D = subst (λ l. BlockTable l (getD received b 0) (getD erased b 0) (length indices) end b mid new midPicks picks) (A .part-is) B
+
+      at-root : (s v : ℕ) → v < vertexCountOf (part b) 0 → rootState (part b) v ≡ s → getD new (64 * b + s) 0 ≡ leastAhead end (suc left) b s
+      at-root s v y e =
+          subst (λ x. getD new (64 * b + x) 0 ≡ leastAhead end (suc left) b x) e
+          (D .root (leastAhead end left (suc b)) (behind-is (I .table) inside) v y
+          ∙ ranked-cost (uses b inside) (rankable b inside) (leastAhead end left (suc b)) (least-top end left (suc b)) v
+          ∙ sym (least-root (uses b inside) (endsIn end) top left v (root-listed b v y)))
+
+      here : (s : ℕ) → s < 64 → getD new (64 * b + s) 0 ≡ leastAhead end (suc left) b s
+      here s k = go (root-at (part b) s) (decLt (rootOf (part b) s) (vertexCountOf (part b) 0))
         where
-          v : ℕ
-          v = first (λ v. eqb (rootState (part (b - 1)) v) s) (vertexCountOf (part (b - 1)) 0)
+          go : RootAt (part b) s (rootOf (part b) s) → Dec (rootOf (part b) s < vertexCountOf (part b) 0)
+              → getD new (64 * b + s) 0 ≡ leastAhead end (suc left) b s
+          go F (yes y) = at-root s (rootOf (part b) s) y (F .is y)
+          go F (no y) =
+              D .none s k (F .none (omega arith))
+              ∙ sym (least-else (uses b inside) (endsIn end) top left s (none-listed b s (F .none (omega arith))))
 
-          go : RootAt (part (b - 1)) s (first (λ v. eqb (rootState (part (b - 1)) v) s) (vertexCountOf (part (b - 1)) 0))
-              → Dec (first (λ v. eqb (rootState (part (b - 1)) v) s) (vertexCountOf (part (b - 1)) 0) < vertexCountOf (part (b - 1)) 0)
-              → getD new (64 * (b - 1) + s) 0 ≡ leastAhead end (suc (length indices - suc (b - 1))) (b - 1) s
-          go A (yes y) = at-root v y (A .is y)
-            where
-              at-root : (v : ℕ) → v < vertexCountOf (part (b - 1)) 0 → rootState (part (b - 1)) v ≡ s
-                  → getD new (64 * (b - 1) + s) 0 ≡ leastAhead end (suc (length indices - suc (b - 1))) (b - 1) s
-              at-root v y e =
-                  subst (λ x. getD new (64 * (b - 1) + x) 0 ≡ leastAhead end (suc (length indices - suc (b - 1))) (b - 1) x) e
-                  (D .root (λ g. leastAhead end (length indices - suc (b - 1)) (suc (b - 1)) (goalState (part (b - 1)) g)) (behind-is table inside) v y
-                  ∙ sym (least-root (uses (b - 1) inside) (endsIn end) top (length indices - suc (b - 1)) v (root-listed (b - 1) v y)))
-          go A (no y) =
-              D .none s k (A .none (omega arith))
-              ∙ sym (least-else (uses (b - 1) inside) (endsIn end) top (length indices - suc (b - 1)) s (none-listed (b - 1) s (A .none (omega arith))))
-
-      at : (d s : ℕ) → b - 1 ≤ d → d < length indices → s < 64 → getD new (64 * d + s) 0 ≡ leastAhead end (length indices - d) d s
-      at d s a f k = go (ℕ-discrete d (b - 1))
+      at : (d s : ℕ) → b ≤ d → d < length indices → s < 64 → getD new (64 * d + s) 0 ≡ leastAhead end (length indices - d) d s
+      at d s a f k = go (ℕ-discrete d b)
         where
-          go : Dec (d ≡ b - 1) → getD new (64 * d + s) 0 ≡ leastAhead end (length indices - d) d s
+          go : Dec (d ≡ b) → getD new (64 * d + s) 0 ≡ leastAhead end (length indices - d) d s
           go (yes e) =
-              let j : suc (length indices - suc (b - 1)) ≡ length indices - (b - 1) = omega arith in
-              subst (λ x. getD new (64 * x + s) 0 ≡ leastAhead end (length indices - x) x s) (sym e) (here s k ∙ ap (λ n. leastAhead end n (b - 1) s) j)
+              let j : suc (length indices - suc b) ≡ length indices - b = omega arith in
+              subst (λ x. getD new (64 * x + s) 0 ≡ leastAhead end (length indices - x) x s) (sym e) (here s k ∙ ap (λ n. leastAhead end n b s) j)
           go (no e) = D .kept (64 * d + s) (inr (omega arith)) ∙ I .table .at d s (omega arith) f k
 
       kept : (i : ℕ) → 64 * length indices ≤ i → getD new i 0 ≡ getD old i 0
-      kept i f = D .kept i (inr (omega arith)) ∙ I .kept i f
+      kept i f = D .kept i (inr (omega (arith, inside))) ∙ I .kept i f
 
-  pub fill-end : {end b : ℕ} {old new : List ℕ} → Filled sections starts indices received erased end b old new → b ≤ 0
-      → Filled sections starts indices received erased end 0 old new
-  fill-end {end} {b} {old} {new} I h = let e : b ≡ 0 = omega arith in subst (λ x. Filled sections starts indices received erased end x old new) e I
+      pick-here : (s : ℕ) → leastAhead end (suc left) b s < top → Pick sections starts indices received erased end b s (getD picks (64 * b + s) 0)
+      pick-here s o = go (root-at (part b) s) (decLt (rootOf (part b) s) (vertexCountOf (part b) 0))
+        where
+          go : RootAt (part b) s (rootOf (part b) s) → Dec (rootOf (part b) s < vertexCountOf (part b) 0)
+              → Pick sections starts indices received erased end b s (getD picks (64 * b + s) 0)
+          go F (yes y) =
+              pick-root inside y (F .is y)
+              (ap (λ x. getD picks (64 * b + x) 0) (sym (F .is y)) ∙ D .pick (leastAhead end left (suc b)) (behind-is (I .table) inside) (rootOf (part b) s) y) o
+          go F (no y) =
+              let e = least-else (uses b inside) (endsIn end) top left s (none-listed b s (F .none (omega arith))) in
+              absurd (omega arith)
 
-pub below-last : {sections starts indices received erased old new : List ℕ} {end b : ℕ} → Filled sections starts indices received erased end b old new → 0 < b
-    → b - 1 < length indices
+      pick-at : (d s : ℕ) → b ≤ d → d < length indices → s < 64 → leastAhead end (length indices - d) d s < top
+          → Pick sections starts indices received erased end d s (getD picks (64 * d + s) 0)
+      pick-at d s a f k o = go (ℕ-discrete d b)
+        where
+          go : Dec (d ≡ b) → Pick sections starts indices received erased end d s (getD picks (64 * d + s) 0)
+          go (yes e) =
+              let j : length indices - d ≡ suc (length indices - suc b) = omega arith in
+              subst (λ x. Pick sections starts indices received erased end x s (getD picks (64 * x + s) 0)) (sym e)
+              (pick-here s (subst (λ n. leastAhead end n b s < top) j (subst (λ x. leastAhead end (length indices - d) x s < top) e o)))
+          go (no e) =
+              subst (Pick sections starts indices received erased end d s) (sym (D .keptPick (64 * d + s) (inr (omega arith))))
+              (I .picked .at d s (omega arith) f k o)
+
+  pub fill-more : {end b i : ℕ} {old mid new midPicks picks : List ℕ} → Filled sections starts indices received erased end b old mid midPicks → 0 < b
+      → BlockAt (b - 1) i → BlockTable (partAt i) (getD received (b - 1) 0) (getD erased (b - 1) 0) (length indices) end (b - 1) mid new midPicks picks
+      → Filled sections starts indices received erased end (b - 1) old new picks
+  fill-more {end} {b} {old = old} {mid} {midPicks = midPicks} I h A B =
+      let e : b ≡ suc (b - 1) = omega arith in
+      fill-block (subst (λ x. Filled sections starts indices received erased end x old mid midPicks) e I) A B
+
+  pub fill-end : {end b : ℕ} {old new picks : List ℕ} → Filled sections starts indices received erased end b old new picks → b ≤ 0
+      → Filled sections starts indices received erased end 0 old new picks
+  fill-end {end} {b} {old} {new} {picks} I h = let e : b ≡ 0 = omega arith in subst (λ x. Filled sections starts indices received erased end x old new picks) e I
+
+pub below-last : {sections starts indices received erased old new picks : List ℕ} {end b : ℕ}
+    → Filled sections starts indices received erased end b old new picks → 0 < b → b - 1 < length indices
 below-last I h = omega (arith, I .b-le)

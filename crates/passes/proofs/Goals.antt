@@ -6,15 +6,16 @@ use Prim.Native.Nat.{ℕ, _+_, _-_, _*_, _≤_, _<_}
 use native.Mathlib.Nat.{not-suc-le-zero, le-antisymm}
 use native.Mathlib.Decide.{ℕ-discrete}
 use native.Mathlib.Omega.{arith}
-use lib.Dec.{eqb}
+use lib.Dec.{eqb, ltb}
 use lib.ListN.{length, getD, set, length-set}
 use lib.Seq.{getD-set-same, getD-set-other}
 use borrow.Author.Tests.{lt-ltb, le-ltb, eq-eqb, ne-eqb}
 use Rattle.trellis.specs.Layout.{nOf, vertexCountOf, goalState, stepEdges}
 use Rattle.paths.specs.Sections.{sectionLeast}
 use Rattle.paths.proofs.Sections.{least-last}
-use Rattle.sweep.specs.Rows.{top, Placed, Rows, Swept}
-use Rattle.passes.specs.Blocks.{Good, aheadOf}
+use Rattle.paths.specs.Ranked.{ranked, topRank, rankedRest}
+use Rattle.sweep.specs.Rows.{Placed, Rows, Swept}
+use Rattle.passes.specs.Blocks.{top, Good, aheadOf}
 use Rattle.passes.specs.Loops.{Behind, InGoals, RowsOver}
 
 -- ---- what is left to pay
@@ -31,6 +32,16 @@ module _ (costs : List ℕ) (blocks end b s : ℕ) where
   pub ahead-off : blocks ≤ b → (s ≡ end → ⊥) → top ≡ aheadOf costs blocks end b s
   unfolding aheadOf
   ahead-off h e = sym (ap (λ c. cond c (getD costs (64 * b + s) 0) (cond (eqb s end) 0 top)) (le-ltb b blocks h) ∙ ap (λ c. cond c 0 top) (ne-eqb s end e))
+
+-- ranked by the state
+module _ (rest : ℕ → ℕ) (s : ℕ) {cost : ℕ} (is : cost ≡ rest s) where
+  pub rank-in : cost < top → cost * 4294967296 + s ≡ rankedRest rest s
+  unfolding rankedRest ranked
+  rank-in h = ap (λ c. c * 4294967296 + s) is ∙ sym (ap (λ b. cond b (rest s * 4294967296 + (0 * 65536 + s)) topRank) (lt-ltb (rest s) top (omega arith)) ∙ omega arith)
+
+  pub rank-none : top ≤ cost → topRank ≡ rankedRest rest s
+  unfolding rankedRest
+  rank-none h = sym (ap (λ b. cond b (ranked (rest s) 0 s) topRank) (le-ltb (rest s) top (omega arith)))
 
 -- ---- goals as they are read
 
@@ -74,21 +85,21 @@ pub goals-start : {l costs rows : List ℕ} {blocks end b : ℕ} → length rows
 goals-start h = record { g-le = omega arith; long = h; at = λ u k. absurd (not-suc-le-zero k) }
 
 pub goals-more : {l costs rows : List ℕ} {blocks end b n goals g s x : ℕ} → Good l → n ≡ nOf l → InGoals l costs blocks end b rows g → GoalAt l goals g
-    → s ≡ getD l (goals + g) 0 → x ≡ aheadOf costs blocks end b s → InGoals l costs blocks end b (set rows (1024 * n + g) x) (g + 1)
+    → s ≡ getD l (goals + g) 0 → x ≡ rankedRest (aheadOf costs blocks end b) s → InGoals l costs blocks end b (set rows (1024 * n + g) x) (g + 1)
 goals-more {l} {costs} {rows} {blocks} {end} {b} {n} {goals} {g} {s} {x} G e I R p q =
     record { g-le = omega (arith, R .below); long = simp length-set (I .long); at = at }
   where
     place : 1024 * n + g < length rows
     place = omega (arith, I .long, R .place)
 
-    at : (h : ℕ) → h < g + 1 → getD (set rows (1024 * n + g) x) (1024 * nOf l + h) 0 ≡ aheadOf costs blocks end b (goalState l h)
+    at : (h : ℕ) → h < g + 1 → getD (set rows (1024 * n + g) x) (1024 * nOf l + h) 0 ≡ rankedRest (aheadOf costs blocks end b) (goalState l h)
     at h k = go (ℕ-discrete h g)
       where
-        go : Dec (h ≡ g) → getD (set rows (1024 * n + g) x) (1024 * nOf l + h) 0 ≡ aheadOf costs blocks end b (goalState l h)
+        go : Dec (h ≡ g) → getD (set rows (1024 * n + g) x) (1024 * nOf l + h) 0 ≡ rankedRest (aheadOf costs blocks end b) (goalState l h)
         go (yes z) =
             let a : 1024 * nOf l + h ≡ 1024 * n + g = omega arith in
             ap (λ j. getD (set rows (1024 * n + g) x) j 0) a ∙ getD-set-same rows (1024 * n + g) x 0 place ∙ q
-            ∙ ap (aheadOf costs blocks end b) (p ∙ R .is ∙ ap (goalState l) (sym z))
+            ∙ ap (rankedRest (aheadOf costs blocks end b)) (p ∙ R .is ∙ ap (goalState l) (sym z))
         go (no z) = getD-set-other rows (1024 * n + g) (1024 * nOf l + h) x 0 (λ w. z (omega arith)) ∙ I .at h (omega arith)
 
 pub goals-end : {l costs rows : List ℕ} {blocks end b n count g : ℕ} → InGoals l costs blocks end b rows g → n ≡ nOf l → count ≡ getD l (3 + n) 0 → count ≤ g
@@ -103,17 +114,28 @@ goals-end {l} {costs} {rows} {blocks} {end} {b} {n} {count} {g} I e c h =
 
 pub rows-over : {l prices costs mid new : List ℕ} {blocks end b : ℕ} → InGoals l costs blocks end b mid (vertexCountOf l (nOf l)) → Swept l prices mid new
     → RowsOver l prices costs blocks end b new
-rows-over {l} {prices} {costs} {mid} {new} {blocks} {end} {b} I S = record { long = S .long; done = λ cost number P B. S .rows cost number P (last cost number B) }
+unfolding rankedRest
+rows-over {l} {prices} {costs} {mid} {new} {blocks} {end} {b} I S =
+    record { long = S .long; done = λ cost rest P B. S .rows cost (λ g. rankedRest rest (goalState l g)) P (last cost rest B) }
   where
-    last : (cost : ℕ → ℕ → ℕ) (number : ℕ → ℕ) → Behind l costs blocks end b number → Rows l cost number (nOf l) mid
-    last cost number B = record { at = at }
+    -- what is behind a goal is ranked alike
+    alike : (rest : ℕ → ℕ) → Behind l costs blocks end b rest → (g : ℕ) → g < vertexCountOf l (nOf l)
+        → rankedRest (aheadOf costs blocks end b) (goalState l g) ≡ rankedRest rest (goalState l g)
+    alike rest B g h = ap (λ x. cond (ltb x top) (ranked x 0 (goalState l g)) topRank) (B g h)
+
+    last : (cost : ℕ → ℕ → ℕ) (rest : ℕ → ℕ) → Behind l costs blocks end b rest → Rows l cost (λ g. rankedRest rest (goalState l g)) (nOf l) mid
+    last cost rest B = record { at = at }
       where
-        at : (u v : ℕ) → nOf l ≤ u → u ≤ nOf l → v < vertexCountOf l u → getD mid (1024 * u + v) 0 ≡ sectionLeast (stepEdges l) cost top number (nOf l - u) u v
+        at : (u v : ℕ) → nOf l ≤ u → u ≤ nOf l → v < vertexCountOf l u
+            → getD mid (1024 * u + v) 0 ≡ sectionLeast (stepEdges l) cost topRank (λ g. rankedRest rest (goalState l g)) (nOf l - u) u v
         at u v a c h =
             let e : nOf l ≡ u = le-antisymm a c in
-            subst (λ w. v < vertexCountOf l w → getD mid (1024 * w + v) 0 ≡ sectionLeast (stepEdges l) cost top number (nOf l - w) w v) e here h
+            subst (λ w. v < vertexCountOf l w → getD mid (1024 * w + v) 0 ≡ sectionLeast (stepEdges l) cost topRank (λ g. rankedRest rest (goalState l g)) (nOf l - w) w v) e here h
           where
-            here : v < vertexCountOf l (nOf l) → getD mid (1024 * nOf l + v) 0 ≡ sectionLeast (stepEdges l) cost top number (nOf l - nOf l) (nOf l) v
+            here : v < vertexCountOf l (nOf l)
+                → getD mid (1024 * nOf l + v) 0 ≡ sectionLeast (stepEdges l) cost topRank (λ g. rankedRest rest (goalState l g)) (nOf l - nOf l) (nOf l) v
             here k =
                 let z : nOf l - nOf l ≡ 0 = omega arith in
-                I .at v k ∙ B v k ∙ sym (ap (λ j. sectionLeast (stepEdges l) cost top number j (nOf l) v) z ∙ least-last (stepEdges l) cost top number (nOf l) v)
+                I .at v k ∙ alike rest B v k
+                ∙ sym (ap (λ j. sectionLeast (stepEdges l) cost topRank (λ g. rankedRest rest (goalState l g)) j (nOf l) v) z
+                ∙ least-last (stepEdges l) cost topRank (λ g. rankedRest rest (goalState l g)) (nOf l) v)

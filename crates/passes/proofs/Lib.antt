@@ -2,6 +2,5 @@
 pub mod Goals
 pub mod Tables
 pub mod Chains
-pub mod Words
 pub mod Onward
 pub mod Naming

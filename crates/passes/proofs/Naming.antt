@@ -3,7 +3,7 @@
 use mathlib.Core.Path.{_≡_, refl, sym, ap, subst, _∙_}
 use mathlib.Core.Bool.{Bool, true, false, cond}
 use mathlib.Core.List.{List, _∷_}
-use Prim.Native.Nat.{ℕ, suc, _+_, _-_, _≤_, _<_}
+use Prim.Native.Nat.{ℕ, suc, _+_, _-_, _*_, _/_, _%_, _≤_, _<_}
 use native.Mathlib.Nat.{not-suc-le-zero, add-zero}
 use native.Mathlib.Decide.{ℕ-discrete}
 use native.Mathlib.Numerals.{add-one}
@@ -12,13 +12,14 @@ use lib.Dec.{eqb}
 use lib.ListN.{length, getD, drop, set, length-set}
 use lib.Seq.{getD-set-same, getD-set-other, getD-drop, drop-drop}
 use Rattle.trellis.specs.Word.{Word, word, wordAt}
+use Rattle.trellis.specs.Layout.{nOf}
 use Rattle.paths.specs.Costs.{least}
 use Rattle.paths.specs.Chain.{chainLeast}
-use Rattle.sweep.specs.Rows.{top}
-use Rattle.passes.specs.Blocks.{leastFrom, pathFrom, Ready, Table, Written}
-use Rattle.passes.specs.Loops.{WordFrom, InWords, Named}
+use Rattle.passes.specs.Blocks.{top, sectionOf, leastFrom, pathFrom, Ready, Pick, Picked, Written}
+use Rattle.passes.specs.Loops.{InWords, Named}
+use Rattle.block.specs.Received.{blockDistance}
 use Rattle.passes.proofs.Chains.{leastAhead, partAt, BlockAt}
-use Rattle.passes.proofs.Onward.{Next, next-at}
+use Rattle.passes.proofs.Onward.{pick-drop}
 
 module _ {sections starts indices received erased : List ℕ} (R : Ready sections starts indices received erased) where
   abbrev whole : ℕ → ℕ → List Word
@@ -43,12 +44,13 @@ module _ {sections starts indices received erased : List ℕ} (R : Ready section
     sum = omega arith;
   }
 
-  pub words-more : {end start b s i total label goal distance t : ℕ} {costs labels newLabels goals newGoals : List ℕ}
-      → Table sections starts indices received erased end 0 costs → InWords sections starts indices received erased end start labels newLabels goals newGoals b s total
-      → b < length indices → length indices ≤ length labels → length indices ≤ length goals → BlockAt R b i
-      → WordFrom (partAt R i) (getD received b 0) (getD erased b 0) costs (length indices) end (b + 1) s label goal distance → t ≡ goal
+  pub words-more : {end start b s i n total pick label goal distance t : ℕ} {picks labels newLabels goals newGoals : List ℕ}
+      → Picked sections starts indices received erased end 0 picks → InWords sections starts indices received erased end start labels newLabels goals newGoals b s total
+      → b < length indices → length indices ≤ length labels → length indices ≤ length goals → BlockAt R b i → n ≡ getD (partAt R i) 1 0
+      → pick ≡ getD picks (64 * b + s) 0 → label ≡ pick / 65536 → goal ≡ pick % 65536
+      → (distance ≡ blockDistance n (getD received b 0) (getD erased b 0) label) × (distance ≤ 8) → t ≡ goal
       → InWords sections starts indices received erased end start labels (set newLabels b label) goals (set newGoals b goal) (b + 1) t (total + distance)
-  words-more {end} {start} {b} {s} {total = total} {label} {goal} {distance} {labels = labels} {newLabels} {goals} {newGoals} T I h x y A F e =
+  words-more {end} {start} {b} {s} {i = i} {n} {total} {pick} {label} {goal} {distance} {picks = picks} {labels} {newLabels} {goals} {newGoals} C I h x y A n-is p l g d e =
       subst (λ u. InWords sections starts indices received erased end start labels (set newLabels b label) goals (set newGoals b goal) (b + 1) u (total + distance)) (sym e)
       (rw (add-one b)
       (record {
@@ -56,28 +58,49 @@ module _ {sections starts indices received erased : List ℕ} (R : Ready section
           b-le = h;
           labelsLong = simp length-set (Z .labelsLong);
           goalsLong = simp length-set (Z .goalsLong);
-          labelAt = λ i k. put (λ w. w .label) labels newLabels label (Z .labelsLong) x (N .labelIs) (Z .labelAt) i k;
-          goalAt = λ i k. put (λ w. w .goal) goals newGoals goal (Z .goalsLong) y (N .goalIs) (Z .goalAt) i k;
+          labelAt = λ i k. put (λ w. w .label) labels newLabels label (Z .labelsLong) x label-is (Z .labelAt) i k;
+          goalAt = λ i k. put (λ w. w .goal) goals newGoals goal (Z .goalsLong) y goal-is (Z .goalAt) i k;
           labelsKept = λ i k. getD-set-other newLabels b i label 0 (λ j. absurd (omega arith)) ∙ Z .labelsKept i (omega arith);
           goalsKept = λ i k. getD-set-other newGoals b i goal 0 (λ j. absurd (omega arith)) ∙ Z .goalsKept i (omega arith);
         };
-        state = F .goalBelow;
-        few = let f = I .few in let g = F .distanceTo in omega arith;
+        state = subst (λ u. u < 64) (sym goal-is) (K .goalBelow);
+        few = let f = I .few in let w = d .1 in omega arith;
         rest = rest;
-        onward = let d = N .drop in let o = I .onward in omega arith;
-        sum = let d = N .drop in let f = I .sum in omega arith;
+        onward = let f = drop-is in let o = I .onward in omega arith;
+        sum = let f = drop-is in let o = I .sum in omega arith;
       }))
     where
+      -- what was picked
+      chosen : Word
+      chosen = word s (getD picks (64 * b + s) 0 / 65536) (getD picks (64 * b + s) 0 % 65536)
+
+      K : Pick sections starts indices received erased end b s (getD picks (64 * b + s) 0)
+      K = C .at b s (omega arith) h (I .state) (I .onward)
+
+      label-is : label ≡ getD picks (64 * b + s) 0 / 65536
+      label-is = l ∙ ap (λ k. k / 65536) p
+
+      goal-is : goal ≡ getD picks (64 * b + s) 0 % 65536
+      goal-is = g ∙ ap (λ k. k % 65536) p
+
+      drop-is : leastFrom sections starts indices received erased end b s ≡ distance + leastFrom sections starts indices received erased end (suc b) goal
+      drop-is =
+          let c = pick-drop R h (I .onward) K in
+          let m : n ≡ nOf (sectionOf sections starts indices received erased b) = n-is ∙ ap (λ q. getD q 1 0) (A .part-is) in
+          let u : distance ≡ blockDistance (nOf (sectionOf sections starts indices received erased b)) (getD received b 0) (getD erased b 0) (getD picks (64 * b + s) 0 / 65536)
+          = d .0 ∙ ap (λ k. blockDistance k (getD received b 0) (getD erased b 0) label) m
+          ∙ ap (blockDistance (nOf (sectionOf sections starts indices received erased b)) (getD received b 0) (getD erased b 0)) label-is in
+          let w : leastFrom sections starts indices received erased end (suc b) goal ≡ leastFrom sections starts indices received erased end (suc b) (getD picks (64 * b + s) 0 % 65536)
+          = ap (leastFrom sections starts indices received erased end (suc b)) goal-is in
+          omega arith
+
       Z : Written sections starts indices received erased end start b labels newLabels goals newGoals
       Z = I .written
 
-      N : Next R T h s label goal distance
-      N = next-at R T h A (I .onward) F
+      tail : drop b (whole end start) ≡ chosen ∷ pathFrom sections starts indices received erased end (suc b) goal
+      tail = I .rest ∙ K .path ∙ ap (λ u. chosen ∷ pathFrom sections starts indices received erased end (suc b) u) (sym goal-is)
 
-      tail : drop b (whole end start) ≡ N .chosen ∷ pathFrom sections starts indices received erased end (suc b) goal
-      tail = I .rest ∙ N .path
-
-      word-is : wordAt (whole end start) b ≡ N .chosen
+      word-is : wordAt (whole end start) b ≡ chosen
       word-is =
           ap (λ j. getD (whole end start) j (word 0 0 0)) (sym (add-zero b))
           ∙ sym (getD-drop b (whole end start) 0 (word 0 0 0)) ∙ ap (λ ws. getD ws 0 (word 0 0 0)) tail
@@ -87,7 +110,7 @@ module _ {sections starts indices received erased : List ℕ} (R : Ready section
           ap (λ j. drop j (whole end start)) (sym (add-one b))
           ∙ sym (drop-drop 1 b (whole end start)) ∙ ap (drop 1) tail
 
-      put : (f : Word → ℕ) (old new : List ℕ) (u : ℕ) → length new ≡ length old → length indices ≤ length old → u ≡ f (N .chosen)
+      put : (f : Word → ℕ) (old new : List ℕ) (u : ℕ) → length new ≡ length old → length indices ≤ length old → u ≡ f chosen
           → ((i : ℕ) → i < b → getD new i 0 ≡ f (wordAt (whole end start) i))
           → (i : ℕ) → i < suc b → getD (set new b u) i 0 ≡ f (wordAt (whole end start) i)
       put f old new u a c d before i k = go (ℕ-discrete i b)
@@ -112,3 +135,9 @@ module _ {sections starts indices received erased : List ℕ} (R : Ready section
       nothing : (c : Bool) → cond c 0 top < top → cond c 0 top ≡ 0
       nothing true k = refl
       nothing false k = absurd (omega arith)
+
+  -- what is read from the picks
+  pub pick-small : {end start b s total : ℕ} {picks labels newLabels goals newGoals : List ℕ} → Picked sections starts indices received erased end 0 picks
+      → InWords sections starts indices received erased end start labels newLabels goals newGoals b s total → b < length indices
+      → getD picks (64 * b + s) 0 % 65536 < 64
+  pick-small {b = b} {s} C I h = C .at b s (omega arith) h (I .state) (I .onward) .goalBelow

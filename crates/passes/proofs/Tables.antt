@@ -2,19 +2,20 @@
 use mathlib.Core.Path.{_≡_, refl, sym, ap, subst, _∙_}
 use mathlib.Core.Logic.{_⊎_, inl, inr}
 use mathlib.Core.List.{List}
-use Prim.Native.Nat.{ℕ, suc, _+_, _*_, _≤_, _<_}
+use Prim.Native.Nat.{ℕ, suc, _+_, _*_, _/_, _%_, _≤_, _<_}
 use native.Mathlib.Nat.{not-suc-le-zero, le-antisymm, sub-zero}
 use native.Mathlib.Decide.{ℕ-discrete}
 use native.Mathlib.Numerals.{add-one}
 use native.Mathlib.Omega.{arith}
 use lib.ListN.{length, getD, set, length-set}
 use lib.Seq.{getD-set-same, getD-set-other}
-use Rattle.trellis.specs.Layout.{nOf, vertexCountOf, rootState, stepEdges}
+use Rattle.trellis.specs.Layout.{nOf, vertexCountOf, rootState, goalState, stepEdges}
 use Rattle.paths.specs.Sections.{sectionLeast}
-use Rattle.sweep.specs.Rows.{top, Placed, Priced}
+use Rattle.paths.specs.Ranked.{topRank, rankedCost, rankedRest}
+use Rattle.sweep.specs.Rows.{Placed, Priced}
 use Rattle.block.specs.Received.{symbolCost, Prices}
-use Rattle.passes.specs.Blocks.{Good}
-use Rattle.passes.specs.Loops.{Behind, RowsOver, InNone, InRoots, BlockTable, InRoot, RootAt}
+use Rattle.passes.specs.Blocks.{top, Good}
+use Rattle.passes.specs.Loops.{Behind, RowsOver, InNone, InRoots, rankFrom, BlockTable}
 
 -- ---- no path
 
@@ -60,87 +61,88 @@ root-read {l} {roots = roots} {v = v} G P c h =
     let e = G .fits .rootsIn in
     record { below = b; v-lt = omega arith; inside = omega (arith, P .rootsIs); is = i; small = omega arith }
 
-pub roots-start : {l rows costs : List ℕ} {b : ℕ} → InRoots l rows b costs costs 0
-roots-start = record { v-le = omega arith; long = refl; root = λ u h. absurd (not-suc-le-zero h); other = λ i h. refl }
+pub roots-start : {l rows costs picks : List ℕ} {b : ℕ} → InRoots l rows b costs costs picks picks 0
+roots-start = record {
+  v-le = omega arith;
+  long = refl;
+  picksLong = refl;
+  root = λ u h. absurd (not-suc-le-zero h);
+  pick = λ u h. absurd (not-suc-le-zero h);
+  other = λ i h. refl;
+  otherPick = λ i h. refl;
+}
 
-pub roots-more : {l rows old new : List ℕ} {roots b v s : ℕ} → Good l → InRoots l rows b old new v → RootIn l roots v → s ≡ getD l (roots + v) 0
-    → 64 * b + 64 ≤ length old → InRoots l rows b old (set new (64 * b + s) (getD rows v 0)) (v + 1)
-roots-more {l} {rows} {old} {new} {b = b} {v} {s} G I R p room = record { v-le = omega (arith, R .below); long = simp length-set (I .long); root = root; other = other }
+-- one more place written by a root's state: the roots passed keep theirs, since no two roots are in one state
+module _ {l : List ℕ} (b : ℕ) {v s x : ℕ} (G : Good l) (is : s ≡ rootState l v) (below : v < vertexCountOf l 0) (f : ℕ → ℕ) (x-is : x ≡ f v) where
+  written : (new : List ℕ) → 64 * b + s < length new → ((u : ℕ) → u < v → getD new (64 * b + rootState l u) 0 ≡ f u)
+      → (u : ℕ) → u < v + 1 → getD (set new (64 * b + s) x) (64 * b + rootState l u) 0 ≡ f u
+  written new room before u k = go (ℕ-discrete u v)
+    where
+      go : Dec (u ≡ v) → getD (set new (64 * b + s) x) (64 * b + rootState l u) 0 ≡ f u
+      go (yes e) =
+          let a : rootState l u ≡ s = ap (rootState l) e ∙ sym is in
+          ap (λ j. getD (set new (64 * b + s) x) (64 * b + j) 0) a ∙ getD-set-same new (64 * b + s) x 0 room ∙ x-is ∙ ap f (sym e)
+      go (no e) =
+          let a = G .rootsAscend u v (omega arith) below in
+          getD-set-other new (64 * b + s) (64 * b + rootState l u) x 0 (λ z. absurd (omega (arith, is))) ∙ before u (omega arith)
+
+  elsewhere : (old new : List ℕ) → ((i : ℕ) → ((u : ℕ) → u < v → 64 * b + rootState l u ≡ i → ⊥) → getD new i 0 ≡ getD old i 0)
+      → (i : ℕ) → ((u : ℕ) → u < v + 1 → 64 * b + rootState l u ≡ i → ⊥) → getD (set new (64 * b + s) x) i 0 ≡ getD old i 0
+  elsewhere old new before i h =
+      getD-set-other new (64 * b + s) i x 0 (λ z. h v (omega arith) (sym (z ∙ ap (λ w. 64 * b + w) is))) ∙ before i (λ u k. h u (omega arith))
+
+pub roots-more : {l rows old new oldPicks picks : List ℕ} {roots b v s rank x y : ℕ} → Good l → InRoots l rows b old new oldPicks picks v → RootIn l roots v
+    → s ≡ getD l (roots + v) 0 → rank ≡ getD rows v 0 → x ≡ rank / 4294967296 → y ≡ rank % 4294967296 → 64 * b + 64 ≤ length old → 64 * b + 64 ≤ length oldPicks
+    → InRoots l rows b old (set new (64 * b + s) x) oldPicks (set picks (64 * b + s) y) (v + 1)
+roots-more {l} {rows} {old} {new} {oldPicks} {picks} {b = b} {v} {s} {rank} {x} {y} G I R p r x-is y-is room roomPicks = record {
+  v-le = omega (arith, R .below);
+  long = simp length-set (I .long);
+  picksLong = simp length-set (I .picksLong);
+  root = written b G is (R .below) (λ u. getD rows u 0 / 4294967296) (x-is ∙ ap (λ k. k / 4294967296) r) new (omega (arith, I .long, R .small, p)) (I .root);
+  pick = written b G is (R .below) (λ u. getD rows u 0 % 4294967296) (y-is ∙ ap (λ k. k % 4294967296) r) picks (omega (arith, I .picksLong, R .small, p)) (I .pick);
+  other = elsewhere b G is (R .below) (λ u. getD rows u 0 / 4294967296) (x-is ∙ ap (λ k. k / 4294967296) r) old new (I .other);
+  otherPick = elsewhere b G is (R .below) (λ u. getD rows u 0 % 4294967296) (y-is ∙ ap (λ k. k % 4294967296) r) oldPicks picks (I .otherPick);
+}
   where
     is : s ≡ rootState l v
     is = p ∙ R .is
 
-    root : (u : ℕ) → u < v + 1 → getD (set new (64 * b + s) (getD rows v 0)) (64 * b + rootState l u) 0 ≡ getD rows u 0
-    root u k = go (ℕ-discrete u v)
-      where
-        go : Dec (u ≡ v) → getD (set new (64 * b + s) (getD rows v 0)) (64 * b + rootState l u) 0 ≡ getD rows u 0
-        go (yes e) =
-            let a : rootState l u ≡ s = ap (rootState l) e ∙ sym is in
-            ap (λ j. getD (set new (64 * b + s) (getD rows v 0)) (64 * b + j) 0) a
-            ∙ getD-set-same new (64 * b + s) (getD rows v 0) 0 (omega (arith, I .long, R .small, p)) ∙ ap (λ w. getD rows w 0) (sym e)
-        go (no e) =
-            let a = G .rootsAscend u v (omega arith) (R .below) in
-            getD-set-other new (64 * b + s) (64 * b + rootState l u) (getD rows v 0) 0 (λ z. absurd (omega (arith, is))) ∙ I .root u (omega arith)
-
-    other : (i : ℕ) → ((u : ℕ) → u < v + 1 → 64 * b + rootState l u ≡ i → ⊥) → getD (set new (64 * b + s) (getD rows v 0)) i 0 ≡ getD old i 0
-    other i h =
-        getD-set-other new (64 * b + s) i (getD rows v 0) 0 (λ z. h v (omega arith) (sym (z ∙ ap (λ w. 64 * b + w) is)))
-        ∙ I .other i (λ u k. h u (omega arith))
-
-pub roots-end : {l rows old new : List ℕ} {b v count : ℕ} → InRoots l rows b old new v → count ≡ getD l 3 0 → count ≤ v
-    → InRoots l rows b old new (vertexCountOf l 0)
+pub roots-end : {l rows old new oldPicks picks : List ℕ} {b v count : ℕ} → InRoots l rows b old new oldPicks picks v → count ≡ getD l 3 0 → count ≤ v
+    → InRoots l rows b old new oldPicks picks (vertexCountOf l 0)
 unfolding vertexCountOf
-roots-end {l} {rows} {old} {new} {b} {v} I c h = let e : v ≡ getD l 3 0 = le-antisymm (I .v-le) (omega arith) in subst (InRoots l rows b old new) e I
+roots-end {l} {rows} {old} {new} {oldPicks} {picks} {b} {v} I c h =
+    let e : v ≡ getD l 3 0 = le-antisymm (I .v-le) (omega arith) in
+    subst (InRoots l rows b old new oldPicks picks) e I
 
 -- ---- the block
 
-pub priced-by : {l prices : List ℕ} {n received mask : ℕ} → n ≡ nOf l → Prices n received mask prices → Priced l prices (symbolCost (nOf l) received mask)
+pub priced-by : {l prices : List ℕ} {n received mask : ℕ} → n ≡ nOf l → Prices n received mask prices
+    → Priced l prices (rankedCost (nOf l) (symbolCost (nOf l) received mask))
 priced-by {l} {prices} {n} {received} {mask} e P =
-    subst (λ k. ((t a : ℕ) → t < nOf l → a < 4 → getD prices (4 * t + a) 0 ≡ symbolCost k received mask t a) → Priced l prices (symbolCost (nOf l) received mask)) (sym e)
+    subst (λ k. ((t a : ℕ) → t < nOf l → a < 4 → getD prices (4 * t + a) 0 ≡ rankedCost k (symbolCost k received mask) t a)
+    → Priced l prices (rankedCost (nOf l) (symbolCost (nOf l) received mask))) (sym e)
     (λ f. record { at = f }) (λ t a h. P .at t a (omega arith))
 
-pub block-table : {l prices old mid new rows : List ℕ} {n received mask blocks end b : ℕ} → Good l → n ≡ nOf l → Prices n received mask prices
-    → RowsOver l prices old blocks end (b + 1) rows → InNone b old mid 64 → InRoots l rows b mid new (vertexCountOf l 0)
-    → BlockTable l received mask blocks end b old new
-block-table {l} {prices} {old} {mid} {new} {rows} {n} {received} {mask} {blocks} {end} {b} G e P R N I =
-    record { long = I .long ∙ N .long; root = root; none = none; kept = kept }
+pub block-table : {l prices old mid new oldPicks picks rows : List ℕ} {n received mask blocks end b : ℕ} → Good l → n ≡ nOf l → Prices n received mask prices
+    → RowsOver l prices old blocks end (b + 1) rows → InNone b old mid 64 → InRoots l rows b mid new oldPicks picks (vertexCountOf l 0)
+    → BlockTable l received mask blocks end b old new oldPicks picks
+block-table {l} {prices} {old} {mid} {new} {oldPicks} {picks} {rows} {n} {received} {mask} {blocks} {end} {b} G e P R N I = record {
+  long = I .long ∙ N .long;
+  picksLong = I .picksLong;
+  root = λ rest B v h. I .root v h ∙ ap (λ k. k / 4294967296) (rank rest B v h);
+  pick = λ rest B v h. I .pick v h ∙ ap (λ k. k % 4294967296) (rank rest B v h);
+  none = λ s k h. I .other (64 * b + s) (λ u c z. h u c (omega arith)) ∙ N .none s k;
+  kept = λ i k. I .other i (λ u c z. out i k u c z (G .rootsBelow u c)) ∙ N .kept i k;
+  keptPick = λ i k. I .otherPick i (λ u c z. out i k u c z (G .rootsBelow u c));
+}
   where
-    root : (number : ℕ → ℕ) → Behind l old blocks end (suc b) number → (v : ℕ) → v < vertexCountOf l 0
-        → getD new (64 * b + rootState l v) 0 ≡ sectionLeast (stepEdges l) (symbolCost (nOf l) received mask) top number (nOf l) 0 v
-    root number B v h =
-        let D = R .done (symbolCost (nOf l) received mask) number (priced-by e P) (rw (add-one b) B) in
+    rank : (rest : ℕ → ℕ) → Behind l old blocks end (suc b) rest → (v : ℕ) → v < vertexCountOf l 0 → getD rows v 0 ≡ rankFrom l received mask rest v
+    rank rest B v h =
+        let D = R .done (rankedCost (nOf l) (symbolCost (nOf l) received mask)) rest (priced-by e P) (rw (add-one b) B) in
         let a : v ≡ 1024 * 0 + v = omega arith in
-        I .root v h ∙ ap (λ j. getD rows j 0) a ∙ D .at 0 v (omega arith) (omega arith) h
-        ∙ ap (λ k. sectionLeast (stepEdges l) (symbolCost (nOf l) received mask) top number k 0 v) (sub-zero (nOf l))
+        ap (λ j. getD rows j 0) a ∙ D .at 0 v (omega arith) (omega arith) h
+        ∙ ap (λ k. sectionLeast (stepEdges l) (rankedCost (nOf l) (symbolCost (nOf l) received mask)) topRank (λ g. rankedRest rest (goalState l g)) k 0 v) (sub-zero (nOf l))
 
-    none : (s : ℕ) → s < 64 → ((v : ℕ) → v < vertexCountOf l 0 → rootState l v ≡ s → ⊥) → getD new (64 * b + s) 0 ≡ top
-    none s k h = I .other (64 * b + s) (λ u c z. h u c (omega arith)) ∙ N .none s k
-
-    kept : (i : ℕ) → (i < 64 * b) ⊎ (64 * b + 64 ≤ i) → getD new i 0 ≡ getD old i 0
-    kept i k = I .other i (λ u c z. out i k u c z (G .rootsBelow u c)) ∙ N .kept i k
-      where
-        out : (i : ℕ) → (i < 64 * b) ⊎ (64 * b + 64 ≤ i) → (u : ℕ) → u < vertexCountOf l 0 → 64 * b + rootState l u ≡ i → rootState l u < 64 → ⊥
-        out i (inl x) u c z w = omega arith
-        out i (inr x) u c z w = omega arith
-
--- ---- the root in a state
-
-pub root-start : {l : List ℕ} {s : ℕ} → InRoot l s 0
-root-start = record { v-le = omega arith; none = λ u h. absurd (not-suc-le-zero h) }
-
-pub root-found : {l : List ℕ} {roots s v x : ℕ} → InRoot l s v → RootIn l roots v → x ≡ getD l (roots + v) 0 → x ≡ s → RootAt l s v
-root-found I R p e = record { r-le = I .v-le; is = λ h. sym (p ∙ R .is) ∙ e; none = λ h. absurd (omega (arith, R .below)) }
-
-pub root-more : {l : List ℕ} {roots s v x : ℕ} → InRoot l s v → RootIn l roots v → x ≡ getD l (roots + v) 0 → (x ≡ s → ⊥) → InRoot l s (v + 1)
-root-more {l} {s = s} {v} {x} I R p n = record { v-le = omega (arith, R .below); none = none }
-  where
-    none : (u : ℕ) → u < v + 1 → rootState l u ≡ s → ⊥
-    none u h e = go (ℕ-discrete u v)
-      where
-        go : Dec (u ≡ v) → ⊥
-        go (yes k) = n (p ∙ R .is ∙ ap (rootState l) (sym k) ∙ e)
-        go (no k) = I .none u (omega arith) e
-
-pub root-none : {l : List ℕ} {s v count : ℕ} → InRoot l s v → count ≡ getD l 3 0 → count ≤ v → RootAt l s v
-unfolding vertexCountOf
-root-none I c h = record { r-le = I .v-le; is = λ k. absurd (omega arith); none = λ k u w. I .none u (omega arith) }
+    out : (i : ℕ) → (i < 64 * b) ⊎ (64 * b + 64 ≤ i) → (u : ℕ) → u < vertexCountOf l 0 → 64 * b + rootState l u ≡ i → rootState l u < 64 → ⊥
+    out i (inl x) u c z w = omega arith
+    out i (inr x) u c z w = omega arith

@@ -158,7 +158,7 @@ pub record Rankable (edges : ℕ → List Edge) (n goals : ℕ) (roots : List �
   pub some : 0 < n
   pub short : n ≤ 8
   pub fits : Bounded edges n goals
-  pub small : (g : ℕ) → g < goals → goalOf g < 65536
+  pub small : (g : ℕ) → g < goals → goalOf g < 64
   pub ordered : Ordered Before (wordsOf n edges roots rootOf goalOf)
 
 -- the number of a distance, a label and a goal, and what can be read off it
@@ -168,9 +168,9 @@ pub record Reads (rank d label goal : ℕ) : Type 0 where
   pub label-is : rank % 4294967296 / 65536 ≡ label
   pub goal-is : rank % 4294967296 % 65536 ≡ goal
   pub label-lt : label < 65536
-  pub goal-lt : goal < 65536
+  pub goal-lt : goal < 64
 
-reads : {rank : ℕ} (d label goal : ℕ) → rank ≡ d * 4294967296 + (label * 65536 + goal) → label < 65536 → goal < 65536 → Reads rank d label goal
+reads : {rank : ℕ} (d label goal : ℕ) → rank ≡ d * 4294967296 + (label * 65536 + goal) → label < 65536 → goal < 64 → Reads rank d label goal
 unfolding ranked
 reads d label goal e l g = record { is = e; below = omega arith; label-is = omega arith; goal-is = omega arith; label-lt = l; goal-lt = g }
 
@@ -207,7 +207,7 @@ module _ {words : ℕ → List Word} {dist : ℕ → Word → ℕ} {b : ℕ} {ed
   record Mine (v : ℕ) (w : Word) : Type 0 where
     root-is : w .root ≡ rootOf v
     label-lt : w .label < 65536
-    goal-lt : w .goal < 65536
+    goal-lt : w .goal < 64
 
   mine-is : (v : ℕ) (w : Word) → w ∈ mine v → Mine v w
   unfolding wordOf
@@ -230,7 +230,7 @@ module _ {words : ℕ → List Word} {dist : ℕ → Word → ℕ} {b : ℕ} {ed
   mine-ranks v w m =
       let M = mine-is v w m in
       subst (λ x. Ranks (onWord w) x (key w)) (plus-capped topRank (distRanked w) (rankedRest rest (w .goal)))
-      (ranks rest (dist b w) (w .label) (w .goal) (bound (w .goal)) (M .label-lt) (M .goal-lt))
+      (ranks rest (dist b w) (w .label) (w .goal) (bound (w .goal)) (M .label-lt) (omega (arith, M .goal-lt)))
 
   -- the words of a vertex ascend by label and goal
   mine-ascend : (v : ℕ) → v ∈ roots → Ordered (λ x y. key x < key y) (mine v)

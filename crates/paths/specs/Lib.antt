@@ -5,4 +5,3 @@ pub mod Costs
 pub mod Sections
 pub mod Ranked
 pub mod Chain
-pub mod Ranked

@@ -112,7 +112,6 @@ between-none l {i} {hi} h = let e : hi - i ≡ 0 = omega arith in rw e
 -- what is known of an edge that leaves a vertex at step t
 pub record Known (l : List ℕ) (t v : ℕ) (e : Edge) : Type 0 where
   pub from-is : e .from ≡ v
-  pub from-in : e .from < vertexCountOf l t
   pub to-in : e .to < vertexCountOf l (suc t)
   pub symbol-lt : e .symbol < 4
 
@@ -124,12 +123,10 @@ known {l} {t} {v} F h e m =
     let i = edgesBefore l t + w .at in
     let k = w .below in
     let a = before-le l (suc t) (nOf l) h in
-    let x = F .fromBelow t i h (omega arith) (omega arith) in
     let y = F .toBelow t i h (omega arith) (omega arith) in
     let z = F .symbolSmall i (omega arith) in
     record {
       from-is = from-of v (stepEdges l t) e m;
-      from-in = subst (λ f. f .from < vertexCountOf l t) (sym (w .is)) x;
       to-in = subst (λ f. f .to < vertexCountOf l (suc t)) (sym (w .is)) y;
       symbol-lt = subst (λ f. f .symbol < 4) (sym (w .is)) z;
     }

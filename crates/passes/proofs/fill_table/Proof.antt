@@ -1,19 +1,20 @@
--- `passes::fill_table` makes the table from the last block to the first. The loop's invariant: the table is right from block b on, and the rest of the
--- buffer is as it was. The measure is b.
-use borrow.Author.Needs.{needs}
+-- `passes::fill_table` makes the table and the picks from the last block to the first. The loop's invariant: they are right from block b on, and the rest
+-- of the buffer is as it was. The measure is b.
 use mathlib.Core.Path.{_≡_, refl}
 use Prim.Native.Nat.{_-_}
 use lib.ListN.{length}
 use Rattle.passes.specs.Blocks.{Filled}
 use Rattle.passes.proofs.Chains.{fill-start, fill-more, fill-end, BlockAt, block-at, below-last}
+use borrow.Author.Needs.{needs}
 use Rattle.passes.proofs.fill_table.Statement.{statement}
 use Rattle.passes.proofs.fill_table.Tie as tie
 
 abbrev Inv-loop : tie.InvT-loop
-Inv-loop sections starts indices received erased end costs₀ blocks rows₀ b₀ costs rows b = Filled sections starts indices received erased end b costs₀ costs × (length rows ≡ 9216)
+Inv-loop sections starts indices received erased end costs₀ picks₀ blocks rows₀ b₀ costs picks rows b =
+    Filled sections starts indices received erased end b costs₀ costs picks × (length rows ≡ 9216)
 
 abbrev μ-loop : tie.MeasureT-loop
-μ-loop sections starts indices received erased end costs₀ blocks rows₀ b₀ costs rows b = b
+μ-loop sections starts indices received erased end costs₀ picks₀ blocks rows₀ b₀ costs picks rows b = b
 
 -- ---- the places of the code that the needs look back to
 
@@ -25,8 +26,8 @@ entry begun = begun .before .before .before .before .before
 abbrev turn-of : tie.After-widened Inv-loop μ-loop → tie.In-loop Inv-loop μ-loop
 turn-of read = read .before .before
 
-abbrev read-of : tie.After-table-block-arg Inv-loop μ-loop → tie.After-widened Inv-loop μ-loop
-read-of lent = lent .before .before .before .before .before .before
+abbrev read-of : tie.After-table-block-arg2 Inv-loop μ-loop → tie.After-widened Inv-loop μ-loop
+read-of lent = lent .before .before .before .before .before .before .before
 
 -- the block of a turn, as the code takes it
 block-here : (read : tie.After-widened Inv-loop μ-loop)
@@ -36,7 +37,7 @@ block-here read =
     block-at (entry (turn .before .before) .pre .0) (below-last (turn .before .loop .inv .0) (turn .loop-test .taken)) (read .widened .ensures .0)
 
 loop-holds : tie.Need-loop-holds Inv-loop μ-loop
-loop-holds c = (fill-start (entry c .pre .0), refl)
+loop-holds c = (fill-start (entry c .pre .0) (entry c .pre .2), refl)
 
 sub-b : tie.Need-sub-b Inv-loop μ-loop
 sub-b c = search needs
@@ -75,21 +76,14 @@ shared-slice-read-table-block-2 : tie.Need-shared-slice-read-table-block-2 Inv-l
 shared-slice-read-table-block-2 c = search needs
 
 table-block-requires : tie.Need-table-block-requires Inv-loop μ-loop
-table-block-requires c κs =
-    let read = read-of c in
-    let turn = turn-of read in
-    let I = turn .before .loop .inv .0 in
-    let R = entry (turn .before .before) .pre .0 in
-    (block-here read .good, search needs, R .many, search needs, search needs)
+table-block-requires c κs = let read = read-of c in let turn = turn-of read in let I = turn .before .loop .inv .0 in let R = entry (turn .before .before) .pre .0 in
+    (block-here read .good, search needs, R .many, search needs, search needs, I .picked .long)
 
 loop-less : tie.Need-loop-less Inv-loop μ-loop
 loop-less c = search needs
 
 loop-again : tie.Need-loop-again Inv-loop μ-loop
-loop-again c =
-    let done = c .before .before .table-block .ensures in
-    let read = read-of (c .before .before .before) in
-    let turn = turn-of read in
+loop-again c = let done = c .before .before .table-block .ensures in let read = read-of (c .before .before .before) in let turn = turn-of read in
     (fill-more (entry (turn .before .before) .pre .0) (turn .before .loop .inv .0) (turn .loop-test .taken) (block-here read) (done .0), done .1)
 
 same-length : tie.Need-same-length Inv-loop μ-loop

@@ -50,8 +50,8 @@ shared-slice-read-wide-2 c = let G = goal-here (c .before) in search needs
 wide-requires-2 : tie.Need-wide-requires-2 Inv-loop μ-loop
 wide-requires-2 c κs = search needs
 
-ahead-requires : tie.Need-ahead-requires Inv-loop μ-loop
-ahead-requires c κs = let G = goal-here (c .before .before) in search needs
+ranked-ahead-requires : tie.Need-ranked-ahead-requires Inv-loop μ-loop
+ranked-ahead-requires c κs = let G = goal-here (c .before .before) in search needs
 
 mul-rows : tie.Need-mul-rows Inv-loop μ-loop
 mul-rows c = search needs
@@ -75,7 +75,7 @@ loop-again : tie.Need-loop-again Inv-loop μ-loop
 loop-again c =
     let turn = c .before .before .before in
     let p = entry (turn .before .before) .pre in
-    goals-more (p .0) (p .1 .nIs) (turn .before .loop .inv) (goal-here turn) (c .before .wide2 .ensures .0) (c .ahead .ensures)
+    goals-more (p .0) (p .1 .nIs) (turn .before .loop .inv) (goal-here turn) (c .before .wide2 .ensures .0) (c .ranked-ahead .ensures)
 
 returns : tie.Need-returns Inv-loop μ-loop
 returns c =
@@ -97,7 +97,7 @@ put-goals-spec =
     mul-wide-2
     shared-slice-read-wide-2
     wide-requires-2
-    ahead-requires
+    ranked-ahead-requires
     mul-rows
     add-rows
     mul-rows-2

@@ -28,7 +28,7 @@ same-length c = search needs
 returns : tie.Need-returns
 returns c =
     let roots = c .before .before in
-    let none = roots .before .before .before .before .before in
+    let none = roots .before .before .before .before .before .before in
     let rows = none .before .before in
     let priced = rows .before .before .before .before in
     let placed = priced .before in

@@ -21,10 +21,11 @@ abbrev μ-loop : tie.MeasureT-loop
 abbrev entry : tie.At-loop Inv-loop μ-loop → tie.Start Inv-loop μ-loop
 entry head = head .before .before
 
--- a turn, once the number of the step's edges is read
+-- a turn, seen from where the number of the step's edges is read
 abbrev turn-of : tie.After-wide Inv-loop μ-loop → tie.In-loop Inv-loop μ-loop
 turn-of read = read .before .before
 
+-- that place, seen from where the rows are lent
 abbrev read-of : tie.After-clear-arg Inv-loop μ-loop → tie.After-wide Inv-loop μ-loop
 read-of lent = lent .before .before .before
 
