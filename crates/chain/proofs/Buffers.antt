@@ -1,7 +1,7 @@
 -- The buffers: one of which each place is known is the old one with a list in front. The length that the first short one needs is found by the tests of
 -- the definition in their order, and where none is short there is room.
 use mathlib.Core.Path.{_≡_, sym, ap, _∙_}
-use mathlib.Core.List.{List, _++_}
+use mathlib.Core.List.{List}
 use Prim.Native.Nat.{ℕ, _+_, _-_, _*_, _≤_, _<_}
 use native.Mathlib.Decide.{decLt}
 use native.Mathlib.Omega.{arith}

@@ -1,16 +1,14 @@
 -- The answers that name a fault, and what is passed on where there is none: the definition makes the same tests in the same order as the code. The number of
 -- a fault is neither 0 nor 11, so such an answer means nothing more.
 use mathlib.Core.Path.{_≡_, sym, ap, _∙_}
-use mathlib.Core.Bool.{Bool, true, false, cond}
+use mathlib.Core.Bool.{Bool, true, false}
 use mathlib.Core.List.{List}
-use Prim.Native.Nat.{ℕ, _≤_, _<_}
+use Prim.Native.Nat.{ℕ, _<_}
 use native.Mathlib.Omega.{arith}
-use lib.Dec.{ltb}
 use lib.ListN.{length}
 use borrow.Author.Tests.{lt-ltb, le-ltb}
 use Rattle.trellis.specs.Lists.{first}
-use Rattle.trellis.specs.Outcome.{Outcome, success, badSection, badBlock, shortBuffer, noPath}
-use Rattle.chain.specs.Sections.{sectionsBad, badSectionOf}
+use Rattle.trellis.specs.Outcome.{Outcome, badSection, badBlock, shortBuffer}
 use Rattle.chain.specs.Frame.{frameBad, blockBad}
 use Rattle.chain.specs.Decoding.{Decoding, left, neededOf, bestOf, found, fitted, framed, decoding}
 use Rattle.chain.specs.Meaning.{Meaning}
@@ -29,23 +27,23 @@ EndsFor sections indices received erased start end D o costs labels goals =
     ((k : ℕ) → left o costs labels goals ≡ D k) × Meaning sections indices received erased start end o costs labels goals
 
 module _ {sections indices received erased : List ℕ} {start end : ℕ} {costs labels goals : List ℕ} where
-  no-more : {o : Outcome} → (o .number ≡ 11 → ⊥) → (o .number ≡ 0 → ⊥) → Meaning sections indices received erased start end o costs labels goals
-  no-more a b = record {
-    none = λ e. absurd (a (ap (λ (x : Outcome). x .number) e));
-    best = λ d e. absurd (b (ap (λ (x : Outcome). x .number) e));
+  no-more : {o : Outcome} → 0 < o .number → o .number < 11 → Meaning sections indices received erased start end o costs labels goals
+  no-more {o} a b = record {
+    none = λ e. let z : o .number ≡ 11 = ap (λ (x : Outcome). x .number) e in absurd (omega arith);
+    best = λ d e. let z : o .number ≡ 0 = ap (λ (x : Outcome). x .number) e in absurd (omega arith);
   }
 
   pub ends-section : {k i : ℕ} → SectionFault sections k i
       → Ends sections indices received erased start end (decoding sections k indices received erased start end costs labels goals)
       (badSection i) costs labels goals
   unfolding decoding
-  ends-section {k} F = (simp (F .bad, F .at), no-more (λ z. absurd (omega arith)) (λ z. absurd (omega arith)))
+  ends-section {k} F = (simp (F .bad, F .at), no-more (omega arith) (omega arith))
 
   pub ends-frame : (k : ℕ) {bad : Bool} → bad ≡ frameBad indices received erased start end → bad ≡ true
       → Ends sections indices received erased start end (framed sections k indices received erased start end costs labels goals)
       (badBlock (length indices)) costs labels goals
   unfolding framed
-  ends-frame k e h = (simp (sym e, h), no-more (λ z. absurd (omega arith)) (λ z. absurd (omega arith)))
+  ends-frame k e h = (simp (sym e, h), no-more (omega arith) (omega arith))
 
   pub ends-block : (k : ℕ) {bad : Bool} {b : ℕ} → bad ≡ frameBad indices received erased start end → bad ≡ false
       → b ≡ first (blockBad sections indices received erased k) (length indices) → b < length indices
@@ -53,13 +51,13 @@ module _ {sections indices received erased : List ℕ} {start end : ℕ} {costs 
       (badBlock b) costs labels goals
   unfolding framed
   ends-block k {b = b} e h p l =
-      (simp (sym e, h, sym p, lt-ltb b (length indices) l), no-more (λ z. absurd (omega arith)) (λ z. absurd (omega arith)))
+      (simp (sym e, h, sym p, lt-ltb b (length indices) l), no-more (omega arith) (omega arith))
 
   pub ends-short : {n : ℕ} → n ≡ neededOf (length indices) (length costs) (length labels) (length goals) → 0 < n
       → EndsFor sections indices received erased start end (λ k. fitted sections k indices received erased start end costs labels goals)
       (shortBuffer n) costs labels goals
   unfolding fitted
-  ends-short {n} q m = (λ k. simp (sym q, lt-ltb 0 n m), no-more (λ z. absurd (omega arith)) (λ z. absurd (omega arith)))
+  ends-short {n} q m = (λ k. simp (sym q, lt-ltb 0 n m), no-more (omega arith) (omega arith))
 
 -- ---- where there is no fault
 

@@ -15,9 +15,9 @@ use Rattle.trellis.specs.Lists.{_∈_}
 use Rattle.trellis.specs.Word.{Word, word, wordAt, Before}
 use Rattle.trellis.specs.Layout.{sectionWords}
 use Rattle.trellis.specs.Outcome.{Outcome, success, noPath}
-use Rattle.paths.specs.Choice.{Choice, none, some}
+use Rattle.paths.specs.Choice.{none, some}
 use Rattle.paths.specs.Costs.{least}
-use Rattle.paths.specs.Chain.{chainPaths, pathDistance, bestPath, costTable, chainLeast, IsPath}
+use Rattle.paths.specs.Chain.{chainPaths, pathDistance, bestPath, costTable, chainLeast}
 use Rattle.paths.proofs.Chain.{cost-table, drops, none-listed}
 use Rattle.paths.proofs.First.{best-first, first-in}
 use Rattle.paths.proofs.Ordered.{Ordered}

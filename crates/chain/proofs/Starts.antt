@@ -1,20 +1,20 @@
 -- Sections one behind another: a usable section's length is not 0 and it is there whole, so the next one begins within the list or at its end.
 use mathlib.Core.Path.{_≡_, refl, sym, ap, subst, _∙_}
-use mathlib.Core.Bool.{Bool, true, false, cond, not, _||_}
+use mathlib.Core.Bool.{Bool, true, false, cond, not}
 use mathlib.Core.List.{List}
-use Prim.Native.Nat.{ℕ, zero, suc, _+_, _-_, _*_, _≤_, _<_}
+use Prim.Native.Nat.{ℕ, suc, _+_, _-_, _≤_, _<_}
 use native.Mathlib.Nat.{not-suc-le-zero, le-of-eq}
-use native.Mathlib.Decide.{ℕ-discrete, decLe}
+use native.Mathlib.Decide.{ℕ-discrete}
 use native.Mathlib.Numerals.{add-one}
 use native.Mathlib.Omega.{arith}
-use lib.Dec.{T, ltb, eqb}
+use lib.Dec.{eqb}
 use lib.ListN.{length, getD, take, drop, set, length-set, length-drop}
 use lib.Seq.{getD-set-same, getD-set-other, take-all}
 use borrow.Author.Tests.{lt-ltb, le-ltb, eq-eqb, ne-eqb, not-true, not-false}
 use Rattle.trellis.specs.Lists.{first}
-use Rattle.trellis.specs.Layout.{nOf, rootsPlace, goalsPlace, pairsPlace, symbolsPlace, sectionLength}
-use Rattle.trellis.proofs.Bools.{holds, fails, is-true, is-false, settle}
-use Rattle.trellis.proofs.Lists.{First, first-is}
+use Rattle.trellis.specs.Layout.{rootsPlace, goalsPlace, pairsPlace, symbolsPlace, sectionLength}
+use Rattle.trellis.proofs.Bools.{holds, fails, is-true, is-false}
+use Rattle.trellis.proofs.Lists.{first-is}
 use Rattle.section_file.specs.Usable.{usable, within}
 use Rattle.section_file.specs.Sound.{Sound}
 use Rattle.section_file.specs.Answer.{partOf}

@@ -144,7 +144,8 @@ fn needed(blocks: usize, costs: usize, labels: usize, goals: usize) -> usize
     if goals < blocks { blocks } else { 0 }
 }
 
-// Fault 10, and then the two passes: the cost table, and where it has a path from the start state, the words of the first best one.
+// Fault 10, and then the two passes: the cost table, and where it has a path from the start state, the words of the first best one. K plays no part here,
+// so the promise is for any.
 fn decode_blocks(
     sections: &[u16],
     starts: &[usize; 17],

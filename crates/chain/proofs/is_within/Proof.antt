@@ -1,5 +1,4 @@
 -- `chain::is_within` is the two tests of the definition.
-use borrow.Author.Needs.{needs}
 use Rattle.chain.proofs.Bounds.{within-under, within-from}
 use Rattle.chain.proofs.is_within.Statement.{statement}
 use Rattle.chain.proofs.is_within.Tie as tie
