@@ -11,6 +11,13 @@ use Rattle.chain.proofs.decode_blocks.Tie as tie
 abbrev entry : tie.After-needed → tie.Start
 entry c = c .before .before .before .before .before .before .before .before
 
+-- from where the table is filled, back to where the states are widened
+abbrev from : tie.After-fill-table → tie.After-widened
+from filled = filled .before .before .before
+
+abbrev to : tie.After-fill-table → tie.After-widened2
+to filled = filled .before .before
+
 -- behind the first test no buffer is short
 room : (c : tie.Else1) → let a = entry (c .before) .args in Room (a .indices .now) (a .costs .now) (a .labels .now) (a .goals .now)
 room c = room-of (entry (c .before) .pre .frame .some) (c .before .needed .ensures) (c .if1 .left)
@@ -35,32 +42,26 @@ mul-if2 c = search needs
 
 slice-read-if2 : tie.Need-slice-read-if2
 slice-read-if2 c =
-    let at-table = c .before .before .before in
-    let at-to = at-table .before .before in
-    let at-from = at-to .before in
-    let fits = at-from .before in
-    from-in (tabled (entry (fits .before) .pre) (room fits) (at-from .widened .ensures .0) (at-to .widened2 .ensures .0) (at-table .fill-table .ensures))
+    let filled = c .before .before .before in
+    let fits = from filled .before in
+    from-in (tabled (entry (fits .before) .pre) (room fits) (from filled .widened .ensures .0) (to filled .widened2 .ensures .0) (filled .fill-table .ensures))
 
 same-length : tie.Need-same-length
 same-length c = search needs
 
 returns-2 : tie.Need-returns-2
 returns-2 c =
-    let at-table = c .before .before .before .before in
-    let at-to = at-table .before .before in
-    let at-from = at-to .before in
-    let fits = at-from .before in
-    ends-none (tabled (entry (fits .before) .pre) (room fits) (at-from .widened .ensures .0) (at-to .widened2 .ensures .0) (at-table .fill-table .ensures))
+    let filled = c .before .before .before .before in
+    let fits = from filled .before in
+    ends-none (tabled (entry (fits .before) .pre) (room fits) (from filled .widened .ensures .0) (to filled .widened2 .ensures .0) (filled .fill-table .ensures))
     (c .if2 .taken)
 
 name-words-requires : tie.Need-name-words-requires
 name-words-requires c κs =
     let at-test = c .before .before .before in
-    let at-table = at-test .before .before .before .before in
-    let at-to = at-table .before .before in
-    let at-from = at-to .before in
-    let fits = at-from .before in
-    names-ready (tabled (entry (fits .before) .pre) (room fits) (at-from .widened .ensures .0) (at-to .widened2 .ensures .0) (at-table .fill-table .ensures))
+    let filled = at-test .before .before .before .before in
+    let fits = from filled .before in
+    names-ready (tabled (entry (fits .before) .pre) (room fits) (from filled .widened .ensures .0) (to filled .widened2 .ensures .0) (filled .fill-table .ensures))
     (at-test .if2 .left)
 
 same-length-2 : tie.Need-same-length-2
@@ -76,11 +77,9 @@ returns-3 : tie.Need-returns-3
 returns-3 c =
     let at-words = c .before .before .before .before in
     let at-test = at-words .before .before .before .before in
-    let at-table = at-test .before .before .before .before in
-    let at-to = at-table .before .before in
-    let at-from = at-to .before in
-    let fits = at-from .before in
-    ends-path (tabled (entry (fits .before) .pre) (room fits) (at-from .widened .ensures .0) (at-to .widened2 .ensures .0) (at-table .fill-table .ensures))
+    let filled = at-test .before .before .before .before in
+    let fits = from filled .before in
+    ends-path (tabled (entry (fits .before) .pre) (room fits) (from filled .widened .ensures .0) (to filled .widened2 .ensures .0) (filled .fill-table .ensures))
     (at-test .if2 .left) (at-words .name-words .ensures)
 
 pub decode-blocks-spec : {M : Type 1} → statement M
