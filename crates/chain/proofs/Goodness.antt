@@ -1,12 +1,10 @@
 -- A usable section is one that the passes can take: its parts are there, and each of its edges belongs to one step, whose bounds it keeps.
-use mathlib.Core.Path.{_≡_, refl, sym, ap, subst, _∙_}
+use mathlib.Core.Path.{_≡_, ap, subst}
 use mathlib.Core.List.{List}
-use Prim.Native.Nat.{ℕ, zero, suc, _+_, _-_, _*_, _≤_, _<_}
+use Prim.Native.Nat.{ℕ, zero, suc, _+_, _-_, _≤_, _<_}
 use native.Mathlib.Decide.{decLt}
 use native.Mathlib.Omega.{arith}
-use lib.ListN.{length, getD}
-use Rattle.trellis.specs.Own.{Edge}
-use Rattle.trellis.specs.Layout.{qOf, nOf, statesOf, vertexCountOf, edgeCountOf, edgesBefore, allEdges, rootsPlace, goalsPlace, pairsPlace, symbolsPlace, sectionLength, edgeNumber}
+use Rattle.trellis.specs.Layout.{qOf, nOf, vertexCountOf, edgeCountOf, edgesBefore, rootsPlace, goalsPlace, pairsPlace, symbolsPlace, sectionLength, edgeNumber}
 use Rattle.section_file.specs.Usable.{stepEdge}
 use Rattle.section_file.specs.Sound.{Sound}
 use Rattle.sweep.specs.Rows.{Fits}

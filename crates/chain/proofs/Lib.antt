@@ -1,7 +1,11 @@
 -- Laws of chain decoding, lowest first.
 pub mod Goodness
+pub mod Bounds
 pub mod Starts
 pub mod Checks
+pub mod Buffers
+pub mod Faults
 pub mod Frames
-pub mod Ends
+pub mod Tables
 pub mod Meanings
+pub mod Ends

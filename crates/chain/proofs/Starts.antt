@@ -1,20 +1,20 @@
 -- Sections one behind another: a usable section's length is not 0 and it is there whole, so the next one begins within the list or at its end.
 use mathlib.Core.Path.{_≡_, refl, sym, ap, subst, _∙_}
-use mathlib.Core.Bool.{Bool, true, false, cond, not, _||_}
+use mathlib.Core.Bool.{Bool, true, false, cond, not}
 use mathlib.Core.List.{List}
-use Prim.Native.Nat.{ℕ, zero, suc, _+_, _-_, _*_, _≤_, _<_}
+use Prim.Native.Nat.{ℕ, suc, _+_, _-_, _≤_, _<_}
 use native.Mathlib.Nat.{not-suc-le-zero, le-of-eq}
-use native.Mathlib.Decide.{ℕ-discrete, decLe}
+use native.Mathlib.Decide.{ℕ-discrete}
 use native.Mathlib.Numerals.{add-one}
 use native.Mathlib.Omega.{arith}
-use lib.Dec.{T, ltb, eqb}
+use lib.Dec.{eqb}
 use lib.ListN.{length, getD, take, drop, set, length-set, length-drop}
 use lib.Seq.{getD-set-same, getD-set-other, take-all}
 use borrow.Author.Tests.{lt-ltb, le-ltb, eq-eqb, ne-eqb, not-true, not-false}
 use Rattle.trellis.specs.Lists.{first}
-use Rattle.trellis.specs.Layout.{nOf, rootsPlace, goalsPlace, pairsPlace, symbolsPlace, sectionLength}
-use Rattle.trellis.proofs.Bools.{holds, fails, is-true, is-false, settle}
-use Rattle.trellis.proofs.Lists.{First, first-is}
+use Rattle.trellis.specs.Layout.{rootsPlace, goalsPlace, pairsPlace, symbolsPlace, sectionLength}
+use Rattle.trellis.proofs.Bools.{holds, fails, is-true, is-false}
+use Rattle.trellis.proofs.Lists.{first-is}
 use Rattle.section_file.specs.Usable.{usable, within}
 use Rattle.section_file.specs.Sound.{Sound}
 use Rattle.section_file.specs.Answer.{partOf}
@@ -24,6 +24,8 @@ use Rattle.section_file.proofs.Usable.{usable-sound}
 use Rattle.chain.specs.Sections.{sectionStart, sectionAt, unusable, sectionsBad, badSectionOf}
 use Rattle.chain.specs.Answer.{partLength}
 use Rattle.chain.specs.Loops.{Found, InSections, FirstUnusable}
+use Rattle.chain.specs.Checked.{AllFound}
+use Rattle.chain.proofs.Bounds.{within-of}
 
 -- ---- the length that was read
 
@@ -63,7 +65,9 @@ starts-start {sections} starts h = record {
   i-le = omega arith;
   found = record {
     long = simp length-set h;
-    at = λ j l. let e : j ≡ 0 = omega arith in subst (λ x. getD (set starts 0 0) x 0 ≡ sectionStart sections x) (sym e) (getD-set-same starts 0 0 0 (omega arith));
+    at = λ j l.
+        let e : j ≡ 0 = omega arith in
+        subst (λ x. getD (set starts 0 0) x 0 ≡ sectionStart sections x) (sym e) (getD-set-same starts 0 0 0 (omega arith));
     usable-before = λ j l. absurd (not-suc-le-zero l);
     inside = omega arith;
   };
@@ -95,7 +99,12 @@ module _ {sections starts : List ℕ} {k i at n : ℕ} (I : InSections sections 
   starts-more few h z = rw (add-one i)
       (record {
         i-le = h;
-        found = record { long = simp length-set (I .found .long); at = places; usable-before = before; inside = subst (λ x. x ≤ length sections) next-is (starts-fit z) };
+        found = record {
+          long = simp length-set (I .found .long);
+          at = places;
+          usable-before = before;
+          inside = subst (λ x. x ≤ length sections) next-is (starts-fit z);
+        };
         at-is = next-is;
       })
     where
@@ -134,34 +143,55 @@ first-unusable {sections} {starts} {k} {r} F = first-is (unusable sections) k r 
   miss = λ j h t. fails (ap not (F .found .usable-before j h)) t;
 })
 
-module _ (sections : List ℕ) (k : ℕ) where
-  pub many-sections : {w : Bool} → w ≡ within 1 16 k → not w ≡ true → (sectionsBad sections k ≡ true) × (badSectionOf sections k ≡ k)
-  unfolding sectionsBad badSectionOf
-  many-sections {w} e h = (simp (sym e, not-true w h), simp (sym e, not-true w h))
+-- fault 8 is answered with i
+pub record SectionFault (sections : List ℕ) (k i : ℕ) : Type 0 where
+  pub bad : sectionsBad sections k ≡ true
+  pub at : badSectionOf sections k ≡ i
 
-  pub unusable-section : {w : Bool} {r : ℕ} {starts : List ℕ} → w ≡ within 1 16 k → not w ≡ false → FirstUnusable sections starts k r → r < k
-      → (sectionsBad sections k ≡ true) × (badSectionOf sections k ≡ r)
-  unfolding sectionsBad badSectionOf
-  unusable-section {w} {r} e h F l = (simp (sym e, not-false w h, first-unusable F, lt-ltb r k l), simp (sym e, not-false w h, first-unusable F))
+-- there is no fault 8
+pub record SectionsGood (sections starts : List ℕ) (k : ℕ) : Type 0 where
+  pub good : sectionsBad sections k ≡ false
+  pub found : AllFound sections starts k
 
-  pub left-over : {w : Bool} {r : ℕ} {starts : List ℕ} → w ≡ within 1 16 k → not w ≡ false → FirstUnusable sections starts k r → k ≤ r
-      → (getD starts k 0 ≡ length sections → ⊥) → (sectionsBad sections k ≡ true) × (badSectionOf sections k ≡ k)
-  unfolding sectionsBad badSectionOf
-  left-over {w} {r} {starts} e h F l n =
-      let q : r ≡ k = omega (arith, F .r-le) in
-      let f = first-unusable F ∙ q in
-      let z : eqb (sectionStart sections k) (length sections) ≡ false = ne-eqb (sectionStart sections k) (length sections) (λ x. n (F .found .at k (omega arith) ∙ x)) in
-      (simp (sym e, not-false w h, f, le-ltb k k (omega arith), z), simp (sym e, not-false w h, f))
+pub many-sections : {sections : List ℕ} {k : ℕ} {w : Bool} → w ≡ within 1 16 k → not w ≡ true → SectionFault sections k k
+unfolding sectionsBad badSectionOf
+many-sections {w = w} e h = record { bad = simp (sym e, not-true w h); at = simp (sym e, not-true w h) }
 
-  -- all sections are found
-  pub sections-good : {w : Bool} {r : ℕ} {starts : List ℕ} → w ≡ within 1 16 k → not w ≡ false → FirstUnusable sections starts k r → k ≤ r
-      → getD starts k 0 ≡ length sections → (sectionsBad sections k ≡ false) × Found sections starts k
-  unfolding sectionsBad
-  sections-good {w} {r} {starts} e h F l n =
-      let q : r ≡ k = omega (arith, F .r-le) in
-      let f = first-unusable F ∙ q in
-      let z : eqb (sectionStart sections k) (length sections) ≡ true = eq-eqb (sectionStart sections k) (length sections) (sym (F .found .at k (omega arith)) ∙ n) in
-      (simp (sym e, not-false w h, f, le-ltb k k (omega arith), z), subst (Found sections starts) q (F .found))
+module _ {sections starts : List ℕ} {k r : ℕ} {w : Bool} (e : w ≡ within 1 16 k) (h : not w ≡ false) (F : FirstUnusable sections starts k r) where
+  pub unusable-section : r < k → SectionFault sections k r
+  unfolding sectionsBad badSectionOf
+  unusable-section l = record {
+    bad = simp (sym e, not-false w h, first-unusable F, lt-ltb r k l);
+    at = simp (sym e, not-false w h, first-unusable F);
+  }
+
+  module _ (l : k ≤ r) where
+    r-is : r ≡ k
+    r-is = omega (arith, F .r-le)
+
+    first-is-k : first (unusable sections) k ≡ k
+    first-is-k = first-unusable F ∙ r-is
+
+    pub left-over : (getD starts k 0 ≡ length sections → ⊥) → SectionFault sections k k
+    unfolding sectionsBad badSectionOf
+    left-over n =
+        let z : eqb (sectionStart sections k) (length sections) ≡ false
+        = ne-eqb (sectionStart sections k) (length sections) (λ x. n (F .found .at k l ∙ x)) in
+        record {
+          bad = simp (sym e, not-false w h, first-is-k, le-ltb k k (omega arith), z);
+          at = simp (sym e, not-false w h, first-is-k);
+        }
+
+    pub sections-good : getD starts k 0 ≡ length sections → SectionsGood sections starts k
+    unfolding sectionsBad
+    sections-good n =
+        let z : eqb (sectionStart sections k) (length sections) ≡ true
+        = eq-eqb (sectionStart sections k) (length sections) (sym (F .found .at k l) ∙ n) in
+        let b = within-of 1 16 k (sym e ∙ not-false w h) in
+        record {
+          good = simp (sym e, not-false w h, first-is-k, le-ltb k k (omega arith), z);
+          found = record { some = b .0; few = b .1; found = subst (Found sections starts) r-is (F .found) };
+        }
 
 -- ---- a section, taken from the slice
 
@@ -181,7 +211,8 @@ taken-at {sections} {starts} {k} {i} F h =
     let l = long-enough (sectionAt sections i) in
     let d = length-drop (sectionStart sections i) sections in
     let p : take (length sections - getD starts i 0) (drop (getD starts i 0) sections) ≡ sectionAt sections i
-    = take-all (length sections - getD starts i 0) (drop (getD starts i 0) sections) (le-of-eq (length-drop (getD starts i 0) sections)) ∙ ap (λ x. drop x sections) a in
+    = take-all (length sections - getD starts i 0) (drop (getD starts i 0) sections) (le-of-eq (length-drop (getD starts i 0) sections))
+    ∙ ap (λ x. drop x sections) a in
     record {
       inside = omega arith;
       part-is = p;

@@ -2,16 +2,17 @@
 // answers for all arguments, by an equation with `decoding`: the outcome of document 01 and the whole content of the three buffers.
 ghost use mathlib.Core.Path.{_≡_};
 ghost use mathlib.Core.Bool.{cond, not};
-ghost use Prim.Native.Nat.{_+_, _*_, _<_, _≤_};
+ghost use Prim.Native.Nat.{ℕ, _+_, _*_, _<_, _≤_};
 ghost use lib.ListN.{length, getD, drop};
 ghost use Rattle.trellis.specs.Lists.{first};
 ghost use Rattle.trellis.specs.Layout.{sectionLength};
 ghost use Rattle.section_file.specs.Usable.{usable, within};
 ghost use Rattle.chain.specs.Frame.{frameBad, blockBad};
-ghost use Rattle.chain.specs.Decoding.{left, neededOf, decoding};
+ghost use Rattle.chain.specs.Decoding.{left, neededOf, fitted, framed, decoding};
 ghost use Rattle.chain.specs.Answer.{decodedOutcome, partLength};
 ghost use Rattle.chain.specs.Meaning.{Meaning};
 ghost use Rattle.chain.specs.Loops.{Found, FirstUnusable};
+ghost use Rattle.chain.specs.Checked.{AllFound, Checked};
 use numbers::wide;
 use numbers::widened;
 use section_file::Part;
@@ -143,6 +144,89 @@ fn needed(blocks: usize, costs: usize, labels: usize, goals: usize) -> usize
     if goals < blocks { blocks } else { 0 }
 }
 
+// Fault 10, and then the two passes: the cost table, and where it has a path from the start state, the words of the first best one. K plays no part here,
+// so the promise is for any.
+fn decode_blocks(
+    sections: &[u16],
+    starts: &[usize; 17],
+    indices: &[u8],
+    received: &[u16],
+    erased: &[u8],
+    start: u8,
+    end: u8,
+    costs: &mut [u32],
+    labels: &mut [u16],
+    goals: &mut [u8],
+) -> Decoded
+    requires { ⌜ Checked (now sections) (now starts) (now indices) (now received) (now erased) start end ⌝ }
+    ensures whole { λ r. ⌜ ((k : ℕ) → left (decodedOutcome r) (now (costs .exit)) (now (labels .exit)) (now (goals .exit)) ≡ fitted (now (sections .entry)) k (now (indices .entry)) (now (received .entry)) (now (erased .entry)) start end (now (costs .entry)) (now (labels .entry)) (now (goals .entry))) ⌝ }
+    ensures meaning { λ r. ⌜ Meaning (now (sections .entry)) (now (indices .entry)) (now (received .entry)) (now (erased .entry)) start end (decodedOutcome r) (now (costs .exit)) (now (labels .exit)) (now (goals .exit)) ⌝ }
+{
+    let short = needed(indices.len(), costs.len(), labels.len(), goals.len());
+    if short > 0 {
+        return Decoded::Short(short);
+    }
+    let from = widened(start);
+    let to = widened(end);
+    passes::fill_table(sections, starts, indices, received, erased, to, costs);
+    if costs[from] == TOP {
+        return Decoded::NoPath;
+    }
+    let distance = passes::name_words(
+        sections,
+        starts,
+        indices,
+        received,
+        erased,
+        from,
+        to,
+        costs,
+        labels,
+        goals,
+    );
+    Decoded::Distance(distance)
+}
+
+// Fault 9, and then what follows where there is none.
+fn decode_frame(
+    sections: &[u16],
+    starts: &[usize; 17],
+    k: usize,
+    indices: &[u8],
+    received: &[u16],
+    erased: &[u8],
+    start: u8,
+    end: u8,
+    costs: &mut [u32],
+    labels: &mut [u16],
+    goals: &mut [u8],
+) -> Decoded
+    requires { ⌜ AllFound (now sections) (now starts) k ⌝ }
+    ensures whole { λ r. ⌜ left (decodedOutcome r) (now (costs .exit)) (now (labels .exit)) (now (goals .exit)) ≡ framed (now (sections .entry)) k (now (indices .entry)) (now (received .entry)) (now (erased .entry)) start end (now (costs .entry)) (now (labels .entry)) (now (goals .entry)) ⌝ }
+    ensures meaning { λ r. ⌜ Meaning (now (sections .entry)) (now (indices .entry)) (now (received .entry)) (now (erased .entry)) start end (decodedOutcome r) (now (costs .exit)) (now (labels .exit)) (now (goals .exit)) ⌝ }
+{
+    if frame_bad(indices, received, erased, start, end) {
+        return Decoded::Block(indices.len());
+    }
+    let bad = first_bad(sections, starts, k, indices, received, erased);
+    if bad < indices.len() {
+        return Decoded::Block(bad);
+    }
+    decode_blocks(
+        sections,
+        starts,
+        indices,
+        received,
+        erased,
+        start,
+        end,
+        costs,
+        labels,
+        goals,
+    )
+}
+
+// Fault 8, and then what follows where there is none.
 pub fn decode(
     sections: &[u16],
     k: usize,
@@ -169,41 +253,17 @@ pub fn decode(
     if starts[k] != sections.len() {
         return Decoded::Section(k);
     }
-    let blocks = indices.len();
-    if frame_bad(indices, received, erased, start, end) {
-        return Decoded::Block(blocks);
-    }
-    let bad = first_bad(sections, &starts, k, indices, received, erased);
-    if bad < blocks {
-        return Decoded::Block(bad);
-    }
-    let short = needed(blocks, costs.len(), labels.len(), goals.len());
-    if short > 0 {
-        return Decoded::Short(short);
-    }
-    passes::fill_table(
+    decode_frame(
         sections,
         &starts,
+        k,
         indices,
         received,
         erased,
-        widened(end),
-        costs,
-    );
-    if costs[widened(start)] == TOP {
-        return Decoded::NoPath;
-    }
-    let distance = passes::name_words(
-        sections,
-        &starts,
-        indices,
-        received,
-        erased,
-        widened(start),
-        widened(end),
+        start,
+        end,
         costs,
         labels,
         goals,
-    );
-    Decoded::Distance(distance)
+    )
 }

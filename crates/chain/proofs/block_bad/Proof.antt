@@ -5,6 +5,9 @@ use borrow.Author.Needs.{needs}
 use Rattle.chain.proofs.block_bad.Statement.{statement}
 use Rattle.chain.proofs.block_bad.Tie as tie
 
+abbrev entry : tie.Else1 → tie.Start
+entry c = c .before .before .before .before .before .before .before
+
 shared-slice-read-widened : tie.Need-shared-slice-read-widened
 shared-slice-read-widened c = search needs
 
@@ -12,7 +15,7 @@ widened-requires : tie.Need-widened-requires
 widened-requires c κs = search needs
 
 returns : tie.Need-returns
-returns c = block-index ((c .before .before .before .before .before .before .before .args .sections) .now) ((c .before .before .before .before .before .before .before .args .indices) .now) ((c .before .before .before .before .before .before .before .args .received) .now) ((c .before .before .before .before .before .before .before .args .erased) .now) (c .before .before .before .before .before .before .before .args .k) (c .before .before .before .before .before .before .before .args .b) (c .before .widened .ensures .0) (c .if1 .taken)
+returns c = block-index _ _ _ _ _ _ (c .before .widened .ensures .0) (c .if1 .taken)
 
 mul-at : tie.Need-mul-at
 mul-at c = search needs
@@ -21,22 +24,28 @@ element-copy-out-at : tie.Need-element-copy-out-at
 element-copy-out-at c = search needs
 
 mul-l : tie.Need-mul-l
-mul-l c = let T = taken-at (c .before .before .before .before .before .before .before .before .pre .0) (c .before .if1 .left) in search needs
+mul-l c = let T = taken-at (entry (c .before) .pre .0) (c .before .if1 .left) in search needs
 
 sub-l : tie.Need-sub-l
-sub-l c = let T = taken-at (c .before .before .before .before .before .before .before .before .pre .0) (c .before .if1 .left) in search needs
+sub-l c = let T = taken-at (entry (c .before) .pre .0) (c .before .if1 .left) in search needs
 
 part-l-start : tie.Need-part-l-start
-part-l-start c = let T = taken-at (c .before .before .before .before .before .before .before .before .pre .0) (c .before .if1 .left) in search needs
+part-l-start c = let T = taken-at (entry (c .before) .pre .0) (c .before .if1 .left) in search needs
 
 part-l-end : tie.Need-part-l-end
 part-l-end c = search needs
 
 shared-slice-read-fits : tie.Need-shared-slice-read-fits
-shared-slice-read-fits c = let T = taken-at (c .before .before .before .before .before .before .before .before .before .before .pre .0) (c .before .before .before .if1 .left) in search needs
+shared-slice-read-fits c =
+    let at-index = c .before .before .before in
+    let T = taken-at (entry at-index .pre .0) (at-index .if1 .left) in
+    search needs
 
 shared-slice-read-wide : tie.Need-shared-slice-read-wide
-shared-slice-read-wide c = let T = taken-at (c .before .before .before .before .before .before .before .before .before .before .before .pre .0) (c .before .before .before .before .if1 .left) in search needs
+shared-slice-read-wide c =
+    let at-index = c .before .before .before .before in
+    let T = taken-at (entry at-index .pre .0) (at-index .if1 .left) in
+    search needs
 
 wide-requires : tie.Need-wide-requires
 wide-requires c κs = search needs
@@ -51,10 +60,20 @@ shared-slice-read-fits-3 : tie.Need-shared-slice-read-fits-3
 shared-slice-read-fits-3 c = search needs
 
 fits-requires : tie.Need-fits-requires
-fits-requires c κs = let T = taken-at (c .before .before .before .before .before .before .before .before .before .before .before .before .before .before .pre .0) (c .before .before .before .before .before .before .before .if1 .left) in let S = T .sound-taken in let w = (c .before .before .wide .ensures .0) in let n = S .nTo in search needs
+fits-requires c κs =
+    let at-wide = c .before .before in
+    let at-index = at-wide .before .before .before .before .before in
+    let T = taken-at (entry at-index .pre .0) (at-index .if1 .left) in
+    let w = at-wide .wide .ensures .0 in
+    let n = T .sound-taken .nTo in
+    search needs
 
 returns-2 : tie.Need-returns-2
-returns-2 c = let T = taken-at (c .before .before .before .before .before .before .before .before .before .before .before .before .before .before .before .pre .0) (c .before .before .before .before .before .before .before .before .if1 .left) in block-fits ((c .before .before .before .before .before .before .before .before .before .before .before .before .before .before .before .args .sections) .now) ((c .before .before .before .before .before .before .before .before .before .before .before .before .before .before .before .args .indices) .now) ((c .before .before .before .before .before .before .before .before .before .before .before .before .before .before .before .args .received) .now) ((c .before .before .before .before .before .before .before .before .before .before .before .before .before .before .before .args .erased) .now) (c .before .before .before .before .before .before .before .before .before .before .before .before .before .before .before .args .k) (c .before .before .before .before .before .before .before .before .before .before .before .before .before .before .before .args .b) (c .before .before .before .before .before .before .before .before .before .widened .ensures .0) (c .before .before .before .before .before .before .before .before .if1 .left) T (c .before .before .before .wide .ensures .0) (c .fits2 .ensures)
+returns-2 c =
+    let at-wide = c .before .before .before in
+    let at-index = at-wide .before .before .before .before .before in
+    let T = taken-at (entry at-index .pre .0) (at-index .if1 .left) in
+    block-fits _ _ _ _ _ _ (at-index .before .widened .ensures .0) (at-index .if1 .left) T (at-wide .wide .ensures .0) (c .fits2 .ensures)
 
 pub block-bad-spec : {M : Type 1} → statement M
 block-bad-spec =

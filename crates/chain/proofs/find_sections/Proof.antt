@@ -17,16 +17,23 @@ element-write-starts : tie.Need-element-write-starts Inv-loop μ-loop
 element-write-starts c = search needs
 
 loop-holds : tie.Need-loop-holds Inv-loop μ-loop
-loop-holds c = starts-start ((c .before .args .starts) .now) (search needs)
+loop-holds c = starts-start (c .before .args .starts .now) (search needs)
 
 length-at-requires : tie.Need-length-at-requires Inv-loop μ-loop
 length-at-requires c κs = search needs
 
 returns : tie.Need-returns Inv-loop μ-loop
-returns c = starts-found (c .before .before .before .loop .inv) (c .before .length-at .ensures) (c .before .before .loop-test .taken) (c .if1 .taken)
+returns c =
+    let at-length = c .before in
+    let turn = at-length .before in
+    starts-found (turn .before .loop .inv) (at-length .length-at .ensures) (turn .loop-test .taken) (c .if1 .taken)
 
 add-at : tie.Need-add-at Inv-loop μ-loop
-add-at c = let f = starts-fit (c .before .before .before .loop .inv) (c .before .length-at .ensures) (c .if1 .left) in search needs
+add-at c =
+    let at-length = c .before in
+    let turn = at-length .before in
+    let f = starts-fit (turn .before .loop .inv) (at-length .length-at .ensures) (c .if1 .left) in
+    search needs
 
 add-i : tie.Need-add-i Inv-loop μ-loop
 add-i c = search needs
@@ -41,7 +48,11 @@ loop-less : tie.Need-loop-less Inv-loop μ-loop
 loop-less c = search needs
 
 loop-again : tie.Need-loop-again Inv-loop μ-loop
-loop-again c = starts-more (c .before .before .before .loop .inv) (c .before .length-at .ensures) (c .before .before .before .before .before .pre .0) (c .before .before .loop-test .taken) (c .if1 .left)
+loop-again c =
+    let at-length = c .before in
+    let turn = at-length .before in
+    let entry = turn .before .before .before in
+    starts-more (turn .before .loop .inv) (at-length .length-at .ensures) (entry .pre .0) (turn .loop-test .taken) (c .if1 .left)
 
 returns-2 : tie.Need-returns-2 Inv-loop μ-loop
 returns-2 c = starts-end (c .before .loop .inv) (search needs)

@@ -14,13 +14,16 @@ abbrev μ-loop : tie.MeasureT-loop
 μ-loop sections starts k indices received erased b₀ b = length indices - b
 
 loop-holds : tie.Need-loop-holds Inv-loop μ-loop
-loop-holds c = blocks-start ((c .before .before .before .before .args .sections) .now) ((c .before .before .before .before .args .indices) .now) ((c .before .before .before .before .args .received) .now) ((c .before .before .before .before .args .erased) .now) (c .before .before .before .before .args .k)
+loop-holds c = blocks-start
 
 block-bad-requires : tie.Need-block-bad-requires Inv-loop μ-loop
 block-bad-requires c κs = search needs
 
 returns : tie.Need-returns Inv-loop μ-loop
-returns c = blocks-found ((c .before .before .before .before .before .before .before .before .args .sections) .now) ((c .before .before .before .before .before .before .before .before .args .indices) .now) ((c .before .before .before .before .before .before .before .before .args .received) .now) ((c .before .before .before .before .before .before .before .before .args .erased) .now) (c .before .before .before .before .before .before .before .before .args .k) (c .before .before .before .loop .inv) (c .before .before .loop-test .taken) (c .before .block-bad .ensures) (c .if1 .taken)
+returns c =
+    let at-block = c .before in
+    let turn = at-block .before in
+    blocks-found (turn .before .loop .inv) (turn .loop-test .taken) (at-block .block-bad .ensures) (c .if1 .taken)
 
 add-b : tie.Need-add-b Inv-loop μ-loop
 add-b c = search needs
@@ -29,10 +32,13 @@ loop-less : tie.Need-loop-less Inv-loop μ-loop
 loop-less c = search needs
 
 loop-again : tie.Need-loop-again Inv-loop μ-loop
-loop-again c = blocks-more ((c .before .before .before .before .before .before .before .before .args .sections) .now) ((c .before .before .before .before .before .before .before .before .args .indices) .now) ((c .before .before .before .before .before .before .before .before .args .received) .now) ((c .before .before .before .before .before .before .before .before .args .erased) .now) (c .before .before .before .before .before .before .before .before .args .k) (c .before .before .before .loop .inv) (c .before .before .loop-test .taken) (c .before .block-bad .ensures) (c .if1 .left)
+loop-again c =
+    let at-block = c .before in
+    let turn = at-block .before in
+    blocks-more (turn .before .loop .inv) (turn .loop-test .taken) (at-block .block-bad .ensures) (c .if1 .left)
 
 returns-2 : tie.Need-returns-2 Inv-loop μ-loop
-returns-2 c = blocks-none ((c .before .before .before .before .before .before .args .sections) .now) ((c .before .before .before .before .before .before .args .indices) .now) ((c .before .before .before .before .before .before .args .received) .now) ((c .before .before .before .before .before .before .args .erased) .now) (c .before .before .before .before .before .before .args .k) (c .before .loop .inv) (search needs)
+returns-2 c = blocks-none (c .before .loop .inv) (search needs)
 
 pub first-bad-spec : {M : Type 1} → statement M
 first-bad-spec =

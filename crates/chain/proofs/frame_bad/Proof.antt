@@ -8,19 +8,27 @@ is-within-requires : tie.Need-is-within-requires
 is-within-requires c κs = search needs
 
 returns : tie.Need-returns
-returns c = frame-many ((c .before .before .before .before .before .args .indices) .now) ((c .before .before .before .before .before .args .received) .now) ((c .before .before .before .before .before .args .erased) .now) (c .before .before .before .before .before .args .start) (c .before .before .before .before .before .args .end) (c .before .is-within .ensures) (c .if1 .taken)
+returns c = frame-many _ _ _ _ _ (c .before .is-within .ensures) (c .if1 .taken)
 
 returns-2 : tie.Need-returns-2
-returns-2 c = frame-received ((c .before .before .before .before .before .before .args .indices) .now) ((c .before .before .before .before .before .before .args .received) .now) ((c .before .before .before .before .before .before .args .erased) .now) (c .before .before .before .before .before .before .args .start) (c .before .before .before .before .before .before .args .end) (c .before .before .is-within .ensures) (c .before .if1 .left) (c .if2 .taken)
+returns-2 c =
+    let few = c .before in
+    frame-received _ _ _ _ _ (few .before .is-within .ensures) (few .if1 .left) (c .if2 .taken)
 
 returns-3 : tie.Need-returns-3
-returns-3 c = frame-erased ((c .before .before .before .before .before .before .before .args .indices) .now) ((c .before .before .before .before .before .before .before .args .received) .now) ((c .before .before .before .before .before .before .before .args .erased) .now) (c .before .before .before .before .before .before .before .args .start) (c .before .before .before .before .before .before .before .args .end) (c .before .before .before .is-within .ensures) (c .before .before .if1 .left) (search needs) (c .if3 .taken)
+returns-3 c =
+    let few = c .before .before in
+    frame-erased _ _ _ _ _ (few .before .is-within .ensures) (few .if1 .left) (search needs) (c .if3 .taken)
 
 returns-4 : tie.Need-returns-4
-returns-4 c = frame-start ((c .before .before .before .before .before .before .before .before .args .indices) .now) ((c .before .before .before .before .before .before .before .before .args .received) .now) ((c .before .before .before .before .before .before .before .before .args .erased) .now) (c .before .before .before .before .before .before .before .before .args .start) (c .before .before .before .before .before .before .before .before .args .end) (c .before .before .before .before .is-within .ensures) (c .before .before .before .if1 .left) (search needs) (search needs) (c .if4 .taken)
+returns-4 c =
+    let few = c .before .before .before in
+    frame-start _ _ _ _ _ (few .before .is-within .ensures) (few .if1 .left) (search needs) (search needs) (c .if4 .taken)
 
 returns-5 : tie.Need-returns-5
-returns-5 c = frame-end ((c .before .before .before .before .before .before .before .before .args .indices) .now) ((c .before .before .before .before .before .before .before .before .args .received) .now) ((c .before .before .before .before .before .before .before .before .args .erased) .now) (c .before .before .before .before .before .before .before .before .args .start) (c .before .before .before .before .before .before .before .before .args .end) (c .before .before .before .before .is-within .ensures) (c .before .before .before .if1 .left) (search needs) (search needs) (c .if4 .left)
+returns-5 c =
+    let few = c .before .before .before in
+    frame-end _ _ _ _ _ (few .before .is-within .ensures) (few .if1 .left) (search needs) (search needs) (c .if4 .left)
 
 pub frame-bad-spec : {M : Type 1} → statement M
 frame-bad-spec =

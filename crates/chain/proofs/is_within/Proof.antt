@@ -1,14 +1,13 @@
 -- `chain::is_within` is the two tests of the definition.
-use borrow.Author.Needs.{needs}
-use Rattle.chain.proofs.Checks.{within-under, within-from}
+use Rattle.chain.proofs.Bounds.{within-under, within-from}
 use Rattle.chain.proofs.is_within.Statement.{statement}
 use Rattle.chain.proofs.is_within.Tie as tie
 
 returns : tie.Need-returns
-returns c = within-under (c .before .args .low) (c .before .args .high) (c .before .args .x) (c .if1 .taken)
+returns c = within-under _ _ _ (c .if1 .taken)
 
 returns-2 : tie.Need-returns-2
-returns-2 c = within-from (c .before .args .low) (c .before .args .high) (c .before .args .x) (c .if1 .left)
+returns-2 c = within-from _ _ _ (c .if1 .left)
 
 pub is-within-spec : {M : Type 1} → statement M
 is-within-spec = tie.close (tie.spec returns returns-2)

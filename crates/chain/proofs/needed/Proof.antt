@@ -1,5 +1,5 @@
 -- `chain::needed` tests the buffers in the order of the definition.
-use Rattle.chain.proofs.Ends.{needed-costs, needed-labels, needed-goals, needed-none}
+use Rattle.chain.proofs.Buffers.{needed-costs, needed-labels, needed-goals, needed-none}
 use borrow.Author.Needs.{needs}
 use Rattle.chain.proofs.needed.Statement.{statement}
 use Rattle.chain.proofs.needed.Tie as tie
@@ -11,16 +11,16 @@ mul-result : tie.Need-mul-result
 mul-result c = search needs
 
 returns : tie.Need-returns
-returns c = needed-costs (c .before .args .blocks) (c .before .args .costs) (c .before .args .labels) (c .before .args .goals) (c .if1 .taken)
+returns c = needed-costs _ _ _ _ (c .if1 .taken)
 
 returns-2 : tie.Need-returns-2
-returns-2 c = needed-labels (c .before .before .args .blocks) (c .before .before .args .costs) (c .before .before .args .labels) (c .before .before .args .goals) (c .before .if1 .left) (c .if2 .taken)
+returns-2 c = needed-labels _ _ _ _ (c .before .if1 .left) (c .if2 .taken)
 
 returns-3 : tie.Need-returns-3
-returns-3 c = needed-goals (c .before .before .before .args .blocks) (c .before .before .before .args .costs) (c .before .before .before .args .labels) (c .before .before .before .args .goals) (c .before .before .if1 .left) (c .before .if2 .left) (c .if3 .taken)
+returns-3 c = needed-goals _ _ _ _ (c .before .before .if1 .left) (c .before .if2 .left) (c .if3 .taken)
 
 returns-4 : tie.Need-returns-4
-returns-4 c = needed-none (c .before .before .before .args .blocks) (c .before .before .before .args .costs) (c .before .before .before .args .labels) (c .before .before .before .args .goals) (c .before .before .if1 .left) (c .before .if2 .left) (c .if3 .left)
+returns-4 c = needed-none _ _ _ _ (c .before .before .if1 .left) (c .before .if2 .left) (c .if3 .left)
 
 pub needed-spec : {M : Type 1} → statement M
 needed-spec = tie.close (tie.spec mul-if1 mul-result returns returns-2 returns-3 returns-4)
