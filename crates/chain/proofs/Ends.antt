@@ -2,12 +2,11 @@
 -- definition's best path gives, and it means what it should.
 use mathlib.Core.Path.{_≡_, sym, ap, subst, _∙_}
 use mathlib.Core.List.{List}
-use Prim.Native.Nat.{ℕ, _*_, _≤_, _<_}
+use Prim.Native.Nat.{ℕ, _≤_, _<_}
 use native.Mathlib.Omega.{arith}
 use lib.ListN.{length, getD}
 use Rattle.trellis.specs.Outcome.{success, noPath}
-use Rattle.sweep.specs.Rows.{top}
-use Rattle.passes.specs.Blocks.{leastFrom, Ready, Table, Filled}
+use Rattle.passes.specs.Blocks.{top, leastFrom, Ready, Picked, Filled}
 use Rattle.passes.specs.Loops.{Named}
 use Rattle.chain.specs.Decoding.{fitted}
 use Rattle.chain.specs.Checked.{Checked}
@@ -18,23 +17,23 @@ use Rattle.chain.proofs.Tables.{best-none, opened, none-found, path-fou
 use Rattle.chain.proofs.Meanings.{none-means, path-means}
 
 -- the table is filled, and the states are widened
-pub record Tabled (sections starts indices received erased : List ℕ) (start end : ℕ) (costs labels goals new : List ℕ) (from to : ℕ) : Type 0 where
+pub record Tabled (sections starts indices received erased : List ℕ) (start end : ℕ) (costs labels goals new picks : List ℕ) (from to : ℕ) : Type 0 where
   pub checks : Checked sections starts indices received erased start end
   pub room : Room indices costs labels goals
   pub from-is : from ≡ start
   pub to-is : to ≡ end
-  pub filled : Filled sections starts indices received erased to 0 costs new
+  pub filled : Filled sections starts indices received erased to 0 costs new picks
 
-pub tabled : {sections starts indices received erased : List ℕ} {start end : ℕ} {costs labels goals new : List ℕ} {from to : ℕ}
+pub tabled : {sections starts indices received erased : List ℕ} {start end : ℕ} {costs labels goals new picks : List ℕ} {from to : ℕ}
     → Checked sections starts indices received erased start end → Room indices costs labels goals → from ≡ start → to ≡ end
-    → Filled sections starts indices received erased to 0 costs new
-    → Tabled sections starts indices received erased start end costs labels goals new from to
+    → Filled sections starts indices received erased to 0 costs new picks
+    → Tabled sections starts indices received erased start end costs labels goals new picks from to
 tabled C R p q F = record { checks = C; room = R; from-is = p; to-is = q; filled = F }
 
-module _ {sections starts indices received erased : List ℕ} {start end : ℕ} {costs labels goals new : List ℕ} {from to : ℕ}
-    (B : Tabled sections starts indices received erased start end costs labels goals new from to) where
-  filled-end : Filled sections starts indices received erased end 0 costs new
-  filled-end = subst (λ x. Filled sections starts indices received erased x 0 costs new) (B .to-is) (B .filled)
+module _ {sections starts indices received erased : List ℕ} {start end : ℕ} {costs labels goals new picks : List ℕ} {from to : ℕ}
+    (B : Tabled sections starts indices received erased start end costs labels goals new picks from to) where
+  filled-end : Filled sections starts indices received erased end 0 costs new picks
+  filled-end = subst (λ x. Filled sections starts indices received erased x 0 costs new picks) (B .to-is) (B .filled)
 
   pub from-in : from < length new
   from-in =
@@ -52,14 +51,10 @@ module _ {sections starts indices received erased : List ℕ} {start end : ℕ} 
     opened-end : leastFrom sections starts indices received erased end 0 start < top
     opened-end = opened (B .checks) filled-end (λ e. n (ap (λ j. getD new j 0) (B .from-is) ∙ e))
 
-    pub names-ready : Ready sections starts indices received erased × Table sections starts indices received erased to 0 new
-        × (64 * length indices ≤ length new) × (length indices ≤ length labels) × (length indices ≤ length goals) × (from < 64)
-        × (leastFrom sections starts indices received erased to 0 from < top)
-    names-ready = (ready (B .checks), B .filled .table, long, B .room .forLabels, B .room .forGoals, small, onward)
+    pub names-ready : Ready sections starts indices received erased × Picked sections starts indices received erased to 0 picks
+        × (length indices ≤ length labels) × (length indices ≤ length goals) × (from < 64) × (leastFrom sections starts indices received erased to 0 from < top)
+    names-ready = (ready (B .checks), B .filled .picked, B .room .forLabels, B .room .forGoals, small, onward)
       where
-        long : 64 * length indices ≤ length new
-        long = omega (arith, B .room .forCosts, B .filled .long)
-
         small : from < 64
         small = omega (arith, B .from-is, B .checks .frame .startBelow)
 

@@ -12,10 +12,9 @@ use Rattle.paths.specs.Chain.{costTable, chainLeast, chainTrace}
 use Rattle.paths.proofs.Chain.{cost-table}
 use Rattle.section_file.specs.Sound.{Sound}
 use Rattle.section_file.proofs.Usable.{usable-sound}
-use Rattle.sweep.specs.Rows.{top}
 use Rattle.block.specs.Received.{blockDistance, Clean}
 use Rattle.block.proofs.Hearing.{block-at-most}
-use Rattle.passes.specs.Blocks.{Good, endsIn, sectionOf, wordsOf, distanceOf, leastFrom, pathFrom, Ready}
+use Rattle.passes.specs.Blocks.{top, Good, endsIn, sectionOf, wordsOf, distanceOf, leastFrom, pathFrom, Ready}
 use Rattle.chain.specs.Sections.{sectionAt}
 use Rattle.chain.specs.Frame.{blockSection, blockWords, wordDistance}
 use Rattle.chain.specs.Checked.{Checked}

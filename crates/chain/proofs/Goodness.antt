@@ -7,6 +7,7 @@ use native.Mathlib.Omega.{arith}
 use Rattle.trellis.specs.Layout.{qOf, nOf, vertexCountOf, edgeCountOf, edgesBefore, rootsPlace, goalsPlace, pairsPlace, symbolsPlace, sectionLength, edgeNumber}
 use Rattle.section_file.specs.Usable.{stepEdge}
 use Rattle.section_file.specs.Sound.{Sound}
+use Rattle.section_file.proofs.Words.{words-ascend}
 use Rattle.sweep.specs.Rows.{Fits}
 use Rattle.sweep.proofs.Edges.{before-none, before-more}
 use Rattle.passes.specs.Blocks.{Good}
@@ -69,4 +70,5 @@ module _ {l : List ℕ} (S : Sound l) where
     rootsBelow = λ v h. omega (arith, S .rootsBelow v h, S .statesTo);
     rootsAscend = S .rootsAscend;
     goalsBelow = λ v h. omega (arith, S .goalsBelow v h, S .statesTo);
+    wordsAscend = words-ascend S;
   }

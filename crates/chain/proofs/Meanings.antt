@@ -23,8 +23,7 @@ use Rattle.paths.proofs.First.{best-first, first-in}
 use Rattle.paths.proofs.Ordered.{Ordered}
 use Rattle.paths.proofs.Winner.{of-paths, in-paths, word-of, best-wins}
 use Rattle.section_file.proofs.Words.{words-ascend, root-below, goal-below}
-use Rattle.sweep.specs.Rows.{top}
-use Rattle.passes.specs.Blocks.{endsIn, aheadOf, leastFrom, pathFrom, Filled}
+use Rattle.passes.specs.Blocks.{top, endsIn, aheadOf, leastFrom, pathFrom, Filled}
 use Rattle.passes.specs.Loops.{Named}
 use Rattle.chain.specs.Frame.{blockSection, blockWords, wordDistance}
 use Rattle.chain.specs.Meaning.{Won, Meaning}
@@ -68,7 +67,7 @@ module _ {sections starts indices received erased : List ℕ} {start end : ℕ} 
   short b [] = omega arith
   short b (w ∷ ws) = let h = short (suc b) ws in let d = distance-to C b w in omega arith
 
-  ahead-table : {costs new : List ℕ} → Filled sections starts indices received erased end 0 costs new
+  ahead-table : {costs new picks : List ℕ} → Filled sections starts indices received erased end 0 costs new picks
       → (b s : ℕ) → s < 64 → aheadOf new (length indices) end b s ≡ tableFrom b s
   unfolding aheadOf chainLeast least
   ahead-table {costs} {new} F b s l = go (decLt b (length indices))
@@ -132,7 +131,7 @@ module _ {sections starts indices received erased : List ℕ} {start end : ℕ} 
         subst (λ x. wordAt path b ∈ sectionWords (blockSection sections indices received erased x)) (zero-add b)
         (word-of words (endsIn end) 0 start path (I .linked) b (omega arith))
 
-    module _ {costs new : List ℕ} (F : Filled sections starts indices received erased end 0 costs new) where
+    module _ {costs new picks : List ℕ} (F : Filled sections starts indices received erased end 0 costs new picks) where
       drops-at : (b : ℕ) → b < length indices
           → getD new (64 * b + wordAt path b .root) 0 ≡ dist b (wordAt path b) + aheadOf new (length indices) end (suc b) (wordAt path b .goal)
       drops-at b h =

@@ -15,8 +15,7 @@ use Rattle.paths.specs.Chain.{chainPaths, bestPath, costTable, IsPath}
 use Rattle.paths.proofs.Chain.{table-le, best-traced, no-path}
 use Rattle.paths.proofs.First.{best-first, first-in}
 use Rattle.paths.proofs.Winner.{of-paths}
-use Rattle.sweep.specs.Rows.{top}
-use Rattle.passes.specs.Blocks.{endsIn, leastFrom, pathFrom, Filled, Written}
+use Rattle.passes.specs.Blocks.{top, endsIn, leastFrom, pathFrom, Filled, Written}
 use Rattle.passes.specs.Loops.{Named}
 use Rattle.chain.specs.Frame.{blockWords, wordDistance}
 use Rattle.chain.specs.Decoding.{left, over, bestOf, tableOf, found}
@@ -45,7 +44,7 @@ module _ {sections starts indices received erased : List ℕ} {start end : ℕ} 
 
   -- ---- the table
 
-  module _ {costs new : List ℕ} (F : Filled sections starts indices received erased end 0 costs new) where
+  module _ {costs new picks : List ℕ} (F : Filled sections starts indices received erased end 0 costs new picks) where
     pub table-at : (b s : ℕ) → b < length indices → s < 64 → getD new (64 * b + s) 0 ≡ tableFrom b s
     table-at b s h l = F .table .at b s (omega arith) h l ∙ least-is C b s
 
@@ -124,7 +123,7 @@ module _ {sections starts indices received erased : List ℕ} {start end : ℕ} 
         (λ i h. front i (omega arith) ∙ sym (ap (getD (map f path) i) (sym blank) ∙ List·getD-map f path i (word 0 0 0)))
         (λ i h. back i (omega arith))
 
-    pub path-found : {costs new : List ℕ} (k : ℕ) → Room indices costs labels goals → Filled sections starts indices received erased end 0 costs new
+    pub path-found : {costs new picks : List ℕ} (k : ℕ) → Room indices costs labels goals → Filled sections starts indices received erased end 0 costs new picks
         → left (success total) new newLabels newGoals
         ≡ found sections k indices received erased start end costs labels goals (bestOf sections k indices received erased start end)
     unfolding found bestOf

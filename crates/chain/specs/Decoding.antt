@@ -10,8 +10,7 @@ use Rattle.trellis.specs.Word.{Word}
 use Rattle.trellis.specs.Outcome.{Outcome, success, badSection, badBlock, shortBuffer, noPath}
 use Rattle.paths.specs.Choice.{Choice, none, some}
 use Rattle.paths.specs.Chain.{bestPath, costTable}
-use Rattle.sweep.specs.Rows.{top}
-use Rattle.passes.specs.Blocks.{endsIn}
+use Rattle.passes.specs.Blocks.{top, endsIn}
 use Rattle.chain.specs.Sections.{sectionsBad, badSectionOf}
 use Rattle.chain.specs.Frame.{frameBad, blockWords, wordDistance, blockBad}
 

@@ -15,8 +15,10 @@ ghost use Rattle.chain.specs.Loops.{Found, FirstUnusable};
 ghost use Rattle.chain.specs.Checked.{AllFound, Checked};
 use numbers::wide;
 use numbers::widened;
+use passes::NO_PATH;
+use passes::fill_table;
+use passes::name_words;
 use section_file::Part;
-use sweep::TOP;
 
 // The distance, or why there is none. A variant for a refusal has the number that document 01 returns with it.
 pub enum Decoded {
@@ -168,11 +170,11 @@ fn decode_blocks(
     }
     let from = widened(start);
     let to = widened(end);
-    passes::fill_table(sections, starts, indices, received, erased, to, costs);
-    if costs[from] == TOP {
+    let picks = fill_table(sections, starts, indices, received, erased, to, costs);
+    if costs[from] == NO_PATH {
         return Decoded::NoPath;
     }
-    let distance = passes::name_words(
+    Decoded::Distance(name_words(
         sections,
         starts,
         indices,
@@ -180,11 +182,10 @@ fn decode_blocks(
         erased,
         from,
         to,
-        costs,
+        &picks,
         labels,
         goals,
-    );
-    Decoded::Distance(distance)
+    ))
 }
 
 // Fault 9, and then what follows where there is none.

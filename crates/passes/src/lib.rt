@@ -154,7 +154,7 @@ fn table_block(
     put_roots(l, at, rows, b, costs, picks);
 }
 
-// Backward: the cost table and the picks of all blocks.
+// Backward: the cost table of all blocks, and their picks.
 pub fn fill_table(
     sections: &[u16],
     starts: &[usize; 17],
@@ -163,22 +163,33 @@ pub fn fill_table(
     erased: &[u8],
     end: usize,
     costs: &mut [u32],
-    picks: &mut [u32; 16384],
-)
-    requires { ⌜ Ready (now sections) (now starts) (now indices) (now received) (now erased) × (64 * length (now indices) ≤ length (now costs))
-        × (length (now picks) ≡ 16384) ⌝ }
-    ensures { λ _. ⌜ Filled (now (sections .entry)) (now (starts .entry)) (now (indices .entry)) (now (received .entry)) (now (erased .entry)) end 0
-        (now (costs .entry)) (now (costs .exit)) (now (picks .exit)) ⌝ }
+) -> [u32; 16384]
+    requires { ⌜ Ready (now sections) (now starts) (now indices) (now received) (now erased) × (64 * length (now indices) ≤ length (now costs)) ⌝ }
+    ensures { λ r. ⌜ Filled (now (sections .entry)) (now (starts .entry)) (now (indices .entry)) (now (received .entry)) (now (erased .entry)) end 0
+        (now (costs .entry)) (now (costs .exit)) r ⌝ }
 {
     let blocks = indices.len();
     let mut rows = [TOP; 9216];
+    let mut picks = [0u32; 16384];
     let mut b = blocks;
     while b > 0 {
         b -= 1;
         let start = starts[widened(indices[b])];
         let l = &sections[start..];
-        table_block(l, received[b], erased[b], blocks, end, b, &mut rows, costs, picks);
+        let word = received[b];
+        table_block(
+            l,
+            word,
+            erased[b],
+            blocks,
+            end,
+            b,
+            &mut rows,
+            costs,
+            &mut picks,
+        );
     }
+    picks
 }
 
 fn label_of(pick: u32) -> u16

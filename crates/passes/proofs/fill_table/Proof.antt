@@ -10,11 +10,11 @@ use Rattle.passes.proofs.fill_table.Statement.{statement}
 use Rattle.passes.proofs.fill_table.Tie as tie
 
 abbrev Inv-loop : tie.InvT-loop
-Inv-loop sections starts indices received erased end costs₀ picks₀ blocks rows₀ b₀ costs picks rows b =
+Inv-loop sections starts indices received erased end costs₀ blocks rows₀ picks₀ b₀ costs rows picks b =
     Filled sections starts indices received erased end b costs₀ costs picks × (length rows ≡ 9216)
 
 abbrev μ-loop : tie.MeasureT-loop
-μ-loop sections starts indices received erased end costs₀ picks₀ blocks rows₀ b₀ costs picks rows b = b
+μ-loop sections starts indices received erased end costs₀ blocks rows₀ picks₀ b₀ costs rows picks b = b
 
 -- ---- the places of the code that the needs look back to
 
@@ -26,7 +26,7 @@ entry begun = begun .before .before .before .before .before
 abbrev turn-of : tie.After-widened Inv-loop μ-loop → tie.In-loop Inv-loop μ-loop
 turn-of read = read .before .before
 
-abbrev read-of : tie.After-table-block-arg2 Inv-loop μ-loop → tie.After-widened Inv-loop μ-loop
+abbrev read-of : tie.After-picks Inv-loop μ-loop → tie.After-widened Inv-loop μ-loop
 read-of lent = lent .before .before .before .before .before .before .before
 
 -- the block of a turn, as the code takes it
@@ -37,7 +37,7 @@ block-here read =
     block-at (entry (turn .before .before) .pre .0) (below-last (turn .before .loop .inv .0) (turn .loop-test .taken)) (read .widened .ensures .0)
 
 loop-holds : tie.Need-loop-holds Inv-loop μ-loop
-loop-holds c = (fill-start (entry c .pre .0) (entry c .pre .2), refl)
+loop-holds c = (fill-start (entry c .pre .0) refl, refl)
 
 sub-b : tie.Need-sub-b Inv-loop μ-loop
 sub-b c = search needs
@@ -66,14 +66,14 @@ part-l-start c = let A = block-here (c .before) in search needs
 part-l-end : tie.Need-part-l-end Inv-loop μ-loop
 part-l-end c = search needs
 
-mul-table-block : tie.Need-mul-table-block Inv-loop μ-loop
-mul-table-block c = search needs
+mul-word : tie.Need-mul-word Inv-loop μ-loop
+mul-word c = search needs
+
+shared-slice-read-word : tie.Need-shared-slice-read-word Inv-loop μ-loop
+shared-slice-read-word c = search needs
 
 shared-slice-read-table-block : tie.Need-shared-slice-read-table-block Inv-loop μ-loop
 shared-slice-read-table-block c = search needs
-
-shared-slice-read-table-block-2 : tie.Need-shared-slice-read-table-block-2 Inv-loop μ-loop
-shared-slice-read-table-block-2 c = search needs
 
 table-block-requires : tie.Need-table-block-requires Inv-loop μ-loop
 table-block-requires c κs = let read = read-of c in let turn = turn-of read in let I = turn .before .loop .inv .0 in let R = entry (turn .before .before) .pre .0 in
@@ -108,9 +108,9 @@ fill-table-spec =
     sub-l
     part-l-start
     part-l-end
-    mul-table-block
+    mul-word
+    shared-slice-read-word
     shared-slice-read-table-block
-    shared-slice-read-table-block-2
     table-block-requires
     loop-less
     loop-again
