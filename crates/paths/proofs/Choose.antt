@@ -90,12 +90,3 @@ module _ {P : Type 0} (cost : P → ℕ) where
   pub best-append : (xs ys : List P) → best cost (xs ++ ys) ≡ choose (best cost xs) (best cost ys)
   unfolding best
   best-append = all-append _
-
-  pub best-flatMap : {A : Type 0} (g : A → List P) (xs : List A) → best cost (flatMap g xs) ≡ chooseAll (λ x. best cost (g x)) xs
-  unfolding best
-  best-flatMap = all-flatMap _
-
-  pub best-map : {Q : Type 0} (costQ : Q → ℕ) (d : ℕ) (f : P → Q) → ((p : P) → costQ (f p) ≡ d + cost p) → (xs : List P)
-      → best costQ (map f xs) ≡ extend d f (best cost xs)
-  unfolding best extend
-  best-map costQ d f h xs = all-map _ f xs ∙ all-same (λ p. ap (λ c. some c (f p)) (h p)) xs ∙ all-extend _ d f xs

@@ -151,14 +151,3 @@ module _ {P : Type 0} (cost : P → ℕ) where
 
   pub first-least : {xs : List P} {c : ℕ} {p : P} → First cost xs c p → (q : P) → q ∈ xs → c ≤ cost q
   first-least F q m = chosen-least (λ p. some (cost p) p) (first-chosen F) q m (cost q) q refl
-
-  pub first-best : {xs : List P} {c : ℕ} {p : P} → First cost xs c p → best cost xs ≡ some c p
-  unfolding best chooseAll
-  first-best {xs} {c} {p} F =
-      ap (best cost) (F .split) ∙ best-append cost (F .front) (p ∷ F .back) ∙ ap (choose (best cost (F .front))) (ap (λ d. choose (some d p) (best cost (F .back))) (sym (F .is)) ∙ choose-under p (best cost (F .back)) back) ∙ choose-over p (best cost (F .front)) front
-    where
-      front : (d : ℕ) (q : P) → best cost (F .front) ≡ some d q → c < d
-      front d q e = let G = best-first (F .front) e in let h = F .dearer q (first-in G) in let i = G .is in omega arith
-
-      back : (d : ℕ) (q : P) → best cost (F .back) ≡ some d q → c ≤ d
-      back d q e = let G = best-first (F .back) e in let h = F .noCheaper q (first-in G) in let i = G .is in omega arith

@@ -84,18 +84,9 @@ module _ (edges : ℕ → List Edge) (cost : ℕ → ℕ → ℕ) (top : ℕ) (n
   unfolding sectionLeast least
   least-last t v = refl
 
-  pub trace-last : (t v : ℕ) → sectionTrace edges cost top number zero t v ≡ stop v
-  unfolding sectionTrace trace
-  trace-last t v = refl
-
   pub least-step : (k t v : ℕ) → sectionLeast edges cost top number (suc k) t v ≡ minAll top (across k t) (leaving v (edges t))
   unfolding sectionLeast least
   least-step k t v = refl
-
-  -- where there is a path, some edge that leaves v gives its cost
-  pub some-edge : (k t v : ℕ) → sectionLeast edges cost top number (suc k) t v < top → Least top (across k t) (leaving v (edges t))
-  unfolding sectionLeast least
-  some-edge k t v h = least-found top (across k t) (leaving v (edges t)) h
 
   -- the first that does leads on: there is a path behind it
   pub record Taken (k t v : ℕ) (e : Edge) : Type 0 where
