@@ -56,19 +56,19 @@ pub fn word_count(file: &[u8]) -> u16
 }
 
 // The fields of a word, for loops that want one of them. An index of 16 bits keeps every place far below the largest usize.
-pub fn root_at(file: &[u8], i: u16) -> u8
+fn root_at(file: &[u8], i: u16) -> u8
     ensures { λ r. ⌜ r ≡ fileWord (now (file .entry)) i .root ⌝ }
 {
     byte_at(file, 5 + 2 * (i as usize))
 }
 
-pub fn goal_at(file: &[u8], i: u16) -> u8
+fn goal_at(file: &[u8], i: u16) -> u8
     ensures { λ r. ⌜ r ≡ fileWord (now (file .entry)) i .goal ⌝ }
 {
     byte_at(file, 5 + 2 * (i as usize) + 1)
 }
 
-pub fn label_at(file: &[u8], i: u16) -> u16
+fn label_at(file: &[u8], i: u16) -> u16
     ensures { λ r. ⌜ r ≡ fileWord (now (file .entry)) i .label ⌝ }
 {
     let at = 5 + 2 * (word_count(file) as usize) + 2 * (i as usize);
