@@ -1,6 +1,6 @@
 //! Merging as document 01 says it, slowly and by the definitions: the answer, the map and the section of any bytes.
 
-use super::archive::{Answer, pattern};
+use super::archive::{self, Answer, pattern};
 use super::tables::{Table, Word, symbols};
 use std::collections::{BTreeMap, BTreeSet};
 
@@ -132,6 +132,14 @@ fn read(file: &[u8]) -> Result<Table, Answer> {
         return Err(Answer::new(4, &[index]));
     }
     Ok(Table { q, n, states, words })
+}
+
+/// What the compiled code leaves of any bytes and buffers of two lengths.
+pub fn compiled(file: &[u8], map_length: usize, section_length: usize) -> Left {
+    let mut map: Vec<u16> = pattern(map_length).collect();
+    let mut section: Vec<u16> = pattern(section_length).collect();
+    let answer = archive::merge(file, &mut map, &mut section);
+    Left { answer, map, section }
 }
 
 /// What merging leaves of any bytes and buffers of two lengths.
