@@ -1,7 +1,7 @@
 //! Merging as document 01 says it, slowly and by the definitions: the answer, the map and the section of any bytes.
 
 use super::archive::{self, Answer, pattern};
-use super::tables::{Table, Word, symbols};
+use super::tables::{Table, Word, size_outside, symbols};
 use std::collections::{BTreeMap, BTreeSet};
 
 /// What merging leaves.
@@ -107,13 +107,7 @@ fn read(file: &[u8]) -> Result<Table, Answer> {
     if file.len() < 5 || file.len() != 5 + 4 * count {
         return Err(Answer::new(1, &[file.len()]));
     }
-    let sizes = [
-        (file[0] as usize, 2, 4),
-        (file[1] as usize, 1, 8),
-        (file[2] as usize, 1, 64),
-        (count, 1, 1024),
-    ];
-    if let Some(place) = sizes.iter().position(|&(x, least, most)| x < least || x > most) {
+    if let Some(place) = size_outside(file, count) {
         return Err(Answer::new(2, &[place]));
     }
     let (q, n, states) = (file[0], file[1], file[2]);

@@ -3,6 +3,7 @@
 #![allow(dead_code)]
 
 pub mod archive;
+pub mod codes;
 pub mod decoding;
 pub mod frames;
 pub mod listing;

@@ -1,71 +1,9 @@
-//! Tables of many shapes: linear codes, products of beginnings and endings, words closed under completion, and near misses of these by one word.
+//! Tables of many shapes: small linear codes, products of beginnings and endings, words closed under completion, and near misses of these by one word.
 
 use super::Numbers;
+use super::codes::{Code, Sum};
 use super::tables::{Table, Word, all_words, scattered};
 use std::collections::{BTreeMap, BTreeSet};
-
-/// How the digits of a linear code add up: modulo q, or the two bits of a digit each by itself.
-#[derive(Clone, Copy, PartialEq)]
-pub enum Sum {
-    Modulo,
-    Bits,
-}
-
-/// What a linear code is made of. A row has `ends` digits below q for the root, n symbols, and as many digits for the goal.
-pub struct Code {
-    pub q: u8,
-    pub n: u8,
-    pub ends: usize,
-    pub sum: Sum,
-    pub rows: Vec<Vec<u8>>,
-}
-
-impl Code {
-    /// A code of random rows.
-    pub fn random(q: u8, n: u8, ends: usize, sum: Sum, rows: usize, numbers: &mut Numbers) -> Code {
-        let width = 2 * ends + n as usize;
-        let mut row = || (0..width).map(|_| numbers.below(q as usize) as u8).collect();
-        let rows = (0..rows).map(|_| row()).collect();
-        Code { q, n, ends, sum, rows }
-    }
-
-    fn add(&self, a: &[u8], b: &[u8]) -> Vec<u8> {
-        let digit = |(&x, &y): (&u8, &u8)| match self.sum {
-            Sum::Modulo => (x + y) % self.q,
-            Sum::Bits => x ^ y,
-        };
-        a.iter().zip(b).map(digit).collect()
-    }
-
-    /// The table of all sums of rows.
-    pub fn table(&self) -> Table {
-        let width = 2 * self.ends + self.n as usize;
-        let times = if self.sum == Sum::Modulo { self.q } else { 2 };
-        let mut sums: BTreeSet<Vec<u8>> = BTreeSet::from([vec![0; width]]);
-        for row in &self.rows {
-            let mut layer = sums.clone();
-            for _ in 1..times {
-                layer = layer.iter().map(|sum| self.add(sum, row)).collect();
-                sums.extend(layer.iter().cloned());
-            }
-        }
-        let words: BTreeSet<Word> = sums.iter().map(|sum| self.word(sum)).collect();
-        Table {
-            q: self.q,
-            n: self.n,
-            states: self.q.pow(self.ends as u32),
-            words: words.into_iter().collect(),
-        }
-    }
-
-    fn word(&self, sum: &[u8]) -> Word {
-        let state = |digits: &[u8]| digits.iter().fold(0, |state, digit| self.q * state + digit);
-        let (root, rest) = sum.split_at(self.ends);
-        let (symbols, goal) = rest.split_at(self.n as usize);
-        let label = symbols.iter().fold(0, |label, &symbol| 4 * label + symbol as u16);
-        (state(root), label, state(goal))
-    }
-}
 
 /// A linear code of some small size.
 pub fn linear(numbers: &mut Numbers) -> Table {
@@ -173,16 +111,6 @@ pub fn one_in(table: &Table, numbers: &mut Numbers) -> Table {
         }
     }
     near
-}
-
-/// 1,024 words of a random linear code, of rows that are drawn until there are as many.
-pub fn full_linear(q: u8, n: u8, ends: usize, sum: Sum, rows: usize, numbers: &mut Numbers) -> Table {
-    loop {
-        let table = Code::random(q, n, ends, sum, rows, numbers).table();
-        if table.words.len() == 1024 {
-            return table;
-        }
-    }
 }
 
 /// 1,025 words, one too many.

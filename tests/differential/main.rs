@@ -7,7 +7,8 @@ mod common;
 mod malformed;
 
 use common::archive::{self, Buffers, byte_pattern};
-use common::shapes::{self, Sum};
+use common::codes::{Sum, benchmarked, full_linear};
+use common::shapes;
 use common::tables::{Table, large_tables};
 use common::{Differing, Numbers, decoding, frames, listing, merging, sections};
 use std::collections::BTreeMap;
@@ -169,12 +170,11 @@ fn spoiled(tally: &mut Tally, table: &Table, kind: usize, numbers: &mut Numbers)
     tally.file(&file);
 }
 
-/// Tables of 1,024 words, and one word too many.
+/// Tables of up to 1,024 words, and one word too many.
 fn largest(tally: &mut Tally, numbers: &mut Numbers) {
     let mut tables = large_tables().to_vec();
-    tables.push(shapes::full_linear(2, 8, 6, Sum::Modulo, 10, numbers));
-    tables.push(shapes::full_linear(4, 8, 2, Sum::Bits, 10, numbers));
-    tables.push(shapes::full_linear(4, 8, 3, Sum::Modulo, 5, numbers));
+    tables.extend(benchmarked().map(|(_, table)| table));
+    tables.push(full_linear(4, 8, 3, Sum::Modulo, 5, numbers));
     for table in &tables {
         tally.file(&table.file());
         tally.file(&shapes::one_out(table, numbers).file());
@@ -206,6 +206,6 @@ fn main() {
     }
     let mut tally = Tally::default();
     largest(&mut tally, &mut numbers);
-    finish("1,024 words and more", tally);
+    finish("large tables", tally);
     all.finish();
 }

@@ -66,40 +66,48 @@ fn spoil_word(file: &mut [u8], kind: usize, numbers: &mut Numbers) {
     };
     let i = numbers.below(places.count);
     let j = numbers.below(places.count);
-    let (q, n, states) = (file[0], file[1] % 9, file[2]);
+    let states = file[2];
     match kind {
         9 => file[places.root(i)] = pick(&[states, 255], numbers),
         10 => file[places.root(i) + 1] = pick(&[states, 255], numbers),
-        // a bit just above the label's, or at the top
-        11 if n < 8 => {
-            let bit = [2 * n as usize, 15][numbers.below(2)];
-            file[places.label(i) + bit / 8] |= 1 << (bit % 8);
-        }
-        // a symbol that is q
-        12 if q < 4 && n > 0 => {
-            let digit = numbers.below(n as usize);
-            let byte = &mut file[places.label(i) + digit / 4];
-            *byte = *byte & !(3 << (2 * (digit % 4))) | q << (2 * (digit % 4));
+        11..=13 => {
+            let (q, n, at) = (file[0], file[1] as usize, places.label(i));
+            spoil_label(&mut file[at..at + 2], kind, q, n, numbers);
         }
         // two words exchanged
-        13 => places
-            .bytes(i)
-            .into_iter()
-            .zip(places.bytes(j))
-            .for_each(|(a, b)| file.swap(a, b)),
+        14 => exchange(file, places.bytes(i), places.bytes(j)),
         // a word twice
-        14 if i > 0 => {
+        15 if i > 0 => {
             let before = places.bytes(i - 1).map(|place| file[place]);
-            places
-                .bytes(i)
-                .into_iter()
-                .zip(before)
-                .for_each(|(place, byte)| file[place] = byte);
+            let here = places.bytes(i).into_iter().zip(before);
+            here.for_each(|(place, byte)| file[place] = byte);
         }
-        // bytes of two words exchanged
-        15 => file.swap(places.root(i), places.root(j)),
-        16 => file.swap(places.root(i) + 1, places.root(j) + 1),
-        17 => file.swap(places.label(i), places.label(i) + 1),
+        // the states of two words exchanged
+        16 => file.swap(places.root(i), places.root(j)),
+        17 => file.swap(places.root(i) + 1, places.root(j) + 1),
         _ => (),
+    }
+}
+
+fn exchange(file: &mut [u8], ours: [usize; 4], theirs: [usize; 4]) {
+    ours.into_iter().zip(theirs).for_each(|(a, b)| file.swap(a, b));
+}
+
+/// A fault in the two bytes of a label.
+fn spoil_label(label: &mut [u8], kind: usize, q: u8, n: usize, numbers: &mut Numbers) {
+    match kind {
+        // a bit just above the label's, or at the top
+        11 if n < 8 => {
+            let bit = [2 * n, 15][numbers.below(2)];
+            label[bit / 8] |= 1 << (bit % 8);
+        }
+        // a symbol that is q
+        12 if q < 4 && (1..=8).contains(&n) => {
+            let digit = numbers.below(n);
+            let (byte, shift) = (digit / 4, 2 * (digit % 4));
+            label[byte] = label[byte] & !(3 << shift) | q << shift;
+        }
+        // high byte first
+        _ => label.swap(0, 1),
     }
 }
