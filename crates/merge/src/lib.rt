@@ -114,9 +114,10 @@ fn copy_words(file: &[u8], count: u16) -> Lists
     let mut i: u16 = 0;
     while i < count {
         let at = wide(i);
-        roots[at] = table::root_at(file, i);
-        labels[at] = table::label_at(file, i);
-        goals[at] = table::goal_at(file, i);
+        let word = table::reader::word_through(file, i);
+        roots[at] = word.root;
+        labels[at] = word.label;
+        goals[at] = word.goal;
         i += 1;
     }
     Lists {

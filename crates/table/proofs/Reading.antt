@@ -9,6 +9,7 @@ use lib.Dec.{eqb}
 use borrow.Author.Tests.{lt-ltb, le-ltb}
 use Rattle.table.specs.File.{byteAt, twoBytes, wordCount, fileWord, lengthBad, outside, sizeOutside}
 use Rattle.table.specs.Answer.{held, foundAt}
+use Rattle.table.specs.ReadOn.{placeAfter}
 use Rattle.table.specs.declared.Word.{Word}
 use Rattle.table.specs.declared.Found.the-variants.{Word as Here, Nothing}
 
@@ -67,3 +68,16 @@ module _ (file : List ℕ) where
       → Here k ≡ foundAt file i
   unfolding foundAt
   here a e x h f = simp (sym a, e, sym x, lt-ltb _ _ h, f)
+
+  -- the ways out of `reader::place_after`
+  pub stays-length : (i : ℕ) {b : Bool} → b ≡ lengthBad file → b ≡ true → i ≡ placeAfter file i
+  unfolding placeAfter
+  stays-length i a e = simp (sym a, e)
+
+  pub stays-past : {i w : ℕ} {b : Bool} → b ≡ lengthBad file → b ≡ false → w ≡ wordCount file → w ≤ i → i ≡ placeAfter file i
+  unfolding placeAfter
+  stays-past a e x h = simp (sym a, e, sym x, le-ltb _ _ h)
+
+  pub goes-on : {i w : ℕ} {b : Bool} → b ≡ lengthBad file → b ≡ false → w ≡ wordCount file → i < w → i + 1 ≡ placeAfter file i
+  unfolding placeAfter
+  goes-on a e x h = simp (sym a, e, sym x, lt-ltb _ _ h)

@@ -2,3 +2,4 @@
 pub mod File
 pub mod Good
 pub mod Answer
+pub mod ReadOn

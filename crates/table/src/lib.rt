@@ -7,6 +7,10 @@ ghost use Rattle.table.specs.Answer.{checkedOutcome, held, meant, foundA
 use label::is_label;
 use label::precedes;
 
+pub mod reader;
+
+use reader::word_through;
+
 // The answer to a file: its sizes, or why it is refused. A variant for a refusal has the number that document 01 returns with it.
 pub enum Checked {
     Table {
@@ -73,6 +77,7 @@ pub fn label_at(file: &[u8], i: u16) -> u16
     two_bytes(low, high)
 }
 
+// The word decoder that a reader calls.
 fn word_of(file: &[u8], i: u16) -> Word
     ensures { λ r. ⌜ r ≡ held (fileWord (now (file .entry)) i) ⌝ }
 {
@@ -159,7 +164,7 @@ fn first_bad(file: &[u8]) -> u16
     let count = word_count(file);
     let mut i: u16 = 0;
     while i < count {
-        if word_outside(word_of(file, i), q, n, states) {
+        if word_outside(word_through(file, i), q, n, states) {
             return i;
         }
         i += 1;
@@ -193,10 +198,10 @@ fn first_not_above(file: &[u8]) -> u16
     if count == 0 {
         return 0;
     }
-    let mut earlier = word_of(file, 0);
+    let mut earlier = word_through(file, 0);
     let mut i: u16 = 1;
     while i < count {
-        let here = word_of(file, i);
+        let here = word_through(file, i);
         if !is_before(earlier, here) {
             return i;
         }

@@ -1,9 +1,10 @@
 -- `merge::copy_words` copies one word after another: the loop keeps those that are copied so far.
-use mathlib.Core.Path.{refl}
+use mathlib.Core.Path.{ap}
 use Prim.Native.Nat.{_-_}
 use native.Mathlib.Omega.{arith}
 use lib.ListN.{length-set}
 use borrow.Author.Needs.{needs}
+use Rattle.table.specs.declared.Word.{Word}
 use Rattle.merge.specs.InCopy.{InCopy, copy-none, copy-more, copy-end}
 use Rattle.merge.proofs.copy_words.Statement.{statement}
 use Rattle.merge.proofs.copy_words.Tie as tie
@@ -20,23 +21,17 @@ loop-holds c = copy-none _ _ (search needs)
 wide-requires : tie.Need-wide-requires Inv-loop μ-loop
 wide-requires c κs = search needs
 
-root-at-requires : tie.Need-root-at-requires Inv-loop μ-loop
-root-at-requires c κs = search needs
+word-through-requires : tie.Need-word-through-requires Inv-loop μ-loop
+word-through-requires c κs = search needs
 
 array-write-roots : tie.Need-array-write-roots Inv-loop μ-loop
 array-write-roots c = search needs
-
-label-at-requires : tie.Need-label-at-requires Inv-loop μ-loop
-label-at-requires c κs = search needs
 
 mul-labels : tie.Need-mul-labels Inv-loop μ-loop
 mul-labels c = search needs
 
 array-write-labels : tie.Need-array-write-labels Inv-loop μ-loop
 array-write-labels c = search needs
-
-goal-at-requires : tie.Need-goal-at-requires Inv-loop μ-loop
-goal-at-requires c κs = search needs
 
 array-write-goals : tie.Need-array-write-goals Inv-loop μ-loop
 array-write-goals c = search needs
@@ -49,10 +44,10 @@ loop-less c = search needs
 
 loop-again : tie.Need-loop-again Inv-loop μ-loop
 loop-again c =
-    let at-label = c .before in
-    let at-root = at-label .before in
-    let at-wide = at-root .before in
-    copy-more (at-wide .before .before .loop .inv) (at-wide .wide .ensures .0) (at-root .root-at .ensures) (at-label .label-at .ensures) (c .goal-at .ensures) (search needs)
+    let at-wide = c .before in
+    let e = c .word-through .ensures in
+    copy-more (at-wide .before .before .loop .inv) (at-wide .wide .ensures .0)
+    (ap (λ (w : Word). w .root) e) (ap (λ (w : Word). w .label) e) (ap (λ (w : Word). w .goal) e) (search needs)
 
 returns : tie.Need-returns Inv-loop μ-loop
 returns c = copy-end (c .before .loop .inv) (search needs)
@@ -65,12 +60,10 @@ copy-words-spec =
     μ-loop
     loop-holds
     wide-requires
-    root-at-requires
+    word-through-requires
     array-write-roots
-    label-at-requires
     mul-labels
     array-write-labels
-    goal-at-requires
     array-write-goals
     add-i
     loop-less

@@ -21,7 +21,7 @@ bad : (d : tie.After-word-outside Inv-loop μ-loop)
 bad d =
     let w = d .before .before .before .before in
     word-bad-is _ _ (w .before .before .before .byte-at .ensures) (w .before .before .byte-at2 .ensures) (w .before .byte-at3 .ensures)
-    (d .before .word-of .ensures) (d .word-outside .ensures)
+    (d .before .word-through .ensures) (d .word-outside .ensures)
 
 byte-at-requires : tie.Need-byte-at-requires Inv-loop μ-loop
 byte-at-requires c κs = search needs
@@ -38,8 +38,8 @@ word-count-requires c κs = search needs
 loop-holds : tie.Need-loop-holds Inv-loop μ-loop
 loop-holds c = clear-start
 
-word-of-requires : tie.Need-word-of-requires Inv-loop μ-loop
-word-of-requires c κs = search needs
+word-through-requires : tie.Need-word-through-requires Inv-loop μ-loop
+word-through-requires c κs = search needs
 
 word-outside-requires : tie.Need-word-outside-requires Inv-loop μ-loop
 word-outside-requires c κs = search needs
@@ -70,7 +70,7 @@ first-bad-spec =
     byte-at-requires-3
     word-count-requires
     loop-holds
-    word-of-requires
+    word-through-requires
     word-outside-requires
     returns
     add-i

@@ -18,14 +18,14 @@ word-count-requires c κs = search needs
 returns : tie.Need-returns Inv-loop μ-loop
 returns c = no-words _ (c .before .word-count .ensures) (c .if1 .taken)
 
-word-of-requires : tie.Need-word-of-requires Inv-loop μ-loop
-word-of-requires c κs = search needs
+word-through-requires : tie.Need-word-through-requires Inv-loop μ-loop
+word-through-requires c κs = search needs
 
 loop-holds : tie.Need-loop-holds Inv-loop μ-loop
-loop-holds c = ascending-start (search needs) (c .word-of .ensures)
+loop-holds c = ascending-start (search needs) (c .word-through .ensures)
 
-word-of-requires-2 : tie.Need-word-of-requires-2 Inv-loop μ-loop
-word-of-requires-2 c κs = search needs
+word-through-requires-2 : tie.Need-word-through-requires-2 Inv-loop μ-loop
+word-through-requires-2 c κs = search needs
 
 is-before-requires : tie.Need-is-before-requires Inv-loop μ-loop
 is-before-requires c κs = search needs
@@ -33,7 +33,7 @@ is-before-requires c κs = search needs
 returns-2 : tie.Need-returns-2 Inv-loop μ-loop
 returns-2 c =
     ascending-found (c .before .before .before .before .loop .inv) (search needs)
-    (c .before .before .word-of2 .ensures) (c .before .is-before .ensures) (c .if2 .taken)
+    (c .before .before .word-through2 .ensures) (c .before .is-before .ensures) (c .if2 .taken)
 
 add-i : tie.Need-add-i Inv-loop μ-loop
 add-i c = search needs
@@ -44,7 +44,7 @@ loop-less c = search needs
 loop-again : tie.Need-loop-again Inv-loop μ-loop
 loop-again c =
     ascending-next (c .before .before .before .before .loop .inv) (search needs)
-    (c .before .before .word-of2 .ensures) (c .before .is-before .ensures) (c .if2 .left)
+    (c .before .before .word-through2 .ensures) (c .before .is-before .ensures) (c .if2 .left)
 
 returns-3 : tie.Need-returns-3 Inv-loop μ-loop
 returns-3 c = ascending-all (c .before .loop .inv) (search needs)
@@ -57,9 +57,9 @@ first-not-above-spec =
     μ-loop
     word-count-requires
     returns
-    word-of-requires
+    word-through-requires
     loop-holds
-    word-of-requires-2
+    word-through-requires-2
     is-before-requires
     returns-2
     add-i
