@@ -1,5 +1,6 @@
 //! One call of the archive on a large argument, named by the first word after the program's name, for counting the instructions that it takes:
-//! `valgrind --tool=callgrind --callgrind-out-file=/dev/null --toggle-collect=link_merge target/tests/measure merge-sparse`.
+//! `valgrind --tool=callgrind --callgrind-out-file=/dev/null --toggle-collect=link_merge target/bench/measure merge-sparse`.
+//! `bash bench/run` builds it.
 
 #[path = "../common/mod.rs"]
 mod common;
