@@ -4,10 +4,9 @@
 #[path = "../common/mod.rs"]
 mod common;
 
-mod making;
-mod plain;
-
 use common::archive::{self, Answer, Buffers, Frame};
+use common::decoding;
+use common::frames;
 use common::merging::section_of;
 use common::tables::{Table, large_tables};
 use common::{Differing, Numbers};
@@ -24,21 +23,17 @@ struct Tally {
 impl Tally {
     /// Compares the compiled answer and buffers with the plain ones.
     fn compare(&mut self, differing: &mut Differing, frame: &Frame, lengths: [usize; 3], small: bool) -> Answer {
-        let mut wanted = making::buffers(lengths);
+        let mut wanted = frames::buffers(lengths);
         let mut got = wanted.clone();
-        let answer = match plain::blocks_of(frame, &wanted) {
-            Ok(blocks) => {
-                let found = plain::by_words(&blocks, frame.start, frame.end);
-                if small {
-                    let listed = plain::by_paths(&blocks, frame.start, frame.end);
-                    differing.compare(&listed, &found, || format!("the two plain ways: {frame:?}"));
-                }
-                self.ties += (found.least > 1) as usize;
-                self.with_erasures += frame.erased.iter().any(|&m| m != 0) as usize;
-                plain::write(&found, &mut wanted)
+        let (answer, passed) = decoding::decode(frame, &mut wanted);
+        if let Some((blocks, found)) = passed {
+            if small {
+                let listed = decoding::by_paths(&blocks, frame.start, frame.end);
+                differing.compare(&listed, &found, || format!("the two plain ways: {frame:?}"));
             }
-            Err(answer) => answer,
-        };
+            self.ties += (found.least > 1) as usize;
+            self.with_erasures += frame.erased.iter().any(|&m| m != 0) as usize;
+        }
         let given = archive::decode(frame, &mut got);
         self.chains += 1;
         *self.outcomes.entry(answer.number).or_default() += 1;
@@ -61,11 +56,11 @@ fn small_chains(differing: &mut Differing, numbers: &mut Numbers) {
     let (mut right, mut spoiled) = (Tally::default(), Tally::default());
     for _ in 0..10_000 {
         let k = numbers.from_to(1, 3);
-        let mut frame = making::chain(k, 5, 2000, numbers);
-        let mut lengths = making::lengths_for(frame.indices.len(), numbers);
+        let mut frame = frames::chain(k, 5, 2000, numbers);
+        let mut lengths = frames::lengths_for(frame.indices.len(), numbers);
         right.compare(differing, &frame, lengths, true);
         for _ in 0..numbers.from_to(1, 3) {
-            making::spoil(&mut frame, &mut lengths, numbers);
+            frames::spoil(&mut frame, &mut lengths, numbers);
             spoiled.compare(differing, &frame, lengths, true);
         }
     }
@@ -78,8 +73,8 @@ fn long_chains(differing: &mut Differing, numbers: &mut Numbers) {
     for _ in 0..200 {
         let k = numbers.from_to(1, 16);
         let blocks = numbers.from_to(6, 256);
-        let frame = making::chain(k, blocks, usize::MAX, numbers);
-        let lengths = making::lengths_for(blocks, numbers);
+        let frame = frames::chain(k, blocks, usize::MAX, numbers);
+        let lengths = frames::lengths_for(blocks, numbers);
         tally.compare(differing, &frame, lengths, false);
     }
     tally.report("long chains");

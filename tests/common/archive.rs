@@ -1,38 +1,6 @@
-//! Calls of `liblink_kit.a`: slices in, document 01's number and four values out.
+//! Calls of the kit through its crate for Rust: slices in, document 01's number and four values out, and the enum made of them held to both.
 
-unsafe extern "C" {
-    fn link_merge(
-        file: *const u8,
-        file_len: usize,
-        map: *mut u16,
-        map_len: usize,
-        section: *mut u16,
-        section_len: usize,
-        values: *mut u32,
-    ) -> u32;
-    fn link_read_back(section: *const u16, section_len: usize, file: *mut u8, file_len: usize, values: *mut u32)
-    -> u32;
-    fn link_decode(
-        sections: *const u16,
-        sections_len: usize,
-        k: usize,
-        indices: *const u8,
-        blocks: usize,
-        received: *const u16,
-        received_len: usize,
-        erased: *const u8,
-        erased_len: usize,
-        start: u8,
-        end: u8,
-        costs: *mut u32,
-        costs_len: usize,
-        labels: *mut u16,
-        labels_len: usize,
-        goals: *mut u8,
-        goals_len: usize,
-        values: *mut u32,
-    ) -> u32;
-}
+use link_kit::{Decoded, Listed, Merged, ReadBack, Room, numbers};
 
 /// An outcome's number, and the numbers returned with it in the first of four places; 0 in the others.
 #[derive(Clone, PartialEq, Debug)]
@@ -68,36 +36,35 @@ pub fn byte_pattern(length: usize) -> Vec<u8> {
     pattern(length).map(|x| (x % 251) as u8).collect()
 }
 
+/// The answer of a call, after a look at whether its enum has the same number and the same values.
+fn answer(number: u32, values: [u32; 4], case: (u32, [usize; 4])) -> Answer {
+    assert_eq!(
+        case,
+        (number, values.map(|x| x as usize)),
+        "the enum says something else"
+    );
+    Answer { number, values }
+}
+
 pub fn merge(file: &[u8], map: &mut [u16], section: &mut [u16]) -> Answer {
     let mut values = BEFORE;
-    // SAFETY: each pointer is that of a live buffer of the length beside it, and `values` has four places.
-    let number = unsafe {
-        link_merge(
-            file.as_ptr(),
-            file.len(),
-            map.as_mut_ptr(),
-            map.len(),
-            section.as_mut_ptr(),
-            section.len(),
-            values.as_mut_ptr(),
-        )
-    };
-    Answer { number, values }
+    let number = numbers::merge(file, map, section, &mut values);
+    let case = Merged::of(number, values);
+    answer(number, values, (case.number(), case.values()))
 }
 
 pub fn read_back(section: &[u16], file: &mut [u8]) -> Answer {
     let mut values = BEFORE;
-    // SAFETY: as for `merge`.
-    let number = unsafe {
-        link_read_back(
-            section.as_ptr(),
-            section.len(),
-            file.as_mut_ptr(),
-            file.len(),
-            values.as_mut_ptr(),
-        )
-    };
-    Answer { number, values }
+    let number = numbers::read_back(section, file, &mut values);
+    let case = ReadBack::of(number, values);
+    answer(number, values, (case.number(), case.values()))
+}
+
+pub fn listing(file: &[u8], text: &mut [u8]) -> Answer {
+    let mut values = BEFORE;
+    let number = numbers::listing(file, text, &mut values);
+    let case = Listed::of(number, values);
+    answer(number, values, (case.number(), case.values()))
 }
 
 /// What decoding takes.
@@ -110,6 +77,20 @@ pub struct Frame {
     pub erased: Vec<u8>,
     pub start: u8,
     pub end: u8,
+}
+
+impl Frame {
+    pub fn lent(&self) -> link_kit::Frame<'_> {
+        link_kit::Frame {
+            sections: &self.sections,
+            k: self.k,
+            indices: &self.indices,
+            received: &self.received,
+            erased: &self.erased,
+            start: self.start,
+            end: self.end,
+        }
+    }
 }
 
 /// What decoding writes to.
@@ -128,32 +109,19 @@ impl Buffers {
             goals: byte_pattern(goals),
         }
     }
+
+    pub fn lent(&mut self) -> Room<'_> {
+        Room {
+            costs: &mut self.costs,
+            labels: &mut self.labels,
+            goals: &mut self.goals,
+        }
+    }
 }
 
 pub fn decode(frame: &Frame, buffers: &mut Buffers) -> Answer {
     let mut values = BEFORE;
-    // SAFETY: as for `merge`.
-    let number = unsafe {
-        link_decode(
-            frame.sections.as_ptr(),
-            frame.sections.len(),
-            frame.k,
-            frame.indices.as_ptr(),
-            frame.indices.len(),
-            frame.received.as_ptr(),
-            frame.received.len(),
-            frame.erased.as_ptr(),
-            frame.erased.len(),
-            frame.start,
-            frame.end,
-            buffers.costs.as_mut_ptr(),
-            buffers.costs.len(),
-            buffers.labels.as_mut_ptr(),
-            buffers.labels.len(),
-            buffers.goals.as_mut_ptr(),
-            buffers.goals.len(),
-            values.as_mut_ptr(),
-        )
-    };
-    Answer { number, values }
+    let number = numbers::decode(&frame.lent(), buffers.lent(), &mut values);
+    let case = Decoded::of(number, values);
+    answer(number, values, (case.number(), case.values()))
 }

@@ -1,7 +1,7 @@
 //! Merging as document 01 says it, slowly and by the definitions: the answer, the map and the section of any bytes.
 
-use super::archive::{Answer, pattern};
-use super::tables::{Table, Word, symbols};
+use super::archive::{self, Answer, pattern};
+use super::tables::{Table, Word, size_outside, symbols};
 use std::collections::{BTreeMap, BTreeSet};
 
 /// What merging leaves.
@@ -107,13 +107,7 @@ fn read(file: &[u8]) -> Result<Table, Answer> {
     if file.len() < 5 || file.len() != 5 + 4 * count {
         return Err(Answer::new(1, &[file.len()]));
     }
-    let sizes = [
-        (file[0] as usize, 2, 4),
-        (file[1] as usize, 1, 8),
-        (file[2] as usize, 1, 64),
-        (count, 1, 1024),
-    ];
-    if let Some(place) = sizes.iter().position(|&(x, least, most)| x < least || x > most) {
+    if let Some(place) = size_outside(file, count) {
         return Err(Answer::new(2, &[place]));
     }
     let (q, n, states) = (file[0], file[1], file[2]);
@@ -132,6 +126,14 @@ fn read(file: &[u8]) -> Result<Table, Answer> {
         return Err(Answer::new(4, &[index]));
     }
     Ok(Table { q, n, states, words })
+}
+
+/// What the compiled code leaves of any bytes and buffers of two lengths.
+pub fn compiled(file: &[u8], map_length: usize, section_length: usize) -> Left {
+    let mut map: Vec<u16> = pattern(map_length).collect();
+    let mut section: Vec<u16> = pattern(section_length).collect();
+    let answer = archive::merge(file, &mut map, &mut section);
+    Left { answer, map, section }
 }
 
 /// What merging leaves of any bytes and buffers of two lengths.

@@ -1,9 +1,15 @@
-//! What the running programs share: calls of the kit's archive, small tables, and document 01's merging and sections written plainly.
+//! What the running programs share: calls of the kit, tables and chains of many kinds, and merging, sections, decoding and the listing written plainly
+//! from document 01.
 #![allow(dead_code)]
 
 pub mod archive;
+pub mod codes;
+pub mod decoding;
+pub mod frames;
+pub mod listing;
 pub mod merging;
 pub mod sections;
+pub mod shapes;
 pub mod tables;
 
 /// A fixed sequence of numbers with no pattern (xorshift).

@@ -181,6 +181,16 @@ impl Section {
     }
 }
 
+/// A step from each vertex by four symbols to four vertices of their own.
+pub fn spread(froms: u16) -> Vec<Edge> {
+    (0..4 * froms).map(|v| (v / 4, v % 4, v)).collect()
+}
+
+/// A step from each four vertices to one.
+pub fn gather(froms: u16) -> Vec<Edge> {
+    (0..froms).map(|v| (v, v % 4, v / 4)).collect()
+}
+
 /// Whether no key stands with two different vertices.
 fn alone(pairs: impl Iterator<Item = ((u16, u16), u16)>) -> bool {
     let mut seen = BTreeMap::new();

@@ -30,6 +30,17 @@ impl Table {
     }
 }
 
+/// The first of q, n, S, W (0 to 3) that is outside its bounds in a file of at least 5 bytes.
+pub fn size_outside(file: &[u8], count: usize) -> Option<usize> {
+    let sizes = [
+        (file[0] as usize, 2, 4),
+        (file[1] as usize, 1, 8),
+        (file[2] as usize, 1, 64),
+        (count, 1, 1024),
+    ];
+    sizes.iter().position(|&(x, least, most)| x < least || x > most)
+}
+
 /// The symbols of a label, the first one first.
 pub fn symbols(label: u16, n: u8) -> Vec<u16> {
     (0..n).rev().map(|k| label >> (2 * k) & 3).collect()

@@ -4,17 +4,10 @@
 #[path = "../common/mod.rs"]
 mod common;
 
-use common::merging::{Left, expected};
+use common::merging::{Left, compiled, expected};
 use common::tables::{Table, small_tables};
-use common::{Differing, Numbers, archive};
+use common::{Differing, Numbers};
 use std::collections::BTreeMap;
-
-fn compiled(file: &[u8], map_length: usize, section_length: usize) -> Left {
-    let mut map: Vec<u16> = archive::pattern(map_length).collect();
-    let mut section: Vec<u16> = archive::pattern(section_length).collect();
-    let answer = archive::merge(file, &mut map, &mut section);
-    Left { answer, map, section }
-}
 
 #[derive(Default)]
 struct Tally {

@@ -1,13 +1,15 @@
 //! One call of the archive on a large argument, named by the first word after the program's name, for counting the instructions that it takes:
-//! `valgrind --tool=callgrind --callgrind-out-file=/dev/null --toggle-collect=link_merge target/tests/measure merge-sparse`.
+//! `valgrind --tool=callgrind --callgrind-out-file=/dev/null --toggle-collect=link_merge target/bench/measure merge-sparse`.
+//! `bash bench/run` builds it.
 
 #[path = "../common/mod.rs"]
 mod common;
 
 use common::Numbers;
 use common::archive::{self, Answer, Buffers, Frame};
+use common::codes::case_9;
 use common::merging::section_of;
-use common::sections::{Edge, Section, usable};
+use common::sections::{Edge, Section, gather, spread, usable};
 use common::tables::{Table, Word, large_tables};
 use std::collections::BTreeSet;
 
@@ -64,34 +66,6 @@ fn refused_at_one_more(beginnings: usize, run: usize) -> Table {
         states: 64,
         words,
     }
-}
-
-/// Case 9: the rate 2/3 section of document 004.
-fn case_9() -> Table {
-    let bit = |x: u16, k: u16| x >> k & 1;
-    let mut words: Vec<Word> = Vec::new();
-    for bits in 0..16u16 {
-        let (r1, r2, g1, g2) = (bit(bits, 3), bit(bits, 2), bit(bits, 1), bit(bits, 0));
-        let v = (r1 * 0b111) ^ (r2 * 0b001) ^ (g1 * 0b101) ^ (g2 * 0b110);
-        let label = bit(v, 2) << 4 | bit(v, 1) << 2 | bit(v, 0);
-        words.push(((2 * r1 + r2) as u8, label, (2 * g1 + g2) as u8));
-    }
-    words.sort();
-    Table {
-        q: 2,
-        n: 3,
-        states: 4,
-        words,
-    }
-}
-
-/// From each vertex by four symbols to four vertices of their own, and from each four vertices to one.
-fn spread(froms: u16) -> Vec<Edge> {
-    (0..4 * froms).map(|v| (v / 4, v % 4, v)).collect()
-}
-
-fn gather(froms: u16) -> Vec<Edge> {
-    (0..froms).map(|v| (v, v % 4, v / 4)).collect()
 }
 
 /// A usable section with as many edges as the bounds allow: 256 or 1,024 vertices at depths 2 to 6, and 1,024 edges a step between depths 1 and 7.

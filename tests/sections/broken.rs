@@ -2,7 +2,7 @@
 
 use super::Tally;
 use super::common::archive::Answer;
-use super::common::sections::{Edge, Rule, Section};
+use super::common::sections::{Edge, Rule, Section, gather, spread};
 use std::collections::BTreeSet;
 
 /// Two paths side by side, all symbols 0, through n steps.
@@ -27,15 +27,6 @@ fn with(depth: usize, vertices: u16, edges: &[(usize, Edge)]) -> Section {
         section.steps[step].sort();
     }
     section
-}
-
-/// Four symbols from each vertex to four of its own, or from each four to one.
-fn spread(froms: u16) -> Vec<Edge> {
-    (0..4 * froms).map(|v| (v / 4, v % 4, v)).collect()
-}
-
-fn gather(froms: u16) -> Vec<Edge> {
-    (0..froms).map(|v| (v, v % 4, v / 4)).collect()
 }
 
 /// 1,024 words through 1,024 vertices at two depths, with more edges and vertices between these.

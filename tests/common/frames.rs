@@ -1,14 +1,14 @@
 //! Chains made at random: their sections, what is received over them, and faults put into them.
 
-use super::common::Numbers;
-use super::common::archive::{Buffers, Frame};
-use super::common::merging::{section_of, witness};
-use super::common::sections::Section;
-use super::common::tables::{Table, Word, drawn, scattered, symbols};
+use super::Numbers;
+use super::archive::{Buffers, Frame};
+use super::merging::{section_of, witness};
+use super::sections::Section;
+use super::tables::{Table, Word, drawn, scattered, symbols};
 use std::collections::BTreeSet;
 
 /// Ascending states that stand for 0, 1, 2 ..; neighbours of a chain meet only if they share them.
-fn some_states(count: usize, numbers: &mut Numbers) -> Vec<u8> {
+pub fn some_states(count: usize, numbers: &mut Numbers) -> Vec<u8> {
     if numbers.one_in(2) {
         return (0..count as u8).collect();
     }
@@ -17,6 +17,14 @@ fn some_states(count: usize, numbers: &mut Numbers) -> Vec<u8> {
         states.insert(numbers.below(64) as u8);
     }
     states.into_iter().collect()
+}
+
+/// Puts ascending states in the place of 0, 1, 2 .., and some bound above them in the place of S.
+pub fn move_states(table: &mut Table, states: &[u8], numbers: &mut Numbers) {
+    let moved = |w: &Word| (states[w.0 as usize], w.1, states[w.2 as usize]);
+    table.words = table.words.iter().map(moved).collect();
+    let highest = table.words.iter().map(|w| w.0.max(w.2)).max().expect("a word");
+    table.states = numbers.from_to(highest as usize + 1, 64) as u8;
 }
 
 /// A rectangular table of at most `most` words over some states.
@@ -35,10 +43,7 @@ fn some_table(states: &[u8], most: usize, numbers: &mut Numbers) -> Table {
         if table.words.is_empty() || table.words.len() > most || witness(&table).is_some() {
             continue;
         }
-        let moved = |w: &Word| (states[w.0 as usize], w.1, states[w.2 as usize]);
-        table.words = table.words.iter().map(moved).collect();
-        let highest = table.words.iter().map(|w| w.0.max(w.2)).max().unwrap();
-        table.states = numbers.from_to(highest as usize + 1, 64) as u8;
+        move_states(&mut table, states, numbers);
         return table;
     }
 }
@@ -74,22 +79,28 @@ pub fn chain(k: usize, blocks: usize, most_paths: usize, numbers: &mut Numbers) 
             some_table(&own, 40, numbers)
         })
         .collect();
+    let ends = [0, 1].map(|_| states[numbers.below(count)]);
+    over(&tables, ends, blocks, most_paths, numbers)
+}
+
+/// A chain without faults over some tables, whose sections are renumbered.
+pub fn over(tables: &[Table], ends: [u8; 2], blocks: usize, most_paths: usize, numbers: &mut Numbers) -> Frame {
     let mut frame = Frame {
         sections: Vec::new(),
-        k,
+        k: tables.len(),
         indices: Vec::new(),
         received: Vec::new(),
         erased: Vec::new(),
-        start: states[numbers.below(count)],
-        end: states[numbers.below(count)],
+        start: ends[0],
+        end: ends[1],
     };
-    for table in &tables {
+    for table in tables {
         let (section, _) = Section::read(&section_of(table)).expect("a whole section");
         frame.sections.extend(section.renumbered(numbers).numbers());
     }
     let mut paths = 1;
     while frame.indices.len() < blocks {
-        let i = numbers.below(k);
+        let i = numbers.below(tables.len());
         paths = tables[i].words.len().saturating_mul(paths);
         if paths > most_paths && !frame.indices.is_empty() {
             break;

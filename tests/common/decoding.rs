@@ -1,9 +1,9 @@
 //! Decoding as document 01 says it: the checks in order, then every path of the chain listed and measured. A second way, over the words of one block
 //! after another, serves chains whose paths are too many to list; on small chains it is held to the first.
 
-use super::common::archive::{Answer, Buffers, Frame};
-use super::common::sections::{Section, usable};
-use super::common::tables::{Word, symbols};
+use super::archive::{Answer, Buffers, Frame};
+use super::sections::{Section, usable};
+use super::tables::{Word, symbols};
 
 /// No path.
 const NONE: u32 = u32::MAX;
@@ -60,7 +60,7 @@ fn sections_of(frame: &Frame) -> Result<Vec<Section>, Answer> {
 }
 
 /// The blocks' words with their distances, or refusal 8, 9 or 10.
-pub fn blocks_of(frame: &Frame, buffers: &Buffers) -> Result<Vec<Block>, Answer> {
+fn blocks_of(frame: &Frame, buffers: &Buffers) -> Result<Vec<Block>, Answer> {
     let sections = sections_of(frame)?;
     let count = frame.indices.len();
     let lengths_equal = frame.received.len() == count && frame.erased.len() == count;
@@ -168,7 +168,7 @@ pub fn by_words(blocks: &[Block], start: u8, end: u8) -> Found {
 }
 
 /// What decoding leaves in the buffers, and its answer: 11 or success.
-pub fn write(found: &Found, buffers: &mut Buffers) -> Answer {
+fn write(found: &Found, buffers: &mut Buffers) -> Answer {
     buffers.costs[..found.costs.len()].copy_from_slice(&found.costs);
     let Some((distance, words)) = &found.best else {
         return Answer::new(11, &[]);
@@ -178,4 +178,15 @@ pub fn write(found: &Found, buffers: &mut Buffers) -> Answer {
         buffers.goals[b] = word.2;
     }
     Answer::new(0, &[*distance as usize])
+}
+
+/// What decoding leaves in the buffers, its answer, and after every check is passed the blocks and what was found in them.
+pub fn decode(frame: &Frame, buffers: &mut Buffers) -> (Answer, Option<(Vec<Block>, Found)>) {
+    match blocks_of(frame, buffers) {
+        Ok(blocks) => {
+            let found = by_words(&blocks, frame.start, frame.end);
+            (write(&found, buffers), Some((blocks, found)))
+        }
+        Err(answer) => (answer, None),
+    }
 }

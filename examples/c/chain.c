@@ -1,0 +1,44 @@
+/* Merges the table of labels 00 and 11 (marked case 3), decodes two blocks received as 01 and 11 (marked case 7), and prints the path. */
+#include "link_kit.h"
+
+#include <stdio.h>
+#include <string.h>
+
+/* q 2, n 2, S 1, two words: pairs (root, goal), then labels, low byte first. */
+static const uint8_t file[LINK_FILE_LEN(2)] = {2, 2, 1, 2, 0, /* */ 0, 0, 0, 0, /* */ 0, 0, 5, 0};
+
+static uint16_t section[LINK_ANY_SECTION];
+
+static int refused(const char *call, uint32_t number, const uint32_t values[4]) {
+    fprintf(stderr, "%s: refused %u, %u %u %u %u\n", call, number, values[0], values[1], values[2], values[3]);
+    return 1;
+}
+
+int main(void) {
+    uint16_t map[LINK_MAP_LEN(2, 2)];
+    uint32_t values[4];
+    uint32_t number = link_merge(file, sizeof file, map, LINK_MAP_LEN(2, 2), section, LINK_ANY_SECTION, values);
+    if (number != LINK_SUCCESS)
+        return refused("merge", number, values);
+    size_t length = values[0];
+    printf("section of %zu numbers, vertices %u %u %u, edges %u %u\n", length, section[3], section[4], section[5], section[6], section[7]);
+
+    uint8_t again[sizeof file];
+    number = link_read_back(section, length, again, sizeof again, values);
+    if (number != LINK_SUCCESS || values[0] != sizeof file || memcmp(file, again, sizeof file) != 0)
+        return refused("read back", number, values);
+
+    const uint8_t indices[2] = {0, 0}, erased[2] = {0, 0};
+    const uint16_t received[2] = {1, 5};
+    uint32_t costs[LINK_COSTS_LEN(2)];
+    uint16_t labels[2];
+    uint8_t goals[2];
+    number = link_decode(section, length, 1, indices, 2, received, 2, erased, 2, 0, 0, costs, LINK_COSTS_LEN(2), labels, 2, goals, 2, values);
+    if (number != LINK_SUCCESS)
+        return refused("decode", number, values);
+    printf("distance %u\n", values[0]);
+    for (int b = 0; b < 2; b++)
+        printf("block %d: label %u%u, goal %u, distance from state 0 onward %u\n", b, labels[b] >> 2 & 3, labels[b] & 3, goals[b],
+               costs[LINK_COST_PLACE(b, 0)]);
+    return 0;
+}

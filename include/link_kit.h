@@ -1,0 +1,80 @@
+/* The link kit for C and C++ on x86-64: link with liblink_kit.a, which `rt staticlib link_kit` writes. "The scope" is the paper of tables, sections
+ * and outcomes; its outcome numbers are the LINK_ constants below.
+ *
+ * Each call returns an outcome number and puts the numbers returned with it into `values` in order, 0 in the places not used; one over 4,294,967,295
+ * is stored as 4,294,967,295. Calls end for all contents of their arguments, keep nothing between them, and use no heap.
+ *
+ * Each pointer is not null, aligned for its type, and good for the length beside it (`values` for 4 places); lengths count elements, not bytes.
+ * A buffer that a call writes to (a pointer without const) overlaps no other argument. */
+#ifndef LINK_KIT_H
+#define LINK_KIT_H
+
+#include <stddef.h>
+#include <stdint.h>
+
+#ifdef __cplusplus
+extern "C" {
+#endif
+
+/* Outcomes, what values holds, and what the buffers hold then; "unchanged" means every buffer but values. */
+#define LINK_SUCCESS 0u         /* section's length, file's length, distance or text's length; places beyond those written are unchanged */
+#define LINK_FILE_LENGTH 1u     /* file length: under 5 bytes, or not 5 + 4 W; unchanged */
+#define LINK_SIZE 2u            /* 0 to 3, the first of q, n, S, W outside its bounds; unchanged */
+#define LINK_WORD 3u            /* first word with a state not below S, a label not below 4^n, or a symbol not below q; unchanged */
+#define LINK_ORDER 4u           /* first word not above the word before it; unchanged */
+#define LINK_SHORT_MAP 5u       /* W (n + 1), the places that the map needs; unchanged */
+#define LINK_NOT_RECTANGULAR 6u /* depth, and words i, j, k that force a word which is missing; first W (n + 1) places of the map 0, else unchanged */
+#define LINK_SHORT_SECTION 7u   /* length that the section needs; map as on success, section unchanged */
+#define LINK_UNUSABLE 8u        /* K if outside its bounds; else the first unusable section; else K, for numbers left over; unchanged */
+#define LINK_BLOCK 9u           /* first bad block, or B for a fault of lengths or states; unchanged */
+#define LINK_SHORT_BUFFER 10u   /* least length that the first short buffer needs; unchanged */
+#define LINK_NO_PATH 11u        /* nothing; cost table as on success, others unchanged */
+#define LINK_TOO_MANY_WORDS 12u /* nothing: the section has over 1,024 words; unchanged */
+
+/* Bounds. */
+#define LINK_MOST_WORDS 1024u
+#define LINK_MOST_STATES 64u
+#define LINK_MOST_SYMBOLS 8u   /* n */
+#define LINK_MOST_SECTIONS 16u /* K */
+#define LINK_MOST_BLOCKS 256u  /* B */
+#define LINK_NO_COST 4294967295u /* in the cost table: no path from here */
+
+/* Lengths, in elements. */
+#define LINK_FILE_LEN(words) (5u + 4u * (words))
+#define LINK_MAP_LEN(words, n) ((words) * ((n) + 1u))
+#define LINK_COSTS_LEN(blocks) (LINK_MOST_STATES * (blocks))
+/* The place in the cost table of the least distance from a state before a block to the end state after the last. */
+#define LINK_COST_PLACE(block, state) (LINK_MOST_STATES * (block) + (state))
+
+/* Lengths that are enough for every table. */
+#define LINK_ANY_FILE LINK_FILE_LEN(LINK_MOST_WORDS)                  /* 4,101 bytes */
+#define LINK_ANY_MAP LINK_MAP_LEN(LINK_MOST_WORDS, LINK_MOST_SYMBOLS) /* 9,216 numbers */
+#define LINK_ANY_SECTION 26644u                                       /* numbers */
+#define LINK_ANY_TEXT 1024u                                           /* bytes */
+
+/* Merges a table file. Success returns the section's length; the map's place t W + i is then the vertex of word i at depth t.
+ * Outcomes 0 to 7, checked in the order 1, 2, 3, 4, 5, 6, 7. */
+uint32_t link_merge(const uint8_t *file, size_t file_len, uint16_t *map, size_t map_len, uint16_t *section, size_t section_len,
+                    uint32_t values[4]);
+
+/* Writes the table file of a section's words. Success returns the file's length.
+ * Outcomes 0, 8 (with 0, for numbers left over too), 12, 10, checked in this order. */
+uint32_t link_read_back(const uint16_t *section, size_t section_len, uint8_t *file, size_t file_len, uint32_t values[4]);
+
+/* Finds the first path of least distance through a chain of blocks over k sections, which stand one behind another in `sections`. Block b goes
+ * through section indices[b]; received[b] is its received label and erased[b] its erasure mask. Success returns the distance, and writes the labels
+ * and goals of the path and the cost table (64 places a block). Outcomes 0, 8, 9, 10 (cost table, labels, goals) and 11, checked in this order. */
+uint32_t link_decode(const uint16_t *sections, size_t sections_len, size_t k, const uint8_t *indices, size_t blocks,
+                     const uint16_t *received, size_t received_len, const uint8_t *erased, size_t erased_len, uint8_t start, uint8_t end,
+                     uint32_t *costs, size_t costs_len, uint16_t *labels, size_t labels_len, uint8_t *goals, size_t goals_len,
+                     uint32_t values[4]);
+
+/* Writes the printed sizes of a table's section as text, or the line of its refusal. Success, also for a table that is refused, returns the text's
+ * length; no 0 byte is put behind it. Outcomes 0 and 10. */
+uint32_t link_listing(const uint8_t *file, size_t file_len, uint8_t *text, size_t text_len, uint32_t values[4]);
+
+#ifdef __cplusplus
+}
+#endif
+
+#endif

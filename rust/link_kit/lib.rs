@@ -1,0 +1,140 @@
+//! The link kit for Rust: tables merged into trellis sections, sections read back, chains of blocks decoded, sizes listed. Safe calls of `liblink_kit.a`,
+//! whose every answer and every place of every buffer is proved to be what the scope says. Nothing here allocates or keeps anything between calls.
+//!
+//! ```
+//! use link_kit::{ANY_SECTION, Decoded, Frame, Merged, Room};
+//!
+//! // q 2, n 2, S 1 and the words 00 and 11: pairs (root, goal), then labels, low byte first.
+//! let file = [2, 2, 1, 2, 0, 0, 0, 0, 0, 0, 0, 5, 0];
+//! let (mut map, mut section) = ([0; 6], [0; ANY_SECTION]);
+//! assert_eq!(link_kit::merge(&file, &mut map, &mut section), Merged::Section(22));
+//!
+//! // Two blocks received as 01 and 11: the best path is 00, 11.
+//! let frame = Frame { sections: &section[..22], k: 1, indices: &[0, 0], received: &[1, 5], erased: &[0, 0], start: 0, end: 0 };
+//! let (mut costs, mut labels, mut goals) = ([0; 128], [0; 2], [0; 2]);
+//! let room = Room { costs: &mut costs, labels: &mut labels, goals: &mut goals };
+//! assert_eq!(link_kit::decode(&frame, room), Decoded::Distance(1));
+//! assert_eq!((labels, goals), ([0, 5], [0, 0]));
+//! ```
+//!
+//! A returned number over 4,294,967,295, as a file's length can be, is given as 4,294,967,295.
+
+mod answers;
+pub mod numbers;
+
+pub use answers::{Decoded, Listed, Merged, ReadBack};
+
+/// A table file of 1,024 words in bytes, the longest there is.
+pub const ANY_FILE: usize = 5 + 4 * 1024;
+/// A map long enough for every table: 1,024 words at nine depths.
+pub const ANY_MAP: usize = 9 * 1024;
+/// A section buffer long enough for every table.
+pub const ANY_SECTION: usize = 26_644;
+/// A text buffer long enough for every listing.
+pub const ANY_TEXT: usize = 1024;
+/// The most sections of a chain.
+pub const MOST_SECTIONS: usize = 16;
+/// The most blocks of a chain.
+pub const MOST_BLOCKS: usize = 256;
+/// The places of the cost table for one block, one for each state.
+pub const COSTS_A_BLOCK: usize = 64;
+/// In the cost table: no path from here.
+pub const NO_COST: u32 = u32::MAX;
+
+/// What decoding takes.
+#[derive(Clone, Copy, Debug)]
+pub struct Frame<'a> {
+    /// The sections one behind another.
+    pub sections: &'a [u16],
+    /// How many sections there are: K, 1 to 16.
+    pub k: usize,
+    /// The section of each block. Its length is B, 1 to 256.
+    pub indices: &'a [u8],
+    /// The received label of each block.
+    pub received: &'a [u16],
+    /// The erasure mask of each block, the first symbol highest.
+    pub erased: &'a [u8],
+    /// The state before the first block.
+    pub start: u8,
+    /// The state after the last block.
+    pub end: u8,
+}
+
+/// What decoding writes to.
+#[derive(Debug)]
+pub struct Room<'a> {
+    /// 64·B places: at 64·b + s the least distance from state s before block b to the end, [`NO_COST`] where none.
+    pub costs: &'a mut [u32],
+    /// B places for the labels of the path.
+    pub labels: &'a mut [u16],
+    /// B places for the goals of the path.
+    pub goals: &'a mut [u8],
+}
+
+/// Merges the table in `file` into the smallest section with just its words.
+///
+/// ```
+/// use link_kit::{ANY_SECTION, Merged};
+/// // The labels 00, 01, 10 without 11: words 0, 1, 2 force a fourth at depth 1.
+/// let file = [2, 2, 1, 3, 0, 0, 0, 0, 0, 0, 0, 0, 0, 1, 0, 4, 0];
+/// let (mut map, mut section) = ([7; 10], [7; ANY_SECTION]);
+/// let answer = link_kit::merge(&file, &mut map, &mut section);
+/// assert_eq!(answer, Merged::NotRectangular(1, 0, 1, 2));
+/// assert_eq!((answer.number(), answer.values()), (6, [1, 0, 1, 2]));
+/// assert_eq!(map, [0, 0, 0, 0, 0, 0, 0, 0, 0, 7]);
+/// ```
+pub fn merge(file: &[u8], map: &mut [u16], section: &mut [u16]) -> Merged {
+    let mut values = [0; 4];
+    let number = numbers::merge(file, map, section, &mut values);
+    Merged::of(number, values)
+}
+
+/// Writes the table file of a section's words.
+///
+/// ```
+/// use link_kit::{ANY_FILE, ReadBack};
+/// // One step from state 0 to state 0 by the symbols 0 and 1.
+/// let section = [2, 1, 1, 1, 1, 2, 0, 0, 0, 0, 0, 0, 0, 1];
+/// let mut file = [0; ANY_FILE];
+/// assert_eq!(link_kit::read_back(&section, &mut file), ReadBack::File(13));
+/// assert_eq!(file[..13], [2, 1, 1, 2, 0, 0, 0, 0, 0, 0, 0, 1, 0]);
+/// assert_eq!(link_kit::read_back(&section, &mut file[..12]), ReadBack::Short(13));
+/// assert_eq!(link_kit::read_back(&section[1..], &mut file).number(), 8);
+/// ```
+pub fn read_back(section: &[u16], file: &mut [u8]) -> ReadBack {
+    let mut values = [0; 4];
+    let number = numbers::read_back(section, file, &mut values);
+    ReadBack::of(number, values)
+}
+
+/// Finds the first path of least distance through a chain of blocks. The crate's front page has an example; here the one word goes elsewhere:
+///
+/// ```
+/// use link_kit::{Decoded, Frame, NO_COST, Room};
+/// let section = [2, 1, 2, 1, 1, 1, 0, 1, 0, 0, 0]; // from state 0 to state 1 by the symbol 0
+/// let frame = Frame { sections: &section, k: 1, indices: &[0], received: &[0], erased: &[0], start: 0, end: 0 };
+/// let (mut costs, mut labels, mut goals) = ([0; 64], [9; 1], [9; 1]);
+/// let room = Room { costs: &mut costs, labels: &mut labels, goals: &mut goals };
+/// assert_eq!(link_kit::decode(&frame, room), Decoded::NoPath);
+/// assert_eq!((costs, labels, goals), ([NO_COST; 64], [9], [9]));
+/// ```
+pub fn decode(frame: &Frame, room: Room) -> Decoded {
+    let mut values = [0; 4];
+    let number = numbers::decode(frame, room, &mut values);
+    Decoded::of(number, values)
+}
+
+/// Writes the printed sizes of the section of the table in `file`, or the line of its refusal.
+///
+/// ```
+/// use link_kit::{ANY_TEXT, Listed};
+/// let mut text = [0; ANY_TEXT];
+/// let Listed::Text(length) = link_kit::listing(&[2, 2, 1, 0, 0], &mut text) else { panic!() };
+/// assert_eq!(&text[..length], b"refused 2 3\n");
+/// assert_eq!(link_kit::listing(&[2, 2, 1, 0, 0], &mut text[..11]), Listed::Short(12));
+/// ```
+pub fn listing(file: &[u8], text: &mut [u8]) -> Listed {
+    let mut values = [0; 4];
+    let number = numbers::listing(file, text, &mut values);
+    Listed::of(number, values)
+}

@@ -1,0 +1,211 @@
+//! Tables of many shapes and files with every kind of fault through all four functions of the archive: merging, the listing, reading back what was merged
+//! and decoding chains of it, each compared in its answer and in every place of every buffer with plain code written from document 01 alone.
+
+#[path = "../common/mod.rs"]
+mod common;
+
+mod malformed;
+
+use common::archive::{self, Buffers, byte_pattern};
+use common::codes::{Sum, benchmarked, full_linear};
+use common::shapes;
+use common::tables::{Table, large_tables};
+use common::{Differing, Numbers, decoding, frames, listing, merging, sections};
+use std::collections::BTreeMap;
+
+type Outcomes = BTreeMap<u32, usize>;
+
+/// What was compared of one shape, by outcome.
+#[derive(Default)]
+struct Tally {
+    files: usize,
+    merged: Outcomes,
+    listed: Outcomes,
+    read_back: Outcomes,
+    decoded: Outcomes,
+    ties: usize,
+    differing: Differing,
+}
+
+impl Tally {
+    /// Merges with roomy buffers, each one place short and both as long as needed; then all of it for the listing. Says whether the file is accepted.
+    fn file(&mut self, file: &[u8]) -> bool {
+        self.files += 1;
+        let roomy = self.merge(file, 9 * 1024, 30_000);
+        let words = file.len().saturating_sub(5) / 4;
+        let places = words * (*file.get(1).unwrap_or(&0) as usize + 1);
+        self.merge(file, places.saturating_sub(1), 30_000);
+        self.merge(file, places, roomy.value().saturating_sub(1));
+        self.merge(file, places, roomy.value());
+        self.listing(file);
+        roomy.number == 0
+    }
+
+    fn merge(&mut self, file: &[u8], map_length: usize, section_length: usize) -> archive::Answer {
+        let wanted = merging::expected(file, map_length, section_length);
+        let got = merging::compiled(file, map_length, section_length);
+        *self.merged.entry(wanted.answer.number).or_default() += 1;
+        self.differing.compare(&wanted, &got, || format!("merging {file:02x?}"));
+        wanted.answer
+    }
+
+    /// The listing in buffers of every length around the text's, of none and of the longest.
+    fn listing(&mut self, file: &[u8]) {
+        let text = listing::text_of(file);
+        for length in (text.len() - 3..=text.len() + 3).chain([0, 1, 1024]) {
+            let mut wanted = byte_pattern(length);
+            let mut got = wanted.clone();
+            let answer = listing::put(&text, &mut wanted);
+            let given = archive::listing(file, &mut got);
+            *self.listed.entry(answer.number).or_default() += 1;
+            self.differing.compare(&(&answer, wanted), &(&given, got), || {
+                format!("the listing of {file:02x?}")
+            });
+        }
+    }
+
+    /// Reads sections back: a table's own, numbered in another way, and spoiled; with roomy buffers and with short ones.
+    fn sections(&mut self, table: &Table, numbers: &mut Numbers) {
+        let own = merging::section_of(table);
+        let (section, _) = sections::Section::read(&own).expect("a whole section");
+        let length = table.file().len();
+        self.read_back(&own, length);
+        self.read_back(&own, length - 1);
+        let mut other = section.renumbered(numbers).numbers();
+        self.read_back(&other, length + 7);
+        for _ in 0..4 {
+            let (a, b) = (numbers.below(other.len()), numbers.below(other.len()));
+            match numbers.below(4) {
+                0 => other.swap(a, b),
+                1 => other[a] = other[b],
+                2 => other[a] ^= 1 << numbers.below(4),
+                _ => drop(other.remove(a)),
+            }
+            self.read_back(&other, 4200);
+        }
+    }
+
+    fn read_back(&mut self, section: &[u16], file_length: usize) {
+        let mut wanted = byte_pattern(file_length);
+        let mut got = wanted.clone();
+        let answer = sections::read_back(section, &mut wanted);
+        let given = archive::read_back(section, &mut got);
+        *self.read_back.entry(answer.number).or_default() += 1;
+        self.differing.compare(&(&answer, wanted), &(&given, got), || {
+            format!("reading back {section:?}")
+        });
+    }
+
+    /// Decodes a chain over some tables between states of theirs, then with a fault in it.
+    fn chain(&mut self, tables: &[Table], blocks: usize, numbers: &mut Numbers) {
+        let some_word = |numbers: &mut Numbers| {
+            let table = &tables[numbers.below(tables.len())];
+            table.words[numbers.below(table.words.len())]
+        };
+        let ends = [some_word(numbers).0, some_word(numbers).2];
+        let mut frame = frames::over(tables, ends, blocks, usize::MAX, numbers);
+        let mut lengths = frames::lengths_for(blocks, numbers);
+        self.decode(&frame, lengths);
+        frames::spoil(&mut frame, &mut lengths, numbers);
+        self.decode(&frame, lengths);
+    }
+
+    fn decode(&mut self, frame: &archive::Frame, lengths: [usize; 3]) {
+        let mut wanted: Buffers = frames::buffers(lengths);
+        let mut got = wanted.clone();
+        let (answer, passed) = decoding::decode(frame, &mut wanted);
+        let given = archive::decode(frame, &mut got);
+        self.ties += passed.is_some_and(|(_, found)| found.least > 1) as usize;
+        *self.decoded.entry(answer.number).or_default() += 1;
+        self.differing
+            .compare(&(&answer, wanted), &(&given, got), || format!("decoding {frame:?}"));
+    }
+
+    fn report(&self, what: &str) {
+        println!("{what}: {} files", self.files);
+        for (call, outcomes) in [
+            ("merge", &self.merged),
+            ("listing", &self.listed),
+            ("read back", &self.read_back),
+        ] {
+            println!("  {call}: outcomes {outcomes:?}");
+        }
+        println!("  decode: outcomes {:?}, {} with ties", self.decoded, self.ties);
+    }
+}
+
+/// Tables of one shape, their near misses and spoiled files; those accepted are read back and decoded over, alone and behind one another.
+fn shape(tally: &mut Tally, rounds: usize, make: impl Fn(&mut Numbers) -> Table, numbers: &mut Numbers) {
+    let mut neighbours: Vec<Table> = Vec::new();
+    for round in 0..rounds {
+        let mut table = make(numbers);
+        if numbers.one_in(3) && table.states <= 16 {
+            let states = frames::some_states(table.states as usize, numbers);
+            frames::move_states(&mut table, &states, numbers);
+        }
+        let (less, more) = (shapes::one_out(&table, numbers), shapes::one_in(&table, numbers));
+        for tried in [table, less, more] {
+            if tally.file(&tried.file()) {
+                tally.sections(&tried, numbers);
+                neighbours.push(tried);
+            }
+        }
+        let older = neighbours.len().saturating_sub(4);
+        neighbours.drain(..older);
+        if let Some(last) = neighbours.last().cloned() {
+            let blocks = numbers.from_to(1, 12);
+            tally.chain(&neighbours, blocks, numbers);
+            tally.chain(&[last.clone()], blocks, numbers);
+            spoiled(tally, &last, round, numbers);
+        }
+    }
+}
+
+/// A file with one fault, each kind in turn, and with another one behind it.
+fn spoiled(tally: &mut Tally, table: &Table, kind: usize, numbers: &mut Numbers) {
+    let mut file = table.file();
+    malformed::spoil(&mut file, kind % malformed::KINDS, numbers);
+    tally.file(&file);
+    malformed::spoil(&mut file, numbers.below(malformed::KINDS), numbers);
+    tally.file(&file);
+}
+
+/// Tables of up to 1,024 words, and one word too many.
+fn largest(tally: &mut Tally, numbers: &mut Numbers) {
+    let mut tables = large_tables().to_vec();
+    tables.extend(benchmarked().map(|(_, table)| table));
+    tables.push(full_linear(4, 8, 3, Sum::Modulo, 5, numbers));
+    for table in &tables {
+        tally.file(&table.file());
+        tally.file(&shapes::one_out(table, numbers).file());
+        tally.file(&shapes::one_in(table, numbers).file());
+        tally.sections(table, numbers);
+        tally.chain(&[table.clone()], 40, numbers);
+    }
+    tally.chain(&tables, 100, numbers);
+    tally.file(&shapes::one_too_many().file());
+}
+
+fn main() {
+    let mut numbers = Numbers::new();
+    let mut all = Differing::default();
+    let mut finish = |what: &str, tally: Tally| {
+        tally.report(what);
+        all.comparisons += tally.differing.comparisons;
+        all.differing += tally.differing.differing;
+    };
+    let makers: [(&str, fn(&mut Numbers) -> Table); 3] = [
+        ("linear codes", shapes::linear),
+        ("products of beginnings and endings", shapes::product),
+        ("closed under completion", shapes::closed),
+    ];
+    for (what, make) in makers {
+        let mut tally = Tally::default();
+        shape(&mut tally, 500, make, &mut numbers);
+        finish(what, tally);
+    }
+    let mut tally = Tally::default();
+    largest(&mut tally, &mut numbers);
+    finish("large tables", tally);
+    all.finish();
+}
