@@ -21,6 +21,9 @@ use measuring::Job;
 
 const BLOCKS: usize = 256;
 
+/// What a block may take besides its edges.
+const A_BLOCK: f64 = 500.0;
+
 /// What the kit is held to.
 const MOST_INSTRUCTIONS: f64 = 2e6;
 const MOST_AN_EDGE: f64 = 40.0;
@@ -40,13 +43,13 @@ fn merge_job(table: &Table, merge: Merging) -> Job {
 }
 
 /// A chain of blocks over one code, received with errors and erasures.
-fn chain(table: &Table) -> Frame {
+fn chain(table: &Table, blocks: usize) -> Frame {
     let ends = [table.words[0].0, table.words[0].2];
-    frames::over(&[table.clone()], ends, BLOCKS, usize::MAX, &mut Numbers::new())
+    frames::over(&[table.clone()], ends, blocks, usize::MAX, &mut Numbers::new())
 }
 
-fn decode_job(table: &Table, decode: Decoding) -> Job {
-    let (frame, mut buffers) = (chain(table), Buffers::new(64 * BLOCKS, BLOCKS, BLOCKS));
+fn decode_job(table: &Table, blocks: usize, decode: Decoding) -> Job {
+    let (frame, mut buffers) = (chain(table, blocks), Buffers::new(64 * blocks, blocks, blocks));
     Box::new(move || {
         std::hint::black_box(decode(&frame.lent(), buffers.lent()));
     })
@@ -55,8 +58,9 @@ fn decode_job(table: &Table, decode: Decoding) -> Job {
 fn jobs(call: &str, table: &Table) -> Vec<Job> {
     match call {
         "merge" => MERGING.map(|merge| merge_job(table, merge)).into(),
-        "decode" => DECODING.map(|decode| decode_job(table, decode)).into(),
-        other => panic!("{other} is neither merge nor decode"),
+        "decode" => DECODING.map(|decode| decode_job(table, BLOCKS, decode)).into(),
+        "decode-half" => DECODING.map(|decode| decode_job(table, BLOCKS / 2, decode)).into(),
+        other => panic!("{other} is no call of the kit"),
     }
 }
 
@@ -71,7 +75,7 @@ fn same(table: &Table) {
     assert!(merged[0] == merged[1] && merged[0] == merged[2], "merging differs");
     let decoded = DECODING.map(|decode| {
         let mut buffers = Buffers::new(64 * BLOCKS, BLOCKS, BLOCKS);
-        let answer = decode(&chain(table).lent(), buffers.lent());
+        let answer = decode(&chain(table, BLOCKS).lent(), buffers.lent());
         assert_eq!(answer.number(), 0, "the chains have a path");
         (answer, buffers)
     });
@@ -85,20 +89,31 @@ struct Row {
     edges: usize,
     times: Vec<f64>,
     instructions: Vec<Option<u64>>,
+    /// Those for half of the blocks, where the call is decoding.
+    half: Vec<Option<u64>>,
 }
 
 impl Row {
     fn new(call: &str, place: usize, name: &'static str, table: &Table) -> Row {
         let mut jobs = jobs(call, table);
         let times = measuring::times(&mut jobs);
-        let count = |way: usize| measuring::instructions(&[call.to_string(), place.to_string(), way.to_string()]);
+        let count =
+            |call: &str, way: usize| measuring::instructions(&[call.to_string(), place.to_string(), way.to_string()]);
+        let half = |way: usize| {
+            if call == "decode" {
+                count("decode-half", way)
+            } else {
+                None
+            }
+        };
         let (section, _) = usable(&section_of(table)).expect("a usable section");
         Row {
             name,
             words: table.words.len(),
             edges: section.steps.concat().len(),
             times,
-            instructions: (0..jobs.len()).map(count).collect(),
+            instructions: (0..jobs.len()).map(|way| count(call, way)).collect(),
+            half: (0..jobs.len()).map(half).collect(),
         }
     }
 
@@ -107,8 +122,10 @@ impl Row {
         self.times[0] / self.times[way]
     }
 
+    /// What a block more takes an edge, less what it may take besides.
     fn an_edge(&self, way: usize) -> Option<f64> {
-        self.instructions[way].map(|count| count as f64 / (self.edges * BLOCKS) as f64)
+        let more = self.instructions[way]? - self.half[way]?;
+        Some((more as f64 / (BLOCKS / 2) as f64 - A_BLOCK) / self.edges as f64)
     }
 }
 
@@ -131,11 +148,13 @@ fn print_merging(rows: &[Row]) {
 }
 
 fn print_decoding(rows: &[Row]) {
-    println!("decoding, {BLOCKS} blocks   edges   kit us  kit/plain   instructions an edge and block: kit  plain");
+    println!(
+        "decoding, {BLOCKS} blocks   edges   kit us  kit/plain   instructions an edge, less {A_BLOCK} a block: kit  plain"
+    );
     for row in rows {
         let [kit, plain] = [0, 1].map(|way| or_dash(row.an_edge(way)));
         let (name, edges, time, by_plain) = (row.name, row.edges, row.times[0], row.ratio(1));
-        println!("{name:20} {edges:6} {time:8.0} {by_plain:10.2} {kit:>37} {plain:>6}");
+        println!("{name:20} {edges:6} {time:8.0} {by_plain:10.2} {kit:>47} {plain:>6}");
     }
 }
 
@@ -173,7 +192,11 @@ fn main() {
     let counts = full.map(|row| row.instructions[0].map(|count| count as f64));
     hold("instructions to merge 1,024 words", MOST_INSTRUCTIONS, counts);
     let an_edge = decoding.iter().map(|row| row.an_edge(0));
-    hold("instructions to decode an edge of a block", MOST_AN_EDGE, an_edge);
+    hold(
+        "instructions to decode an edge of a block, besides 500 a block",
+        MOST_AN_EDGE,
+        an_edge,
+    );
     let ratios = |rows: &[Row]| rows.iter().map(|row| Some(row.ratio(1))).collect::<Vec<_>>();
     hold(
         "merging, times as long as in plain Rust",

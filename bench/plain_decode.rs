@@ -1,5 +1,5 @@
-//! Decoding in plain Rust by the kit's own algorithm: each section is checked, the cost table is filled over the edges from the last block to the first,
-//! and the path is named forward from costs that are worked out again for each block.
+//! Decoding in plain Rust by the kit's own algorithm: each section is checked; over the edges, from the last block to the first, a number is kept at each
+//! vertex that ranks distance, label and goal; and forward the words that the least numbers hold are followed.
 
 use link_kit::{COSTS_A_BLOCK, Decoded, Frame, NO_COST, Room};
 
@@ -118,61 +118,47 @@ impl Heard {
         self.label as u32 >> (2 * n) == 0 && self.mask as u32 >> n == 0 && (0..n).all(right)
     }
 
-    /// What each symbol of each step costs.
-    fn prices(self, n: usize) -> [[u32; 4]; 8] {
+    /// What each symbol of each step adds: its cost, and below it its place in the label.
+    fn prices(self, n: usize) -> [[u64; 4]; 8] {
         let mut prices = [[0; 4]; 8];
         for (t, step) in prices[..n].iter_mut().enumerate() {
             for (symbol, price) in (0..).zip(step) {
-                *price = (self.is_erased(n, t) || self.symbol(n, t) != symbol) as u32;
+                let cost = (self.is_erased(n, t) || self.symbol(n, t) != symbol) as u64;
+                *price = cost << 32 | (symbol as u64) << (2 * (n - 1 - t) + 16);
             }
         }
         prices
     }
 }
 
-type Rows = [[u32; 1024]; 9];
+type Rows = [[u64; 1024]; 9];
 
-/// The least cost from each vertex of a section, where `after` is what it costs to go on from each state.
-fn sweep(section: &Section, prices: &[[u32; 4]; 8], after: &[u32], rows: &mut Rows) {
+/// The least number from each vertex of a section, where `after` is what it costs to go on from each state.
+fn sweep(section: &Section, prices: &[[u64; 4]; 8], after: &[u32], rows: &mut Rows) {
     for (place, &goal) in rows[section.n].iter_mut().zip(section.goals) {
-        *place = after[goal as usize];
+        let cost = after[goal as usize];
+        *place = if cost == NO_COST {
+            u64::MAX
+        } else {
+            (cost as u64) << 32 | goal as u64
+        };
     }
     let mut hi = section.symbols.len();
     for t in (0..section.n).rev() {
         let lo = hi - section.edges[t] as usize;
         let (front, back) = rows.split_at_mut(t + 1);
         let (here, next) = (&mut front[t], &back[0]);
-        here[..section.vertices[t] as usize].fill(NO_COST);
+        here[..section.vertices[t] as usize].fill(u64::MAX);
         for (pair, &symbol) in section.pairs[2 * lo..2 * hi]
             .chunks_exact(2)
             .zip(&section.symbols[lo..hi])
         {
-            let cost = next[pair[1] as usize].saturating_add(prices[t][symbol as usize]);
+            let number = next[pair[1] as usize].saturating_add(prices[t][symbol as usize]);
             let least = &mut here[pair[0] as usize];
-            *least = cost.min(*least);
+            *least = number.min(*least);
         }
         hi = lo;
     }
-}
-
-/// The label and the goal of the first path of least cost from a root.
-fn name_word(section: &Section, prices: &[[u32; 4]; 8], rows: &Rows, root: usize) -> (u16, u8) {
-    let (mut label, mut vertex, mut lo) = (0, root, 0);
-    for t in 0..section.n {
-        let hi = lo + section.edges[t] as usize;
-        // edges stand in the order of the vertices that they leave
-        let leaves = (lo..hi).find(|&i| section.pairs[2 * i] as usize == vertex);
-        let keeps = |&i: &usize| {
-            let (_, symbol, to) = section.edge(i);
-            rows[t + 1][to as usize].saturating_add(prices[t][symbol as usize]) == rows[t][vertex]
-        };
-        let first = leaves.and_then(|first| (first..hi).find(keeps));
-        let (_, symbol, to) = section.edge(first.expect("an edge that keeps to the least cost"));
-        label = 4 * label + symbol;
-        vertex = to as usize;
-        lo = hi;
-    }
-    (label, section.goals[vertex] as u8)
 }
 
 /// The sections of a frame, or refusal 8.
@@ -226,19 +212,21 @@ fn heard(frame: &Frame, b: usize) -> Heard {
 }
 
 fn search(frame: &Frame, room: Room, sections: &[Option<Section>; 16]) -> Decoded {
-    let section = |b: usize| sections[frame.indices[b] as usize].expect("an index below K");
     let blocks = frame.indices.len();
-    let mut rows: Rows = [[NO_COST; 1024]; 9];
+    let mut rows: Rows = [[u64::MAX; 1024]; 9];
+    let mut picks = [0; COSTS_A_BLOCK * 256];
     let mut last = [NO_COST; COSTS_A_BLOCK];
     last[frame.end as usize] = 0;
     for b in (0..blocks).rev() {
-        let (section, prices) = (section(b), heard(frame, b).prices(section(b).n));
+        let section = sections[frame.indices[b] as usize].expect("an index below K");
+        let prices = heard(frame, b).prices(section.n);
         let (front, back) = room.costs.split_at_mut(COSTS_A_BLOCK * (b + 1));
         sweep(&section, &prices, if b + 1 < blocks { back } else { &last }, &mut rows);
         let here = &mut front[COSTS_A_BLOCK * b..];
         here.fill(NO_COST);
-        for (&root, &cost) in section.roots.iter().zip(&rows[0]) {
-            here[root as usize] = cost;
+        for (&root, &number) in section.roots.iter().zip(&rows[0]) {
+            here[root as usize] = (number >> 32) as u32;
+            picks[COSTS_A_BLOCK * b + root as usize] = number as u32;
         }
     }
     let distance = room.costs[frame.start as usize];
@@ -247,19 +235,9 @@ fn search(frame: &Frame, room: Room, sections: &[Option<Section>; 16]) -> Decode
     }
     let mut state = frame.start;
     for b in 0..blocks {
-        let (section, prices) = (section(b), heard(frame, b).prices(section(b).n));
-        let after = if b + 1 < blocks {
-            &room.costs[COSTS_A_BLOCK * (b + 1)..]
-        } else {
-            &last
-        };
-        sweep(&section, &prices, after, &mut rows);
-        let root = section
-            .roots
-            .iter()
-            .position(|&root| root == state as u16)
-            .expect("a root");
-        (room.labels[b], room.goals[b]) = name_word(&section, &prices, &rows, root);
+        let pick = picks[COSTS_A_BLOCK * b + state as usize];
+        room.labels[b] = (pick >> 16) as u16;
+        room.goals[b] = pick as u8;
         state = room.goals[b];
     }
     Decoded::Distance(distance as usize)
