@@ -4,78 +4,31 @@ use mathlib.Core.Path.{_≡_, refl, sym, ap, ap₂, subst, _∙_}
 use mathlib.Core.Bool.{cond}
 use mathlib.Core.Logic.{inr}
 use mathlib.Core.List.{List, _∷_}
-use Prim.Native.Nat.{ℕ, zero, suc, _+_, _-_, _*_, _/_, _%_, _≤_, _<_}
+use Prim.Native.Nat.{ℕ, suc, _+_, _-_, _*_, _/_, _%_, _≤_, _<_}
 use native.Mathlib.Nat.{zero-add, le-of-eq}
 use native.Mathlib.Decide.{ℕ-discrete, decLt}
 use native.Mathlib.Omega.{arith}
-use lib.Dec.{T, eqb, eqb→eq, eqb-refl}
+use lib.Dec.{eqb}
 use lib.ListN.{length, getD, take, drop, length-drop}
 use lib.Seq.{take-all}
 use borrow.Author.Tests.{lt-ltb, le-ltb}
-use Rattle.trellis.specs.Lists.{_∈_, run, each, first}
+use Rattle.trellis.specs.Lists.{_∈_, each}
 use Rattle.trellis.specs.Word.{Word, word}
-use Rattle.trellis.specs.Own.{Edge}
 use Rattle.trellis.specs.Section.{Path, wordOf, packOnto}
-use Rattle.trellis.specs.Layout.{nOf, vertexCountOf, edgeCountOf, edgesBefore, rootState, goalState, edgeNumber, stepEdges, sectionWords}
-use Rattle.trellis.proofs.Lists.{of-run, in-each, First, first-ok}
+use Rattle.trellis.specs.Layout.{nOf, vertexCountOf, rootState, goalState, stepEdges, sectionWords}
+use Rattle.trellis.proofs.Lists.{of-run, in-each}
 use Rattle.paths.specs.Costs.{least}
 use Rattle.paths.specs.Sections.{sectionLeast, sectionTrace}
 use Rattle.paths.specs.Chain.{chainLeast, chainTrace}
-use Rattle.paths.proofs.Ordered.{Ordered, ended, leads}
-use Rattle.paths.proofs.Ascent.{Bounded}
 use Rattle.paths.proofs.Packed.{cost-packed}
 use Rattle.paths.proofs.Words.{whole-fits}
 use Rattle.paths.proofs.Chain.{cost-table, table-le}
 use Rattle.paths.proofs.Blocks.{Uses, least-root, least-else, trace-root}
 use Rattle.paths.proofs.Ranked.{Rankable, Reads, ranked-cost, ranked-path}
-use Rattle.sweep.specs.Rows.{Fits}
-use Rattle.sweep.proofs.Edges.{before-more, before-le}
 use Rattle.block.specs.Received.{symbolCost, blockDistance}
 use Rattle.passes.specs.Blocks.{top, Good, endsIn, sectionOf, wordsOf, distanceOf, leastFrom, pathFrom, Ready, Table, Pick, Filled, aheadOf}
 use Rattle.passes.specs.Loops.{Behind, rankFrom, BlockTable, RootAt}
-
--- ---- one section
-
-run-ordered : {A : Type 0} {R : A → A → Type 0} (f : ℕ → A) (at count : ℕ) → ((j k : ℕ) → j < k → k < at + count → R (f j) (f k)) → Ordered R (run f at count)
-unfolding run
-run-ordered f at zero h = ended
-run-ordered {A} {R} f at (suc count) h =
-    leads (λ y m. let F = of-run f (suc at) count y m in subst (R (f at)) (sym (F .is)) (h at (suc at + F .at) (omega arith) (omega (arith, F .below))))
-    (run-ordered f (suc at) count (λ j k a b. h j k a (omega arith)))
-
-pub bounded-by : {l : List ℕ} → Fits l → Bounded (stepEdges l) (nOf l) (vertexCountOf l (nOf l))
-unfolding stepEdges
-bounded-by {l} F = record { symbol-lt = symbol-lt; goal-lt = goal-lt }
-  where
-    symbol-lt : (t : ℕ) → t < nOf l → (e : Edge) → e ∈ stepEdges l t → e .symbol < 4
-    symbol-lt t h e m =
-        let w = of-run (edgeNumber l) (edgesBefore l t) (edgeCountOf l t) e m in
-        let b = before-more l t in
-        let a = before-le l (suc t) (nOf l) h in
-        let k = w .below in
-        subst (λ f. f .symbol < 4) (sym (w .is)) (F .symbolSmall (edgesBefore l t + w .at) (omega arith))
-
-    goal-lt : (t : ℕ) → suc t ≡ nOf l → (e : Edge) → e ∈ stepEdges l t → e .to < vertexCountOf l (nOf l)
-    goal-lt t h e m =
-        let w = of-run (edgeNumber l) (edgesBefore l t) (edgeCountOf l t) e m in
-        let b = before-more l t in
-        let k = w .below in
-        subst (λ u. e .to < vertexCountOf l u) h
-        (subst (λ f. f .to < vertexCountOf l (suc t)) (sym (w .is)) (F .toBelow t (edgesBefore l t + w .at) (omega arith) (omega arith) (omega arith)))
-
--- the root in state s, or the number of roots
-abbrev pub rootOf : List ℕ → ℕ → ℕ
-rootOf l s = first (λ v. eqb (rootState l v) s) (vertexCountOf l 0)
-
-pub root-at : (l : List ℕ) (s : ℕ) → RootAt l s (rootOf l s)
-root-at l s = record {
-  r-le = F .most;
-  is = λ h. eqb→eq (rootState l (rootOf l s)) s (F .hit h);
-  none = λ h u k e. F .miss u (omega arith) (subst (λ x. T (eqb x s)) (sym e) (eqb-refl s));
-}
-  where
-    F : First (λ v. eqb (rootState l v) s) (vertexCountOf l 0) (rootOf l s)
-    F = first-ok (λ v. eqb (rootState l v) s) (vertexCountOf l 0)
+use Rattle.passes.proofs.OneSection.{run-ordered, bounded-by, rootOf, root-at}
 
 -- ---- the chain
 
