@@ -93,7 +93,8 @@ pub fn put_section(
     section: &mut [u16],
 ) -> usize
     requires { ⌜ Parts n (outer .counts) (edges .counts) (outer .roots) (outer .goals) (now map) (now labels) (now words) (now section) ⌝ }
-    ensures { λ r. ⌜ Wrote (now (section .entry)) 0 (numbersOf q n states (outer .counts) (edges .counts) (outer .roots) (outer .goals) (now (map .entry)) (now (labels .entry))) (now (section .exit)) r ⌝ }
+    ensures { λ r. ⌜ Wrote (now (section .entry)) 0 (numbersOf q n states (outer .counts) (edges .counts) (outer .roots) (outer .goals) (now (map .entry))
+        (now (labels .entry))) (now (section .exit)) r ⌝ }
 {
     let vertices = outer.counts;
     let counts = edges.counts;

@@ -176,7 +176,8 @@ pub fn put_all_pairs(
     section: &mut [u16],
     at: usize,
 ) -> usize
-    requires { ⌜ SmallMap (now map) (now labels) n × Taken (now map) (now labels) n (now words) (now counts) × (at + 2 * length (joinedUp (stepTakers (now map) (now labels) n) n) ≤ length (now section)) ⌝ }
+    requires { ⌜ SmallMap (now map) (now labels) n × Taken (now map) (now labels) n (now words) (now counts) × (at + 2 * length (joinedUp (stepTakers (now map)
+        (now labels) n) n) ≤ length (now section)) ⌝ }
     ensures { λ r. ⌜ Wrote (now (section .entry)) at (joinedUp (stepPairs (now (map .entry)) (now (labels .entry)) n) n) (now (section .exit)) r ⌝ }
 {
     let w = labels.len();
@@ -204,7 +205,8 @@ pub fn put_all_symbols(
     section: &mut [u16],
     at: usize,
 ) -> usize
-    requires { ⌜ SmallMap (now map) (now labels) n × Taken (now map) (now labels) n (now words) (now counts) × (at + 1 * length (joinedUp (stepTakers (now map) (now labels) n) n) ≤ length (now section)) ⌝ }
+    requires { ⌜ SmallMap (now map) (now labels) n × Taken (now map) (now labels) n (now words) (now counts) × (at + 1 * length (joinedUp (stepTakers (now map)
+        (now labels) n) n) ≤ length (now section)) ⌝ }
     ensures { λ r. ⌜ Wrote (now (section .entry)) at (joinedUp (stepSymbols (now (map .entry)) (now (labels .entry)) n) n) (now (section .exit)) r ⌝ }
 {
     let mut to = at;

@@ -61,7 +61,8 @@ pub extern "C" fn link_decode(
     goals: &mut [u8],
     values: &mut [u32; 4],
 ) -> u32
-    ensures { λ r. ⌜ DecodeLeft (decoding (now (sections .entry)) k (now (indices .entry)) (now (received .entry)) (now (erased .entry)) start end (now (costs .entry)) (now (labels .entry)) (now (goals .entry))) r (now (costs .exit)) (now (labels .exit)) (now (goals .exit)) (now (values .exit)) ⌝ }
+    ensures { λ r. ⌜ DecodeLeft (decoding (now (sections .entry)) k (now (indices .entry)) (now (received .entry)) (now (erased .entry)) start end
+        (now (costs .entry)) (now (labels .entry)) (now (goals .entry))) r (now (costs .exit)) (now (labels .exit)) (now (goals .exit)) (now (values .exit)) ⌝ }
 {
     let answer = answers::decoded(chain::decode(
         sections,

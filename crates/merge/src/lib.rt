@@ -48,7 +48,8 @@ fn finish(
     section: &mut [u16],
 ) -> Merged
     requires { ⌜ Inside n (now roots) (now labels) (now goals) (now map) inner ⌝ }
-    ensures { λ r. ⌜ Ends (written q n states (words (now (roots .entry)) (now (labels .entry)) (now (goals .entry))) (now (map .entry)) (now (section .entry))) r (now (map .exit)) (now (section .exit)) ⌝ }
+    ensures { λ r. ⌜ Ends (written q n states (words (now (roots .entry)) (now (labels .entry)) (now (goals .entry))) (now (map .entry)) (now (section .entry))) r
+        (now (map .exit)) (now (section .exit)) ⌝ }
 {
     let outer = assemble::put_outer(roots, goals, n, map, inner);
     let mut firsts = [0u16; 8192];
@@ -65,7 +66,8 @@ fn finish(
 // Refusal 6 at the first inner depth that is not rectangular: its witness, and a map of zeros.
 fn refuse(n: usize, t: usize, roots: &[u8], labels: &[u16], goals: &[u8], map: &mut [u16]) -> Merged
     requires { ⌜ Refused n t (now roots) (now labels) (now goals) (now map) ⌝ }
-    ensures { λ r. ⌜ (outcomeOf r ≡ refusalOf (witness n (words (now (roots .entry)) (now (labels .entry)) (now (goals .entry))))) × (now (map .exit) ≡ cleared (length (now (roots .entry)) * (n + 1)) (now (map .entry))) ⌝ }
+    ensures { λ r. ⌜ (outcomeOf r ≡ refusalOf (witness n (words (now (roots .entry)) (now (labels .entry)) (now (goals .entry))))) × (now (map .exit)
+        ≡ cleared (length (now (roots .entry)) * (n + 1)) (now (map .entry))) ⌝ }
 {
     clear(map, roots.len() * (n + 1));
     match witness::find_witness(roots, labels, goals, n, t) {
@@ -87,7 +89,8 @@ fn merge_words(
     section: &mut [u16],
 ) -> Merged
     requires { ⌜ Words n (now roots) (now labels) (now goals) (now map) ⌝ }
-    ensures { λ r. ⌜ Ends (merged q n states (words (now (roots .entry)) (now (labels .entry)) (now (goals .entry))) (now (map .entry)) (now (section .entry)) (witness n (words (now (roots .entry)) (now (labels .entry)) (now (goals .entry))))) r (now (map .exit)) (now (section .exit)) ⌝ }
+    ensures { λ r. ⌜ Ends (merged q n states (words (now (roots .entry)) (now (labels .entry)) (now (goals .entry))) (now (map .entry))
+        (now (section .entry)) (witness n (words (now (roots .entry)) (now (labels .entry)) (now (goals .entry))))) r (now (map .exit)) (now (section .exit)) ⌝ }
 {
     let mut counts = [0u16; 9];
     let depth = depths::merge_inner(roots, labels, goals, n, map, &mut counts);

@@ -205,7 +205,8 @@ fn gather(s: &[u16], n: usize, pairs: usize, symbols: usize, codes: &mut [u32; 1
 
 fn put_sizes(s: &[u16], count: usize, file: &mut [u8])
     requires { ⌜ 5 ≤ length (now file) ⌝ }
-    ensures { λ _. ⌜ Wrote (now (file .entry)) 0 (byteOf (getD (now (s .entry)) 0 0) ∷ byteOf (getD (now (s .entry)) 1 0) ∷ byteOf (getD (now (s .entry)) 2 0) ∷ byteOf count ∷ byteOf (count / 256) ∷ []) (now (file .exit)) 5 ⌝ }
+    ensures { λ _. ⌜ Wrote (now (file .entry)) 0 (byteOf (getD (now (s .entry)) 0 0) ∷ byteOf (getD (now (s .entry)) 1 0) ∷ byteOf (getD
+        (now (s .entry)) 2 0) ∷ byteOf count ∷ byteOf (count / 256) ∷ []) (now (file .exit)) 5 ⌝ }
 {
     file[0] = byte(wide(number(s, 0)));
     file[1] = byte(wide(number(s, 1)));
