@@ -1,18 +1,17 @@
 -- The rows of the two outer depths: what the marks and their sums say is the rank of each state, and the two rows lie apart in the map.
-use mathlib.Core.Path.{_≡_, refl, sym, ap, ap₂, subst, _∙_}
+use mathlib.Core.Path.{_≡_, sym, ap, subst, _∙_}
 use mathlib.Core.List.{List}
-use Prim.Native.Nat.{ℕ, zero, suc, _+_, _-_, _*_, _<_, _≤_}
+use Prim.Native.Nat.{ℕ, _+_, _*_, _<_, _≤_}
 use native.Mathlib.Omega.{arith}
-use native.Mathlib.Nat.{suc-mul, mul-le-mul-right, one-mul, zero-add, add-zero}
-use native.Mathlib.Decide.{ℕ-discrete}
+use native.Mathlib.Nat.{suc-mul, mul-le-mul-right, one-mul, zero-add}
 use lib.ListN.{length, getD, set, length-set}
 use lib.Seq.{ext-getD, getD-set-same, getD-set-other}
-use Rattle.trellis.specs.Lists.{run, each, rank}
+use Rattle.trellis.specs.Lists.{rank}
 use Rattle.trellis.specs.Write.{Wrote}
 use Rattle.trellis.proofs.Lists.{length-run, each-at}
 use Rattle.trellis.proofs.Write.{wrote-length, wrote-at, wrote-before, wrote-behind}
-use Rattle.layout.specs.States.{statesOf, Few, Marked, Summed, Bits, Numbered, vertexRow}
-use Rattle.layout.proofs.Marks.{bits-of, numbered}
+use Rattle.layout.specs.States.{statesOf, Few, Marked, Summed, Numbered, vertexRow}
+use Rattle.layout.proofs.Marks.{numbered}
 use Rattle.assemble.specs.Outer.{stateRow, RowPut, Asked, Placed, Put}
 
 row-is : {states ranks : List ℕ} {count : ℕ} → Few states → Numbered states ranks count → vertexRow states ranks ≡ stateRow states

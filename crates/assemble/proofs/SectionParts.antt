@@ -11,14 +11,13 @@ use lib.ListN.{length, getD, length-append}
 use lib.Dec.{eqb}
 use lib.Arith.{lt-of-le-ne}
 use borrow.Author.Tests.{eqb-true, eqb-false}
-use Rattle.trellis.specs.Lists.{each}
 use Rattle.trellis.specs.Layout.{joinedUp}
 use Rattle.trellis.specs.Write.{Wrote}
 use Rattle.trellis.proofs.Lists.{length-run}
 use Rattle.trellis.proofs.Write.{wrote-then, wrote-length}
 use Rattle.layout.specs.States.{marksBelow, markedBelow, Bits}
 use Rattle.layout.specs.Pieces.{stepTakers}
-use Rattle.layout.specs.AllPieces.{stepPairs, stepSymbols, pairs-size, symbols-size, joined-length}
+use Rattle.layout.specs.AllPieces.{stepPairs, stepSymbols, pairs-size, symbols-size}
 use Rattle.assemble.specs.Numbers.{firstOf, numbersOf, Parts}
 
 regroup : (h a b c d e f : List ℕ) → (((((h ++ a) ++ b) ++ c) ++ d) ++ e) ++ f ≡ h ++ (a ++ (b ++ (c ++ (d ++ (e ++ f)))))

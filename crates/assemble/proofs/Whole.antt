@@ -1,34 +1,33 @@
 -- The finished map and the section's numbers are those of our section. The states of an outer depth are its keys, so the rows written there are the
 -- vertices; with the inner rows the map has the vertex of every word at every depth, and then the first words on edges give the edges in order.
-use mathlib.Core.Path.{_≡_, refl, sym, ap, ap₂, subst, _∙_}
+use mathlib.Core.Path.{_≡_, refl, sym, ap, ap₂, _∙_}
 use mathlib.Core.List.{List, [], _∷_, _++_, map, flatMap, map-append}
-use Prim.Native.Nat.{ℕ, zero, suc, _+_, _-_, _*_, _/_, _%_, _<_, _≤_}
+use Prim.Native.Nat.{ℕ, zero, suc, _+_, _*_, _/_, _%_, _<_, _≤_}
 use native.Mathlib.Omega.{arith}
 use native.Mathlib.Nat.{suc-mul, zero-mul, mul-zero, one-mul, zero-add, le-refl, mul-le-mul-right, div-add-mod', div-lt-iff-lt-mul, mod-lt}
-use native.Mathlib.Decide.{ℕ-discrete, decLt}
+use native.Mathlib.Decide.{ℕ-discrete}
 use lib.ListN.{length, getD, length-append, length-map}
-use lib.Seq.{ext-getD}
 use lib.Dec.{ltb}
-use Rattle.trellis.specs.Lists.{run, each, rank, ascending}
+use Rattle.trellis.specs.Lists.{each, rank, ascending}
 use Rattle.trellis.specs.Label.{symbol}
-use Rattle.trellis.specs.Word.{Word, wordAt, Table, Rectangular}
-use Rattle.trellis.specs.Own.{Edge, edge, key, keys, vertexOf, vertexCount, edgeOf, edgesAt, edgeCount}
+use Rattle.trellis.specs.Word.{Word, Rectangular}
+use Rattle.trellis.specs.Own.{Edge, key, keys, vertexOf, vertexCount, edgeOf, edgesAt, edgeCount}
 use Rattle.trellis.specs.Layout.{joinedUp, pairOf, symbolOf, sectionOf}
-use Rattle.trellis.proofs.Lists.{length-run, each-at, flatMap-append, each-same}
+use Rattle.trellis.proofs.Lists.{length-run, flatMap-append, each-same}
 use Rattle.trellis.proofs.Ascending.{numbers, ascending-length}
 use Rattle.trellis.proofs.Paths.{edge-eq}
 use Rattle.trellis.proofs.Vertices.{key-root, key-goal, vertex-below}
 use Rattle.depths.specs.Words.{words, Held}
 use Rattle.depths.specs.Merge.{Sound}
 use Rattle.depths.proofs.Words.{held-length, word-root, word-label, word-goal}
-use Rattle.layout.specs.States.{statesOf, Few, Marked, markedBelow}
+use Rattle.layout.specs.States.{statesOf, Few}
 use Rattle.layout.specs.Takers.{rowEdge, takers}
 use Rattle.layout.specs.Pieces.{SmallMap, stepEdge, stepTakers, stepList}
 use Rattle.layout.specs.AllPieces.{Taken, stepPairs, stepSymbols}
 use Rattle.layout.proofs.FirstWords.{takers-edges}
-use Rattle.layout.proofs.Marks.{marked-are, all-marks}
-use Rattle.assemble.specs.Outer.{Placed, Put}
-use Rattle.assemble.specs.Numbers.{firstOf, numbersOf}
+use Rattle.layout.proofs.Marks.{marked-are}
+use Rattle.assemble.specs.Outer.{Put}
+use Rattle.assemble.specs.Numbers.{numbersOf}
 
 six-long : (a b c d e f : List ℕ) → length (a ++ (b ++ (c ++ (d ++ (e ++ f))))) ≡ length a + (length b + (length c + (length d + (length e + length f))))
 six-long a b c d e f = simp length-append

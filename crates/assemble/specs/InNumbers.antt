@@ -1,11 +1,11 @@
 -- What put_numbers keeps: the numbers that are written so far.
 use mathlib.Core.Path.{_≡_, refl, sym, ap, subst, _∙_}
 use mathlib.Core.List.{List, [], _∷_, _++_}
-use Prim.Native.Nat.{ℕ, zero, suc, _+_, _<_, _≤_}
+use Prim.Native.Nat.{ℕ, _+_, _<_, _≤_}
 use native.Mathlib.Omega.{arith}
 use native.Mathlib.Numerals.{add-one}
 use lib.ListN.{length, getD, set, length-set}
-use Rattle.trellis.specs.Lists.{run, each}
+use Rattle.trellis.specs.Lists.{run}
 use Rattle.trellis.specs.Write.{Wrote}
 use Rattle.trellis.proofs.Lists.{run-snoc}
 use Rattle.trellis.proofs.Write.{wrote-one}

@@ -1,12 +1,10 @@
 // Our section of a table whose inner depths are in the map: the rows of the two outer depths, the edges of all steps, and the section's numbers.
-ghost use mathlib.Core.Path.{_≡_};
-ghost use mathlib.Core.List.{List, [], _∷_};
-ghost use Prim.Native.Nat.{ℕ, suc, _+_, _*_, _<_, _≤_};
-ghost use lib.ListN.{length, getD};
-ghost use Rattle.trellis.specs.Lists.{each};
+ghost use mathlib.Core.List.{[], _∷_};
+ghost use Prim.Native.Nat.{_+_, _*_, _<_, _≤_};
+ghost use lib.ListN.{length};
 ghost use Rattle.trellis.specs.Write.{Wrote};
 ghost use Rattle.layout.specs.States.{Few};
-ghost use Rattle.assemble.specs.Outer.{Asked, Placed, RowPut, Put};
+ghost use Rattle.assemble.specs.Outer.{Asked, RowPut, Put};
 ghost use Rattle.assemble.specs.Numbers.{firstOf, numbersOf, Parts};
 use layout::states;
 

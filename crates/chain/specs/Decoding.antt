@@ -1,6 +1,6 @@
 -- What decoding a chain leaves: document 01's answer and the whole content of the three buffers, from the buffers before the call. The answer is read off
 -- the plain list of all paths in word order: the first of least distance.
-use mathlib.Core.Bool.{Bool, cond}
+use mathlib.Core.Bool.{cond}
 use mathlib.Core.List.{List, _++_, map}
 use Prim.Native.Nat.{ℕ, _-_, _*_, _/_, _%_}
 use lib.Dec.{ltb}

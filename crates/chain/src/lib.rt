@@ -1,9 +1,9 @@
 // Chain decoding: sections one behind another, for each block a section index, a received label and an erasure mask, a start and an end state. `decode`
 // answers for all arguments, by an equation with `decoding`: the outcome of document 01 and the whole content of the three buffers.
 ghost use mathlib.Core.Path.{_≡_};
-ghost use mathlib.Core.Bool.{cond, not};
+ghost use mathlib.Core.Bool.{cond};
 ghost use Prim.Native.Nat.{ℕ, _+_, _*_, _<_, _≤_};
-ghost use lib.ListN.{length, getD, drop};
+ghost use lib.ListN.{length, drop};
 ghost use Rattle.trellis.specs.Lists.{first};
 ghost use Rattle.trellis.specs.Layout.{sectionLength};
 ghost use Rattle.section_file.specs.Usable.{usable, within};

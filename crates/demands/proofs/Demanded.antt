@@ -1,20 +1,17 @@
 -- Merging does what demands 2 and 3 ask of it. Its answer goes by the first witness, which there is exactly if the table is not rectangular. On success the
 -- first numbers of the buffer are our section's; read by the layout they give our counts, vertices and edges, for which demand 3 is proved.
 use mathlib.Core.Path.{_≡_, refl, sym, ap, subst, _∙_}
-use mathlib.Core.Logic.{_↔_}
 use mathlib.Core.List.{List, [], _∷_, _++_}
-use Prim.Native.Nat.{ℕ, _^_, _≤_, _<_}
+use Prim.Native.Nat.{ℕ, _≤_, _<_}
 use native.Mathlib.Omega.{arith}
 use native.Mathlib.Nat.{not-suc-le-zero}
-use lib.ListN.{length, getD, take, drop}
-use lib.Dec.{ltb}
+use lib.ListN.{length, take, drop}
 use borrow.Author.Tests.{le-ltb}
-use Rattle.trellis.specs.Lists.{_∈_, each}
+use Rattle.trellis.specs.Lists.{each}
 use Rattle.trellis.specs.Word.{Word, Rectangular}
-use Rattle.trellis.specs.Own.{keys, vertexCount, edgesAt, edgeCount}
-use Rattle.trellis.specs.Drawn.{Drawing, PathOf, DrawnFor}
-use Rattle.trellis.specs.Demand.{ours, NoFewer}
-use Rattle.trellis.specs.Layout.{qOf, nOf, statesOf, vertexCountOf, edgeCountOf, rootState, goalState, sectionOf, drawingOf}
+use Rattle.trellis.specs.Own.{vertexCount, edgeCount}
+use Rattle.trellis.specs.Demand.{ours}
+use Rattle.trellis.specs.Layout.{qOf, nOf, statesOf, vertexCountOf, edgeCountOf, sectionOf, drawingOf}
 use Rattle.trellis.specs.Witness.{Witness, found, nothing, witness}
 use Rattle.trellis.specs.Outcome.{Outcome, success, notRectangular}
 use Rattle.trellis.proofs.Lists.{of-each}

@@ -6,8 +6,8 @@ use Prim.Native.Nat.{ℕ, suc, _-_, _≤_, _<_}
 use native.Mathlib.Omega.{arith}
 use Rattle.trellis.specs.Lists.{_∈_, Once}
 use Rattle.trellis.specs.Word.{Word}
-use Rattle.trellis.specs.Own.{Edge, edge}
-use Rattle.trellis.specs.Drawn.{Drawing, IsPath, Carries, PathOf, WordOf, Through, HasVertex, HasState, JustOne, DrawnFor}
+use Rattle.trellis.specs.Own.{edge}
+use Rattle.trellis.specs.Drawn.{Drawing, IsPath, Carries, PathOf, JustOne, DrawnFor}
 
 pub record Alike (n : ℕ) (D E : Drawing) : Type 0 where
   pub vertices : (t : ℕ) → t ≤ n → D .vertices t ≡ E .vertices t

@@ -5,7 +5,7 @@ use mathlib.Core.Path.{_≡_, refl, sym, _∙_, ap, ap₂}
 use mathlib.Core.Bool.{Bool, true, false, not}
 use Prim.Native.Nat.{ℕ, zero, suc, _+_, _*_, _/_, _%_, _^_, _<_, _≤_}
 use native.Mathlib.Omega.{arith}
-use native.Mathlib.Nat.{zero-add, add-zero, add-assoc, suc-add, add-suc, pow-suc, pow-succ', div-one, div-div-eq-div-mul, not-suc-le-zero, mod-lt}
+use native.Mathlib.Nat.{zero-add, add-assoc, suc-add, pow-suc, pow-succ', div-one, div-div-eq-div-mul, not-suc-le-zero, mod-lt}
 use native.Mathlib.Decide.{ℕ-discrete}
 use lib.Arith.{mod-mul, digits-div, digits-mod}
 use lib.Bits.{bitAnd, bitXor, xor-self, xor-shr, xor-mod, xor-add-and, and-le-l, and-le-r, and-mask}

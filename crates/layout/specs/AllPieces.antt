@@ -1,7 +1,7 @@
 -- The layout's two arrays over all steps: what the loops over the steps need of the first words, and what they keep.
-use mathlib.Core.Path.{_≡_, refl, sym, ap, ap₂, subst, _∙_}
+use mathlib.Core.Path.{_≡_, refl, sym, ap, subst, _∙_}
 use mathlib.Core.Bool.{Bool, true, false, cond}
-use mathlib.Core.List.{List, [], _∷_, _++_, map, flatMap, map-append}
+use mathlib.Core.List.{List, [], _∷_, _++_, map, flatMap}
 use Prim.Native.Nat.{ℕ, zero, suc, _+_, _-_, _*_, _<_, _≤_}
 use native.Mathlib.Nat.{suc-mul, mul-zero, mul-add, add-zero, zero-add, mul-le-mul-left}
 use native.Mathlib.Omega.{arith}
@@ -9,12 +9,10 @@ use native.Mathlib.Numerals.{add-one}
 use native.Mathlib.Decide.{ℕ-discrete, decLt}
 use lib.ListN.{length, getD, length-append, List·getD-append}
 use lib.Seq.{getD-append-add, ext-getD}
-use Rattle.trellis.specs.Lists.{run}
-use Rattle.trellis.specs.Label.{symbol}
 use Rattle.trellis.specs.Own.{Edge}
 use Rattle.trellis.specs.Layout.{joinedUp, pairOf, symbolOf}
 use Rattle.trellis.specs.Write.{Wrote}
-use Rattle.trellis.proofs.Lists.{length-run, run-at, flatMap-append}
+use Rattle.trellis.proofs.Lists.{length-run, run-at}
 use Rattle.trellis.proofs.Write.{wrote-none, wrote-then, wrote-length, wrote-at}
 use Rattle.layout.specs.Takers.{rowEdge, leadsHigher, takers}
 use Rattle.layout.specs.InSteps.{rows-fit}

@@ -1,12 +1,12 @@
 -- The edges of all steps by their first words, one step behind another, and the two arrays that the layout makes of them.
 use mathlib.Core.Path.{_≡_}
 use mathlib.Core.List.{List, [], _∷_, map, flatMap}
-use Prim.Native.Nat.{ℕ, suc, _+_, _-_, _*_, _<_, _≤_}
+use Prim.Native.Nat.{ℕ, suc, _+_, _*_, _<_, _≤_}
 use lib.ListN.{length, getD}
 use Rattle.trellis.specs.Lists.{run}
 use Rattle.trellis.specs.Label.{symbol}
 use Rattle.trellis.specs.Own.{Edge}
-use Rattle.trellis.specs.Layout.{joinedUp, pairOf, symbolOf}
+use Rattle.trellis.specs.Layout.{joinedUp}
 use Rattle.trellis.specs.Write.{Wrote}
 use Rattle.layout.specs.Takers.{rowEdge, takers}
 

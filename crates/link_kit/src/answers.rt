@@ -1,5 +1,5 @@
 // The kit's answers in numbers: each enum of a layer as document 01's number and values.
-ghost use mathlib.Core.List.{List, [], _∷_};
+ghost use mathlib.Core.List.{[], _∷_};
 ghost use mathlib.Core.Path.{_≡_};
 ghost use Rattle.trellis.specs.Outcome.{outcome};
 ghost use Rattle.merge.specs.Answer.{outcomeOf};

@@ -1,6 +1,6 @@
 -- What the two ways out leave: the text that was made in a buffer of its own is the file's text, whole, since it is short; so its length is known, and
 -- copied to the front of the lent buffer it is there.
-use mathlib.Core.Path.{_≡_, refl, sym, ap, ap₂, subst, _∙_}
+use mathlib.Core.Path.{_≡_, sym, ap, ap₂, subst, _∙_}
 use mathlib.Core.Bool.{Bool, true, false, cond}
 use mathlib.Core.List.{List, _++_}
 use Prim.Native.Nat.{ℕ, _<_, _≤_}

@@ -1,20 +1,18 @@
 -- Buffers of 9,216 and 26,644 numbers are long enough for every table: it has at most 1,024 words and 8 symbols, and its section no more vertices at a
 -- depth and no more edges at a step than the table has words.
-use mathlib.Core.Path.{_≡_, refl, sym, ap, subst, _∙_}
+use mathlib.Core.Path.{_≡_, sym, subst}
 use mathlib.Core.List.{List}
-use Prim.Native.Nat.{ℕ, zero, suc, _+_, _*_, _<_, _≤_}
+use Prim.Native.Nat.{ℕ, zero, suc, _+_, _*_, _≤_}
 use native.Mathlib.Omega.{arith}
 use native.Mathlib.Nat.{mul-le-mul, suc-mul}
 use lib.ListN.{length}
 use Rattle.trellis.specs.Lists.{sum}
 use Rattle.trellis.specs.Word.{Word}
-use Rattle.trellis.specs.Own.{vertexCount, edgeCount}
 use Rattle.trellis.specs.Layout.{nOf, vertexCountOf, edgeCountOf, edgesBefore, rootsPlace, goalsPlace, pairsPlace, symbolsPlace, sectionLength, sectionOf}
 use Rattle.trellis.proofs.Lists.{sum-le}
 use Rattle.trellis.proofs.OwnLaid.{own-n, own-length, own-vertex-count, own-edge-count}
 use Rattle.trellis.proofs.OwnFew.{vertices-few, edges-few}
 use Rattle.table.specs.File.{tableFile, accepted}
-use Rattle.table.specs.Good.{Good}
 use Rattle.table.proofs.Accepted.{accepted-good}
 use Rattle.merge.specs.Merging.{mapLength}
 

@@ -3,7 +3,7 @@
 ghost use mathlib.Core.Path.{_≡_};
 ghost use mathlib.Core.List.{[], _∷_};
 ghost use Prim.Native.Nat.{suc, _+_, _-_, _≤_};
-ghost use lib.ListN.{length, getD};
+ghost use lib.ListN.{length};
 ghost use Rattle.trellis.specs.Outcome.{outcome, notRectangular};
 ghost use Rattle.trellis.specs.Layout.{nOf, joinedUp};
 ghost use Rattle.merge.specs.Answer.{outcomeOf};

@@ -11,7 +11,7 @@ use Rattle.table.specs.declared.Checked.{Checked}
 use Rattle.table.specs.declared.Checked.the-variants.{Table}
 use Rattle.table.proofs.Exactly.{checked-table, checked-refused}
 use Rattle.merge.specs.Answer.{outcomeOf}
-use Rattle.merge.specs.Merging.{Merging, left, mergedFile, merging, mergedTable}
+use Rattle.merge.specs.Merging.{left, mergedFile, merging, mergedTable}
 use Rattle.merge.specs.Stages.{Ends}
 use Rattle.merge.specs.declared.Merged.{Merged}
 use Rattle.merge.proofs.LastStage.{ends-by}

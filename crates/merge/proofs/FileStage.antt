@@ -1,26 +1,23 @@
 -- From a file that is accepted to its words in three lists: the front parts of the arrays hold just the file's words, within all bounds.
 use mathlib.Core.Path.{_≡_, refl, sym, ap, ap₂, subst, _∙_}
-use mathlib.Core.Bool.{Bool, true, false, cond}
-use mathlib.Core.List.{List, [], _∷_, _++_}
-use Prim.Native.Nat.{ℕ, zero, suc, _+_, _-_, _*_, _<_, _≤_}
+use mathlib.Core.List.{List}
+use Prim.Native.Nat.{ℕ, _+_, _*_, _<_, _≤_}
 use native.Mathlib.Omega.{arith}
 use native.Mathlib.Nat.{mul-comm, mul-le-mul}
 use native.Mathlib.Numerals.{add-one}
 use lib.ListN.{length, getD, take}
 use lib.Seq.{length-take-le, getD-take, ext-getD}
-use lib.Dec.{ltb}
 use borrow.Author.Tests.{lt-ltb, le-ltb}
 use Rattle.trellis.specs.Word.{Word, word, wordAt, Table}
 use Rattle.trellis.specs.Outcome.{shortMap}
 use Rattle.trellis.specs.Witness.{witness}
 use Rattle.trellis.proofs.Words.{word-in, word-eq}
-use Rattle.table.specs.File.{TableFile, accepted, tableFile, fileWord, fileWords, wordCount}
+use Rattle.table.specs.File.{accepted, tableFile, fileWords}
 use Rattle.table.specs.Good.{Good}
 use Rattle.table.proofs.Accepted.{accepted-good, good-at}
-use Rattle.depths.specs.Words.{words, Held}
+use Rattle.depths.specs.Words.{words}
 use Rattle.depths.proofs.Words.{word-is, words-length}
-use Rattle.layout.specs.States.{Few}
-use Rattle.merge.specs.Merging.{Merging, left, mapLength, merged, mergedTable}
+use Rattle.merge.specs.Merging.{mapLength, merged, mergedTable}
 use Rattle.merge.specs.Stages.{Ends, Words, Copied}
 use Rattle.merge.specs.declared.Merged.{Merged}
 use Rattle.merge.specs.declared.Merged.the-variants.{ShortMap}

@@ -1,18 +1,17 @@
 -- At the first inner depth that is not rectangular there is a witness, and it is the table's: no witness is at a smaller depth, since those are
 -- rectangular, and a depth without a witness is rectangular.
-use mathlib.Core.Path.{_≡_, refl, sym, ap, subst, _∙_}
+use mathlib.Core.Path.{_≡_, refl, sym, ap, _∙_}
 use mathlib.Core.Bool.{Bool, true, false}
-use mathlib.Core.Logic.{_↔_}
 use mathlib.Core.List.{List}
-use Prim.Native.Nat.{ℕ, zero, suc, _+_, _-_, _*_, _≤_, _<_}
+use Prim.Native.Nat.{ℕ, _-_, _≤_, _<_}
 use native.Mathlib.Omega.{arith}
-use native.Mathlib.Decide.{decLt, ℕ-discrete}
+use native.Mathlib.Decide.{decLt}
 use lib.ListN.{length}
 use lib.Dec.{T}
 use Rattle.trellis.specs.Lists.{_∈_, isIn}
-use Rattle.trellis.specs.Word.{Word, wordAt, sameWord, beginning, ending, joined, RectangularAt, Rectangular}
+use Rattle.trellis.specs.Word.{Word, wordAt, sameWord, beginning, ending, joined, RectangularAt}
 use Rattle.trellis.specs.Outcome.{Outcome, notRectangular}
-use Rattle.trellis.specs.Witness.{Witness, found, nothing, when, refutes, firstOf, overK, overJ, witnessAt, witness, Refuted, FirstRefuted}
+use Rattle.trellis.specs.Witness.{Witness, found, nothing, when, refutes, overK, overJ, witnessAt, witness, Refuted}
 use Rattle.trellis.proofs.Bools.{holds, fails}
 use Rattle.trellis.proofs.Lists.{in-yes, in-of}
 use Rattle.trellis.proofs.Words.{same-yes, same-self, word-in, rectangular-by}

@@ -1,22 +1,20 @@
 -- From the inner depths on: where they are all rectangular the last stage follows, and else the refusal with its witness. Writing inner rows leaves what
 -- stands beyond the map as it was, so both ends are the same for the buffer as it was before.
 use mathlib.Core.Path.{_≡_, refl, sym, ap, ap₂, subst, _∙_}
-use mathlib.Core.Bool.{Bool, true, false, cond}
-use mathlib.Core.Logic.{_↔_}
-use mathlib.Core.List.{List, [], _∷_, _++_}
-use Prim.Native.Nat.{ℕ, zero, suc, _+_, _-_, _*_, _<_, _≤_}
+use mathlib.Core.List.{List}
+use Prim.Native.Nat.{ℕ, zero, suc, _+_, _*_}
 use native.Mathlib.Omega.{arith}
 use native.Mathlib.Nat.{mul-comm, suc-mul}
 use native.Mathlib.Numerals.{add-one}
-use lib.ListN.{length, getD, replicate, length-replicate}
-use Rattle.trellis.specs.Word.{Word, Rectangular}
+use lib.ListN.{length, replicate, length-replicate}
+use Rattle.trellis.specs.Word.{Word}
 use Rattle.trellis.specs.Witness.{Witness, found, nothing, witness}
 use Rattle.trellis.proofs.Witness.{witness-none}
-use Rattle.depths.specs.Words.{words, Held}
-use Rattle.depths.specs.Merge.{Sound, FirstRefused, Found, InnerDone}
+use Rattle.depths.specs.Words.{words}
+use Rattle.depths.specs.Merge.{FirstRefused, Found, InnerDone}
 use Rattle.depths.proofs.Words.{held-length}
 use Rattle.merge.specs.Answer.{outcomeOf}
-use Rattle.merge.specs.Merging.{Merging, left, over, mapOf, mapLength, refusalOf, written, merged}
+use Rattle.merge.specs.Merging.{over, mapOf, mapLength, refusalOf, written, merged}
 use Rattle.merge.specs.Stages.{Ends, cleared, Words, Inside, Refused}
 use Rattle.merge.specs.declared.Merged.{Merged}
 use Rattle.merge.proofs.MapRows.{over-same, map-length}

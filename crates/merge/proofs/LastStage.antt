@@ -2,33 +2,31 @@
 use mathlib.Core.Path.{_≡_, refl, sym, ap, ap₂, subst, _∙_}
 use mathlib.Core.Bool.{Bool, true, false, cond}
 use mathlib.Core.List.{List, [], _∷_, _++_}
-use Prim.Native.Nat.{ℕ, zero, suc, _+_, _-_, _*_, _<_, _≤_}
+use Prim.Native.Nat.{ℕ, zero, suc, _+_, _*_, _<_, _≤_}
 use native.Mathlib.Omega.{arith}
-use native.Mathlib.Nat.{mul-le-mul, suc-mul}
+use native.Mathlib.Nat.{mul-le-mul}
 use lib.ListN.{length, getD, length-append, replicate, length-replicate}
-use lib.Dec.{ltb, leb}
+use lib.Dec.{leb}
 use borrow.Author.Tests.{lt-ltb, le-ltb, le-leb}
-use Rattle.trellis.specs.Word.{Word, Table, Rectangular}
+use Rattle.trellis.specs.Word.{Word, Rectangular}
 use Rattle.trellis.specs.Layout.{joinedUp, sectionOf}
 use Rattle.trellis.specs.Write.{Wrote}
 use Rattle.trellis.proofs.Write.{wrote-front}
 use Rattle.depths.specs.Words.{words, Held}
-use Rattle.depths.specs.Merge.{Sound}
 use Rattle.depths.proofs.Words.{held-length}
-use Rattle.layout.specs.States.{marksBelow}
 use Rattle.layout.specs.Pieces.{SmallMap, stepEdge, stepTakers, AllTaken}
 use Rattle.layout.specs.AllPieces.{Taken, taken-all, joined-rise}
 use Rattle.layout.proofs.Marks.{bits-of, all-marks}
 use Rattle.assemble.specs.Outer.{Put}
 use Rattle.assemble.specs.Numbers.{numbersOf, Parts}
-use Rattle.assemble.proofs.Whole.{complete, few-counts, small, numbers-are, section-length, root-states, goal-states}
+use Rattle.assemble.proofs.Whole.{complete, few-counts, small, numbers-are, section-length}
 use Rattle.merge.specs.Merging.{Merging, left, over, mapOf, written}
 use Rattle.trellis.specs.Outcome.{Outcome, success, shortSection}
 use Rattle.trellis.specs.Own.{Edge}
 use Rattle.layout.specs.Takers.{highest, leadsHigher, takers}
 use Rattle.merge.specs.Answer.{outcomeOf}
 use Rattle.merge.specs.declared.Merged.{Merged}
-use Rattle.merge.specs.Stages.{Ends, Words, Inside}
+use Rattle.merge.specs.Stages.{Ends, Inside}
 use Rattle.merge.specs.declared.Merged.the-variants.{Section, ShortSection}
 use Rattle.merge.proofs.MapRows.{map-is}
 

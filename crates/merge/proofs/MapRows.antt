@@ -1,10 +1,10 @@
 -- The map row by row: a buffer that has each word's vertex at each depth in its front, and beyond it what stood there, is the map over that buffer.
 -- Place j of the front is of word j % W at depth j / W.
-use mathlib.Core.Path.{_≡_, refl, sym, ap, ap₂, subst, _∙_}
-use mathlib.Core.List.{List, [], _∷_, _++_}
+use mathlib.Core.Path.{_≡_, sym, ap, _∙_}
+use mathlib.Core.List.{List, _++_}
 use Prim.Native.Nat.{ℕ, zero, suc, _+_, _-_, _*_, _/_, _%_, _<_, _≤_}
 use native.Mathlib.Omega.{arith}
-use native.Mathlib.Nat.{suc-mul, mul-comm, mul-zero, zero-mul, mul-le-mul-right, div-add-mod', div-lt-iff-lt-mul, mod-lt}
+use native.Mathlib.Nat.{suc-mul, zero-mul, mul-le-mul-right, div-add-mod', div-lt-iff-lt-mul, mod-lt}
 use native.Mathlib.Decide.{ℕ-discrete, decLt}
 use lib.ListN.{length, getD, drop, length-append, length-drop, List·getD-append}
 use lib.Seq.{ext-getD, getD-append-add, getD-drop}
@@ -13,7 +13,7 @@ use Rattle.trellis.specs.Word.{Word}
 use Rattle.trellis.specs.Own.{vertexOf}
 use Rattle.trellis.specs.Layout.{joinedUp}
 use Rattle.trellis.proofs.Lists.{length-run, each-at}
-use Rattle.merge.specs.Merging.{over, mapOf, mapLength}
+use Rattle.merge.specs.Merging.{over, mapOf}
 
 -- ---- rows of one length
 

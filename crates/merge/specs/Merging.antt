@@ -1,6 +1,6 @@
 -- What merging a table file leaves: document 01's answer and the whole content of both buffers, from the file's bytes and the buffers before the call.
 -- Everything here computes.
-use mathlib.Core.Bool.{Bool, true, false, cond}
+use mathlib.Core.Bool.{cond}
 use mathlib.Core.List.{List, _++_}
 use Prim.Native.Nat.{ℕ, suc, _+_, _*_}
 use lib.ListN.{length, drop, replicate}

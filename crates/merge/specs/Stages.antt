@@ -1,11 +1,9 @@
 -- What each stage of merging asks and leaves.
 use mathlib.Core.Path.{_≡_}
 use mathlib.Core.List.{List}
-use Prim.Native.Nat.{ℕ, suc, _+_, _*_, _<_, _≤_}
+use Prim.Native.Nat.{ℕ, suc, _*_, _<_, _≤_}
 use lib.ListN.{length, getD, replicate}
-use Rattle.trellis.specs.Word.{Word, Rectangular}
 use Rattle.table.specs.File.{fileWord}
-use Rattle.table.specs.Good.{Good}
 use Rattle.depths.specs.Words.{words, Held}
 use Rattle.depths.specs.Merge.{Sound, FirstRefused}
 use Rattle.layout.specs.States.{Few}

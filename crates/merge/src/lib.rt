@@ -1,9 +1,8 @@
 // Merging: a table file becomes the map of its words' vertices and the smallest section that has just its words. The promise, for all arguments, is an
 // equation with one definition, `merging`: the answer with document 01's number and values, and every place of both buffers.
 ghost use mathlib.Core.Path.{_≡_};
-ghost use mathlib.Core.List.{List};
-ghost use Prim.Native.Nat.{ℕ, suc, _+_, _*_, _<_, _≤_};
-ghost use lib.ListN.{length, getD};
+ghost use Prim.Native.Nat.{_+_, _*_, _<_, _≤_};
+ghost use lib.ListN.{length};
 ghost use Rattle.trellis.specs.Witness.{witness};
 ghost use Rattle.table.specs.File.{accepted, tableFile, fileWords};
 ghost use Rattle.depths.specs.Words.{words};

@@ -1,7 +1,7 @@
 -- One section as the theory of paths takes it: its edges keep the bounds, numbers in a run stand in order, and a state has at most one root.
 use mathlib.Core.Path.{_≡_, sym, subst}
 use mathlib.Core.List.{List}
-use Prim.Native.Nat.{ℕ, zero, suc, _+_, _≤_, _<_}
+use Prim.Native.Nat.{ℕ, zero, suc, _+_, _<_}
 use native.Mathlib.Omega.{arith}
 use lib.Dec.{T, eqb, eqb→eq, eqb-refl}
 use Rattle.trellis.specs.Lists.{_∈_, run, first}

@@ -1,19 +1,19 @@
 -- Chains: the numbers `chainLeast` are the cost table, and where there is a path they name the first one of least distance, block by block from the
 -- first. This is the law of graphs, read for a chain: its edges are words, its vertices states.
-use mathlib.Core.Path.{_≡_, refl, sym, ap, ap₂, _∙_}
+use mathlib.Core.Path.{_≡_, refl, sym, ap, _∙_}
 use mathlib.Core.Bool.{Bool, true, false, cond}
 use mathlib.Core.List.{List, [], _∷_}
 use Prim.Native.Nat.{ℕ, zero, suc, _+_, _*_, _≤_, _<_}
 use native.Mathlib.Omega.{arith}
 use Rattle.trellis.specs.Word.{Word}
 use Rattle.paths.specs.Choice.{Choice, none, some, choose, extend, chooseAll, best}
-use Rattle.paths.specs.Graph.{Graph, paths}
-use Rattle.paths.specs.Costs.{capped, least, trace}
-use Rattle.paths.specs.Chain.{rootedAt, chainGraph, chainPaths, pathDistance, bestPath, costTable, atEnd, chainLeast, chainTrace}
+use Rattle.paths.specs.Graph.{paths}
+use Rattle.paths.specs.Costs.{capped}
+use Rattle.paths.specs.Chain.{chainGraph, chainPaths, pathDistance, bestPath, costTable, atEnd, chainLeast, chainTrace}
 use Rattle.paths.proofs.First.{best-none}
 use Rattle.paths.proofs.Walk.{Prices, ahead, ahead-best}
 use Rattle.paths.proofs.Capped.{least-ahead, capped-had, capped-is, capped-none, capped-le, AtMost, ahead-at-most}
-use Rattle.paths.proofs.Trace.{trace-best, Extended, onward}
+use Rattle.paths.proofs.Trace.{trace-best, onward}
 
 unfoldable chainPrices : (words : ℕ → List Word) (ends : ℕ → Bool) → (ℕ → Word → ℕ) → Prices (chainGraph words ends)
 unfolding pathDistance extend

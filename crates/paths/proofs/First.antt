@@ -8,7 +8,7 @@ use native.Mathlib.Omega.{arith}
 use native.Mathlib.Decide.{decLe}
 use Rattle.trellis.specs.Lists.{_∈_}
 use Rattle.paths.specs.Choice.{Choice, none, some, choose, chooseAll, best}
-use Rattle.paths.proofs.Choose.{choose-left, choose-right, best-append}
+use Rattle.paths.proofs.Choose.{choose-left, choose-right}
 
 none-some : {P : Type 0} {c : ℕ} {p : P} (a : Choice P) → a ≡ none → a ≡ some c p → ⊥
 none-some a e h = let z : _≡_ {A = ℕ} 0 1 = cc in omega arith

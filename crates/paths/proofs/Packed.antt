@@ -1,7 +1,7 @@
 -- The cost of a path's symbols, read off its packed label: symbol by symbol the label gives back what was packed.
 use mathlib.Core.Path.{_≡_, refl, sym, ap, ap₂, _∙_}
-use mathlib.Core.List.{List, [], _∷_}
-use Prim.Native.Nat.{ℕ, zero, suc, _+_, _-_, _*_, _/_, _%_, _^_, _<_}
+use mathlib.Core.List.{List, _∷_}
+use Prim.Native.Nat.{ℕ, suc, _+_, _-_, _*_, _/_, _%_, _^_}
 use native.Mathlib.Nat.{div-one, pow-suc, div-div-eq-div-mul}
 use native.Mathlib.Omega.{arith}
 use Rattle.trellis.specs.Lists.{sum}

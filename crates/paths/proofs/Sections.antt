@@ -1,23 +1,22 @@
 -- One section: its paths are those of its graph, so the numbers `sectionLeast` are the least costs of all paths from a vertex, and `sectionTrace` is
 -- the first path of least cost. All of it is the law of graphs, read for a section.
 use mathlib.Core.Path.{_≡_, refl, sym, ap, _∙_}
-use mathlib.Core.List.{List, [], _∷_, map, flatMap}
-use mathlib.Core.Option.{Option, some as just}
-use Prim.Native.Nat.{ℕ, zero, suc, _≤_, _<_}
-use native.Mathlib.Omega.{arith}
+use mathlib.Core.List.{List, map, flatMap}
+use mathlib.Core.Option.{some as just}
+use Prim.Native.Nat.{ℕ, zero, suc, _<_}
 use lib.Dec.{eqb, eqb→eq}
 use Rattle.trellis.specs.Lists.{_∈_}
 use Rattle.trellis.specs.Own.{Edge}
 use Rattle.trellis.specs.Section.{Path, stop, along, leaving, pathsFrom}
-use Rattle.paths.specs.Choice.{Choice, none, some, extend, chooseAll}
-use Rattle.paths.specs.Graph.{Graph, paths}
+use Rattle.paths.specs.Choice.{Choice, some, extend, chooseAll}
+use Rattle.paths.specs.Graph.{paths}
 use Rattle.paths.specs.Costs.{capped, plus, minAll, least, firstWith, next, orStop, trace}
 use Rattle.paths.specs.Sections.{sectionGraph, edgeCost, costFrom, sectionLeast, sectionTrace}
 use Rattle.paths.proofs.Choose.{choose-none, extend-extend}
 use Rattle.paths.proofs.Ordered.{of-keep}
 use Rattle.paths.proofs.Walk.{Prices, ahead, ahead-best}
 use Rattle.paths.proofs.Capped.{capped-keep, least-ahead}
-use Rattle.paths.proofs.Trace.{Least, least-found, trace-best, extended, Reached, reached}
+use Rattle.paths.proofs.Trace.{trace-best, extended, reached}
 
 -- the edges that leave a vertex are listed, and start there
 pub from-of : (v : ℕ) (es : List Edge) (e : Edge) → e ∈ leaving v es → e .from ≡ v

@@ -2,7 +2,7 @@
 -- here; the chosen edge adds up so, and each edge before it is dearer, so it is that first one.
 use mathlib.Core.Path.{_≡_, refl, sym, ap, ap₂, subst, _∙_}
 use mathlib.Core.Bool.{Bool, true, false, cond}
-use mathlib.Core.Option.{Option, none as nothing, some as just}
+use mathlib.Core.Option.{some as just}
 use mathlib.Core.List.{List, [], _∷_, _++_, List·Memᴰ, List·Memᴰ·head, List·Memᴰ·tail, Memᴰ·append-left}
 use Prim.Native.Nat.{ℕ, zero, suc, _+_, _≤_, _<_, min}
 use native.Mathlib.Omega.{arith}
@@ -15,7 +15,7 @@ use Rattle.paths.specs.Graph.{Graph}
 use Rattle.paths.specs.Costs.{capped, plus, minAll, least, firstWith, next, orStop, trace}
 use Rattle.paths.proofs.First.{Chosen, all-chosen, chosen-in}
 use Rattle.paths.proofs.Walk.{Prices, ahead}
-use Rattle.paths.proofs.Capped.{least-ahead, capped-extend, capped-is, capped-above, min-all-le}
+use Rattle.paths.proofs.Capped.{least-ahead, capped-extend, capped-is, capped-above}
 
 pub first-hit : {A : Type 0} (test : A → Bool) (front : List A) (x : A) (back : List A) → ((y : A) → y ∈ front → test y ≡ false) → test x ≡ true
     → firstWith test (front ++ (x ∷ back)) ≡ just x

@@ -1,7 +1,7 @@
 -- The dynamic program, for any graph of steps: what is best from a vertex follows from what is best one step on. All paths are the edge's own paths
 -- joined over the edges, and the laws of choosing go through both.
 use mathlib.Core.Path.{_≡_, refl, sym, ap, _∙_}
-use mathlib.Core.List.{List, map, flatMap}
+use mathlib.Core.List.{List, map}
 use Prim.Native.Nat.{ℕ, zero, suc}
 use Rattle.paths.specs.Choice.{Choice, extend, chooseAll}
 use Rattle.paths.specs.Graph.{Graph, paths}

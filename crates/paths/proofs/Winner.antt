@@ -3,16 +3,16 @@
 use mathlib.Core.Path.{_≡_, refl, sym, ap, subst, subst₂, _∙_}
 use mathlib.Core.Bool.{Bool, true, false, cond}
 use mathlib.Core.Logic.{inl, inr}
-use mathlib.Core.List.{List, [], _∷_, map, flatMap, List·Memᴰ·head, List·Memᴰ·not-nil, List·Memᴰ·eq-of-singleton, Memᴰ·map, Memᴰ·of-map}
+use mathlib.Core.List.{List, [], _∷_, map, List·Memᴰ·head, List·Memᴰ·not-nil, List·Memᴰ·eq-of-singleton, Memᴰ·map, Memᴰ·of-map}
 use Prim.Native.Nat.{ℕ, zero, suc, _+_, _≤_, _<_}
 use native.Mathlib.Omega.{arith}
 use native.Mathlib.Nat.{add-zero, add-suc, suc-add}
-use lib.ListN.{length, getD}
+use lib.ListN.{length}
 use lib.Dec.{eqb, eqb→eq}
 use borrow.Author.Tests.{eq-eqb}
-use Rattle.trellis.specs.Lists.{_∈_, keep}
-use Rattle.trellis.specs.Word.{Word, Before, word, wordAt}
-use Rattle.paths.specs.Choice.{Choice, some, best}
+use Rattle.trellis.specs.Lists.{_∈_}
+use Rattle.trellis.specs.Word.{Word, Before, wordAt}
+use Rattle.paths.specs.Choice.{some}
 use Rattle.paths.specs.Graph.{paths}
 use Rattle.paths.specs.Chain.{rootedAt, chainGraph, chainPaths, pathDistance, bestPath, Linked, IsPath, ChainBefore, Winner}
 use Rattle.paths.proofs.First.{best-first, first-in, first-least}

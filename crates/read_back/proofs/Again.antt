@@ -1,20 +1,19 @@
 -- Reading back what merging wrote gives the very file that was merged, byte for byte: our section of an accepted rectangular table is usable, its
 -- words are the table's words, and the bytes of those words are the file. Each byte of the file stands at the place where the file's layout says.
 use mathlib.Core.Path.{_≡_, refl, sym, ap, ap₂, subst, _∙_}
-use mathlib.Core.Bool.{Bool, true, false, not, cond, _&&_}
+use mathlib.Core.Bool.{true, cond}
 use mathlib.Core.List.{List, [], _∷_, _++_, flatMap}
-use Prim.Native.Nat.{ℕ, zero, suc, _+_, _*_, _/_, _%_, _≤_, _<_}
+use Prim.Native.Nat.{ℕ, zero, suc, _+_, _*_, _/_, _%_, _<_}
 use native.Mathlib.Omega.{arith}
 use native.Mathlib.Nat.{add-zero, add-suc, suc-add, zero-add}
 use lib.ListN.{length, getD, drop}
 use lib.Seq.{ext-getD}
-use lib.Dec.{ltb, eqb}
+use lib.Dec.{ltb}
 use borrow.Author.Tests.{le-ltb, eq-eqb}
-use Rattle.trellis.specs.Lists.{_∈_, run, each}
-use Rattle.trellis.specs.Label.{symbol}
+use Rattle.trellis.specs.Lists.{run}
 use Rattle.trellis.specs.Word.{Word, Rectangular}
 use Rattle.trellis.specs.Outcome.{success, shortBuffer}
-use Rattle.trellis.specs.Layout.{sectionLength, sectionWords, sectionOf}
+use Rattle.trellis.specs.Layout.{sectionLength, sectionOf}
 use Rattle.trellis.proofs.Lists.{length-run, run-at}
 use Rattle.trellis.proofs.OwnLaid.{own-q, own-n, own-states, own-length}
 use Rattle.label.proofs.Packing.{label-packed}
@@ -24,7 +23,7 @@ use Rattle.table.proofs.Accepted.{accepted-good}
 use Rattle.section_file.proofs.Own.{Fitting, own-usable}
 use Rattle.section_file.proofs.OwnWords.{own-section-words}
 use Rattle.read_back.specs.TableBytes.{bytesOf, pairBytes, labelBytes, tableBytes}
-use Rattle.read_back.specs.ReadingBack.{ReadingBack, leaves, isSection, readingBack}
+use Rattle.read_back.specs.ReadingBack.{leaves, isSection, readingBack}
 
 -- ---- the file from its bytes
 

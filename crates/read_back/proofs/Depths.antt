@@ -1,14 +1,14 @@
 -- The words found depth by depth, as the code finds them: at each depth the array holds the beginnings up to there, so at depth n it holds the words;
 -- where the beginnings of one depth are too many, the words are, since there are no fewer of them.
-use mathlib.Core.Path.{_≡_, refl, sym, ap, ap₂, subst, _∙_}
-use mathlib.Core.List.{List, [], _∷_, _++_, map, map-map, flatMap}
+use mathlib.Core.Path.{_≡_, refl, sym, ap, ap₂, _∙_}
+use mathlib.Core.List.{List, _∷_, map, map-map, flatMap}
 use Prim.Native.Nat.{ℕ, zero, suc, _+_, _-_, _*_, _≤_, _<_}
 use native.Mathlib.Omega.{arith}
 use native.Mathlib.Nat.{zero-add}
 use native.Mathlib.Numerals.{add-one}
 use lib.ListN.{length, getD, take, length-map}
 use Rattle.trellis.specs.Lists.{sum, run, each}
-use Rattle.trellis.specs.Layout.{nOf, statesOf, vertexCountOf, edgeCountOf, edgesBefore, rootsPlace, pairsPlace, symbolsPlace, rootState, stepEdges}
+use Rattle.trellis.specs.Layout.{nOf, vertexCountOf, edgeCountOf, edgesBefore, rootsPlace, pairsPlace, symbolsPlace, rootState}
 use Rattle.trellis.proofs.Lists.{length-run, sum-last}
 use Rattle.section_file.specs.Sound.{Sound}
 use Rattle.section_file.specs.Answer.{edgeAt}

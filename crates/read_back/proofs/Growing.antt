@@ -2,25 +2,22 @@
 -- note of a vertex is where its edges begin, and the first edge of another vertex ends them. What is put into the array is, at every moment, what
 -- has been passed of the list that is to be put there.
 use mathlib.Core.Path.{_≡_, refl, sym, ap, ap₂, subst, _∙_}
-use mathlib.Core.Bool.{Bool, true, false, cond}
 use mathlib.Core.List.{List, [], _∷_, _++_, append-nil, append-assoc, map, flatMap}
-use Prim.Native.Nat.{ℕ, zero, suc, _+_, _-_, _*_, _/_, _%_, _≤_, _<_}
+use Prim.Native.Nat.{ℕ, zero, suc, _+_, _-_, _*_, _/_, _≤_, _<_}
 use native.Mathlib.Omega.{arith}
-use native.Mathlib.Nat.{add-zero, zero-add, sub-self, not-suc-le-zero, le-of-eq}
+use native.Mathlib.Nat.{zero-add, le-of-eq}
 use native.Mathlib.Numerals.{add-one}
-use native.Mathlib.Decide.{ℕ-discrete, decLe}
+use native.Mathlib.Decide.{ℕ-discrete}
 use lib.ListN.{length, getD, set, take, replicate, length-append, length-set, length-replicate, getD-replicate, length-map}
-use lib.Seq.{getD-set-same, getD-set-other, take-suc, take-suc-set, take-all, length-take-le}
-use lib.Dec.{eqb}
+use lib.Seq.{getD-set-same, getD-set-other, take-suc, take-suc-set}
 use borrow.Author.Tests.{eq-eqb, ne-eqb}
 use Rattle.trellis.specs.Lists.{run, each}
 use Rattle.trellis.specs.Own.{Edge, edge}
 use Rattle.trellis.specs.Section.{leaving}
-use Rattle.trellis.proofs.Lists.{run-snoc, flatMap-append, length-run}
+use Rattle.trellis.proofs.Lists.{run-snoc, flatMap-append}
 use Rattle.label.specs.Labels.{appended}
-use Rattle.section_file.specs.Answer.{edgeAt}
-use Rattle.read_back.specs.Levels.{code, rootOf, vertexOf, labelOf, furtherCode, grownCodes}
-use Rattle.read_back.specs.Growing.{Made, StepIn, BeginsAt, Starts, FirstLevel, RootCodes}
+use Rattle.read_back.specs.Levels.{code, vertexOf, labelOf, furtherCode}
+use Rattle.read_back.specs.Growing.{Made, BeginsAt, Starts, FirstLevel, RootCodes}
 use Rattle.read_back.proofs.Lists.{run-cons, run-none, leaving-yes, leaving-no, leaving-none}
 
 -- ---- one beginning further along one edge

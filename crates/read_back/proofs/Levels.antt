@@ -2,26 +2,25 @@
 -- words that go on from it, in their order; going one step further only splits them up by their next edge, so the list of words stays the same.
 -- In a usable section every vertex has an edge onward, so there are no fewer beginnings at a later depth.
 use mathlib.Core.Path.{_≡_, refl, sym, ap, ap₂, subst, _∙_}
-use mathlib.Core.Bool.{Bool, true}
-use mathlib.Core.List.{List, [], _∷_, _++_, map, map-map, flatMap, List·Memᴰ·head, List·Memᴰ·not-nil, Memᴰ·of-map}
-use Prim.Native.Nat.{ℕ, zero, suc, _+_, _*_, _/_, _%_, _^_, _≤_, _<_}
+use mathlib.Core.List.{List, [], _∷_, map, map-map, flatMap, List·Memᴰ·not-nil, Memᴰ·of-map}
+use Prim.Native.Nat.{ℕ, zero, suc, _+_, _*_, _^_, _≤_, _<_}
 use native.Mathlib.Omega.{arith}
-use native.Mathlib.Nat.{add-zero, add-suc, suc-add, pow-suc, pow-le-pow-right}
+use native.Mathlib.Nat.{add-zero, pow-suc, pow-le-pow-right}
 use lib.Dec.{lit<, eqb}
 use lib.ListN.{length, length-map}
 use borrow.Author.Tests.{eq-eqb}
-use Rattle.trellis.specs.Lists.{_∈_, run, each}
+use Rattle.trellis.specs.Lists.{_∈_, each}
 use Rattle.trellis.specs.Word.{Word, word}
 use Rattle.trellis.specs.Own.{Edge}
-use Rattle.trellis.specs.Section.{Path, stop, along, leaving, pathsFrom, packOnto, wordOf, wordsOf}
-use Rattle.trellis.specs.Layout.{nOf, statesOf, vertexCountOf, edgeCountOf, edgesBefore, rootState, goalState, edgeNumber, stepEdges, sectionWords}
-use Rattle.trellis.proofs.Lists.{From, of-each, in-run}
+use Rattle.trellis.specs.Section.{along, leaving, pathsFrom, packOnto, wordOf, wordsOf}
+use Rattle.trellis.specs.Layout.{nOf, vertexCountOf, edgeCountOf, edgesBefore, rootState, goalState, edgeNumber, stepEdges, sectionWords}
+use Rattle.trellis.proofs.Lists.{of-each, in-run}
 use Rattle.label.specs.Labels.{appended}
 use Rattle.label.proofs.Appending.{appended-is}
 use Rattle.paths.proofs.Ordered.{of-flatMap, in-keep}
 use Rattle.paths.proofs.Sections.{listed-of}
 use Rattle.section_file.specs.Usable.{stepEdge}
-use Rattle.section_file.specs.Sound.{Hit, Sound}
+use Rattle.section_file.specs.Sound.{Sound}
 use Rattle.section_file.proofs.Words.{edge-from}
 use Rattle.read_back.specs.Levels.{Begun, begun, further, grown, finished, level, code, coded, rootOf, vertexOf, labelOf, furtherCode, grownCodes}
 use Rattle.read_back.proofs.Lists.{map-same, flatMap-same, flatMap-one, flatMap-more, flatMap-map, map-flatMap, flatMap-flatMap}

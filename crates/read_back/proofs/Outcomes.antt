@@ -1,22 +1,21 @@
 -- The ways that reading back ends, each from the tests that lead there: what the code leaves is what the definition says. The words found are the
 -- section's words, and of words whose numbers fit, the bytes put into the buffer are those of the table file.
-use mathlib.Core.Path.{_≡_, refl, sym, ap, ap₂, subst, _∙_}
-use mathlib.Core.Bool.{Bool, true, false, not, cond}
+use mathlib.Core.Path.{_≡_, sym, ap, ap₂, _∙_}
+use mathlib.Core.Bool.{Bool, true, false, not}
 use mathlib.Core.List.{List, [], _∷_, _++_, map, flatMap}
-use Prim.Native.Nat.{ℕ, zero, suc, _+_, _*_, _%_, _/_, _≤_, _<_}
+use Prim.Native.Nat.{ℕ, _+_, _*_, _≤_, _<_}
 use native.Mathlib.Omega.{arith}
 use native.Mathlib.Nat.{mod-eq-of-lt}
 use lib.ListN.{length, getD, take, drop}
 use borrow.Author.Tests.{lt-ltb, le-ltb, not-true, not-false}
 use Rattle.trellis.specs.Lists.{_∈_}
-use Rattle.trellis.specs.Word.{Word, word}
 use Rattle.trellis.specs.Outcome.{success, badSection, shortBuffer, tooManyWords}
-use Rattle.trellis.specs.Layout.{qOf, nOf, statesOf, vertexCountOf, goalsPlace, goalState, sectionWords}
+use Rattle.trellis.specs.Layout.{qOf, nOf, statesOf, goalsPlace, goalState, sectionWords}
 use Rattle.section_file.specs.Sound.{Sound}
 use Rattle.section_file.proofs.Usable.{usable-sound}
 use Rattle.read_back.specs.TableBytes.{bytesOf, pairBytes, labelBytes, tableBytes}
-use Rattle.read_back.specs.ReadingBack.{ReadingBack, leaves, isSection, readingBack}
-use Rattle.read_back.specs.Levels.{Begun, finished, level, coded, rootOf, vertexOf, labelOf}
+use Rattle.read_back.specs.ReadingBack.{leaves, isSection, readingBack}
+use Rattle.read_back.specs.Levels.{Begun, finished, level, coded, rootOf, vertexOf}
 use Rattle.read_back.specs.Growing.{PlacesOf, Gathered, byteOf, pairOfCode, labelOfCode, fileOfCodes}
 use Rattle.read_back.proofs.Lists.{flatMap-same, flatMap-map}
 use Rattle.read_back.proofs.Levels.{words-are, words-count, Fit, level-fits, fit-vertex, fit-label, root-coded, vertex-coded, label-coded}

@@ -1,32 +1,28 @@
 -- A section that fills its list: where its parts stand, and what the code's arithmetic finds of its steps. Behind the place of the pairs stand three
 -- numbers an edge, so a third of what is left counts the edges.
-use mathlib.Core.Path.{_≡_, refl, sym, ap, subst, _∙_}
+use mathlib.Core.Path.{_≡_, refl, sym, ap, _∙_}
 use mathlib.Core.Bool.{Bool, true, false, not, cond, _&&_}
-use mathlib.Core.List.{List, map, flatMap}
+use mathlib.Core.List.{List}
 use Prim.Native.Nat.{ℕ, zero, suc, _+_, _-_, _*_, _/_, _≤_, _<_}
 use native.Mathlib.Omega.{arith}
 use native.Mathlib.Nat.{zero-add, add-zero, le-of-eq}
 use native.Mathlib.Decide.{ℕ-discrete}
-use native.Mathlib.Numerals.{add-one}
-use lib.ListN.{length, getD, take, drop}
+use lib.ListN.{length, getD, drop}
 use lib.Dec.{eqb}
 use borrow.Author.Tests.{eqb-true, not-false}
-use Rattle.trellis.specs.Lists.{sum, run, each, byFirst, bySecond, byThird}
+use Rattle.trellis.specs.Lists.{sum, run, byFirst, bySecond, byThird}
 use Rattle.trellis.specs.Own as own
-use Rattle.trellis.specs.Layout.{qOf, nOf, statesOf, vertexCountOf, edgeCountOf, edgesBefore, rootsPlace, goalsPlace, pairsPlace, symbolsPlace, sectionLength, rootState, edgeNumber, stepEdges, sectionWords}
+use Rattle.trellis.specs.Layout.{nOf, vertexCountOf, edgeCountOf, edgesBefore, rootsPlace, goalsPlace, pairsPlace, symbolsPlace, sectionLength, edgeNumber, stepEdges}
 use Rattle.trellis.proofs.Lists.{sum-last}
 use Rattle.section_file.specs.Usable.{stepEdge, usable}
 use Rattle.section_file.specs.Sound.{EdgeBefore, Sound}
 use Rattle.section_file.specs.Answer.{edgeAt, partOf}
-use Rattle.section_file.specs.declared.Part.{Part}
 use Rattle.section_file.specs.declared.Part.the-variants.{Usable, Unusable}
 use Rattle.section_file.proofs.Tests.{left-of, right-of}
 use Rattle.section_file.proofs.Steps.{edges-at}
 use Rattle.read_back.specs.ReadingBack.{isSection}
-use Rattle.read_back.specs.Levels.{Begun, begun, level, code, coded, grownCodes}
-use Rattle.read_back.specs.Growing.{Made, StepIn, PlacesOf, Gathered, FirstLevel, RootCodes}
+use Rattle.read_back.specs.Growing.{StepIn, PlacesOf}
 use Rattle.read_back.proofs.Lists.{run-shift}
-use Rattle.read_back.proofs.Levels.{levels-rise, level-coded}
 
 -- ---- places
 

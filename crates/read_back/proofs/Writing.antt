@@ -1,19 +1,16 @@
 -- The table file put into the buffer piece by piece: two bytes for each number of an array, one behind another, are the bytes of the whole list; and
 -- the pieces of a file, one behind another, are the file. Of words that fit, the bytes are those that document 01 asks for.
 use mathlib.Core.Path.{_≡_, refl, sym, ap, ap₂, subst, _∙_}
-use mathlib.Core.List.{List, [], _∷_, _++_, append-nil, append-assoc, map, flatMap}
-use Prim.Native.Nat.{ℕ, zero, suc, _+_, _*_, _/_, _%_, _^_, _≤_, _<_}
+use mathlib.Core.List.{List, [], _∷_, _++_, append-nil, flatMap}
+use Prim.Native.Nat.{ℕ, _+_, _*_, _/_, _≤_, _<_}
 use native.Mathlib.Omega.{arith}
 use native.Mathlib.Nat.{mod-eq-of-lt}
 use native.Mathlib.Numerals.{add-one}
-use lib.ListN.{length, getD, set, take, drop, length-append, length-set, length-take}
-use lib.Seq.{sets, take-suc, length-take-le}
-use Rattle.trellis.specs.Lists.{_∈_}
-use Rattle.trellis.specs.Word.{Word, word}
+use lib.ListN.{length, getD, set, take, drop, length-append, length-set}
+use lib.Seq.{take-suc, length-take-le}
 use Rattle.trellis.specs.Write.{Wrote}
 use Rattle.trellis.proofs.Lists.{flatMap-append}
 use Rattle.trellis.proofs.Write.{wrote-none, wrote-then, wrote-front, wrote-length}
-use Rattle.read_back.specs.TableBytes.{bytesOf}
 use Rattle.read_back.specs.Levels.{rootOf, vertexOf, labelOf}
 use Rattle.read_back.specs.Growing.{byteOf, pairOfCode, labelOfCode, fileOfCodes}
 

@@ -8,7 +8,6 @@ use Rattle.trellis.specs.Lists.{run, each}
 use Rattle.trellis.specs.Own.{Edge}
 use Rattle.trellis.specs.Section.{leaving}
 use Rattle.trellis.specs.Layout.{goalsPlace, pairsPlace, symbolsPlace}
-use Rattle.section_file.specs.Answer.{edgeAt}
 use Rattle.read_back.specs.TableBytes.{bytesOf}
 use Rattle.read_back.specs.Levels.{level, code, coded, rootOf, vertexOf, labelOf}
 

@@ -6,7 +6,7 @@ use Rattle.trellis.specs.Lists.{each}
 use Rattle.trellis.specs.Word.{Word, word}
 use Rattle.trellis.specs.Own.{Edge}
 use Rattle.trellis.specs.Section.{leaving}
-use Rattle.trellis.specs.Layout.{vertexCountOf, rootState, goalState, stepEdges}
+use Rattle.trellis.specs.Layout.{vertexCountOf, rootState, stepEdges}
 use Rattle.label.specs.Labels.{appended}
 
 -- the root, the symbols so far packed as a label, and the vertex

@@ -4,7 +4,7 @@ use mathlib.Core.Path.{_≡_, refl, sym, ap, ap₂, subst, _∙_}
 use mathlib.Core.Bool.{Bool, true, false, not, _&&_, _||_}
 use mathlib.Core.Logic.{_⊎_, inl, inr}
 use mathlib.Core.List.{List}
-use Prim.Native.Nat.{ℕ, zero, suc, _+_, _*_, _≤_, _<_}
+use Prim.Native.Nat.{ℕ, _+_, _*_, _≤_, _<_}
 use native.Mathlib.Omega.{arith}
 use native.Mathlib.Nat.{not-suc-le-zero}
 use native.Mathlib.Numerals.{add-one}
@@ -16,7 +16,7 @@ use borrow.Author.Tests.{eq-eqb, ne-eqb, eqb-true, eqb-false}
 use Rattle.trellis.specs.Lists.{one-if}
 use Rattle.section_file.specs.Usable.{all, any, covered, apart, noTwins}
 use Rattle.section_file.specs.Places.{Vertices, Symbols, Marks}
-use Rattle.section_file.proofs.Tests.{clash, all-at, all-of, all-fails, and-of, Passed, passed-start, passed-by, passed-all}
+use Rattle.section_file.proofs.Tests.{clash, all-of, all-fails, Passed, passed-start, passed-by, passed-all}
 
 -- ---- what was read
 

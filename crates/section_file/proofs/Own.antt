@@ -1,9 +1,9 @@
 -- What merging writes is usable: our section of a rectangular table within bounds is sound. Its counts are no greater than the number of words, its
 -- states are the words' states in order, each of its edges is some word's and each vertex is on some word's path; and it has no twins.
-use mathlib.Core.Path.{_≡_, refl, sym, ap, ap₂, subst, _∙_}
+use mathlib.Core.Path.{_≡_, refl, sym, ap, subst, _∙_}
 use mathlib.Core.Bool.{Bool, true}
-use mathlib.Core.List.{List, [], _∷_, List·Memᴰ·not-nil}
-use Prim.Native.Nat.{ℕ, zero, suc, _+_, _≤_, _<_}
+use mathlib.Core.List.{List, [], _∷_}
+use Prim.Native.Nat.{ℕ, zero, suc, _≤_, _<_}
 use native.Mathlib.Omega.{arith}
 use native.Mathlib.Nat.{not-suc-le-zero}
 use lib.ListN.{length, getD}
@@ -13,14 +13,13 @@ use Rattle.trellis.specs.Label.{symbol}
 use Rattle.trellis.specs.Word.{Word, wordAt, Table, Rectangular}
 use Rattle.trellis.specs.Own.{Edge, edge, edgeLess, key, keys, vertexOf, vertexCount, edgeOf, edgesAt, edgeCount}
 use Rattle.trellis.specs.Demand.{ours}
-use Rattle.trellis.specs.Layout.{nOf, vertexCountOf, edgeCountOf, rootState, goalState, sectionOf}
-use Rattle.trellis.proofs.Lists.{From, Place, in-place, place-of, in-each, of-each, length-run}
-use Rattle.trellis.proofs.Ascending.{Ascends, numbers, ascends, of-ascending, ascending-length}
+use Rattle.trellis.specs.Layout.{nOf, vertexCountOf, edgeCountOf, sectionOf}
+use Rattle.trellis.proofs.Lists.{From, in-place, place-of, in-each, of-each}
+use Rattle.trellis.proofs.Ascending.{Ascends, numbers, ascends, of-ascending}
 use Rattle.trellis.proofs.ThreeNumbers.{lower-yes}
 use Rattle.trellis.proofs.Words.{word-in}
 use Rattle.trellis.proofs.Paths.{edges-order}
 use Rattle.trellis.proofs.Vertices.{Numbering, own-numbering, key-root, key-goal, vertex-below}
-use Rattle.trellis.proofs.OwnPaths.{symbolAt}
 use Rattle.trellis.proofs.OwnDrawn.{vertex-of, edge-of, edge-in}
 use Rattle.trellis.proofs.OwnFew.{vertices-few, edges-few}
 use Rattle.trellis.proofs.OwnTwins.{forward-one, backward-one}

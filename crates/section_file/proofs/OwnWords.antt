@@ -1,25 +1,25 @@
 -- The words of our section are the table's: read off its paths they are the same list, so reading back gives the table that was merged. A path in a
 -- list of paths is a path step by step and the other way round, our section's paths carry just the table's words, and both lists ascend strictly.
 use mathlib.Core.Path.{_≡_, refl, sym, ap, ap₂, subst, _∙_}
-use mathlib.Core.Bool.{Bool, true, false, cond}
+use mathlib.Core.Bool.{cond}
 use mathlib.Core.Logic.{_⊎_, inl, inr}
-use mathlib.Core.List.{List, [], _∷_, _++_, map, flatMap, List·Memᴰ·head, List·Memᴰ·tail, List·Memᴰ·not-nil, List·Memᴰ·cases-cons, List·Memᴰ·eq-of-singleton, Memᴰ·cast, Memᴰ·map, Memᴰ·of-map}
+use mathlib.Core.List.{List, [], _∷_, _++_, map, List·Memᴰ·head, List·Memᴰ·tail, List·Memᴰ·not-nil, List·Memᴰ·cases-cons, List·Memᴰ·eq-of-singleton, Memᴰ·cast, Memᴰ·map, Memᴰ·of-map}
 use Prim.Native.Nat.{ℕ, zero, suc, _+_, _-_, _*_, _/_, _%_, _^_, _≤_, _<_}
 use native.Mathlib.Omega.{arith}
-use native.Mathlib.Nat.{add-zero, add-suc, suc-add, zero-add, not-suc-le-zero, pow-suc}
+use native.Mathlib.Nat.{add-zero, zero-add, not-suc-le-zero, pow-suc}
 use native.Mathlib.Decide.{ℕ-discrete}
-use lib.ListN.{length, getD}
+use lib.ListN.{length}
 use lib.Dec.{leb, eqb, lit<}
 use borrow.Author.Tests.{le-leb, lt-leb, eq-eqb}
 use Rattle.trellis.specs.Lists.{_∈_, run, each}
 use Rattle.trellis.specs.Label.{symbol}
-use Rattle.trellis.specs.Word.{Word, word, wordAt, Before, Table}
-use Rattle.trellis.specs.Own.{Edge, edge, keys, vertexOf, vertexCount, edgesAt}
-use Rattle.trellis.specs.Drawn.{Drawing, IsPath, Carries, PathOf, WordOf, DrawnFor}
+use Rattle.trellis.specs.Word.{Word, word, wordAt, Before}
+use Rattle.trellis.specs.Own.{Edge, edge, vertexCount}
+use Rattle.trellis.specs.Drawn.{IsPath, DrawnFor}
 use Rattle.trellis.specs.Demand.{ours}
-use Rattle.trellis.specs.Section.{Path, stop, along, leaving, pathsFrom, packOnto, wordOf, wordsOf}
+use Rattle.trellis.specs.Section.{Path, along, leaving, pathsFrom, packOnto, wordOf, wordsOf}
 use Rattle.trellis.specs.Layout.{nOf, vertexCountOf, rootState, goalState, stepEdges, sectionWords, sectionOf}
-use Rattle.trellis.proofs.Lists.{From, Place, place-of, of-each, in-each, run-snoc, run-same}
+use Rattle.trellis.proofs.Lists.{place-of, of-each, in-each, run-snoc, run-same}
 use Rattle.trellis.proofs.ThreeNumbers.{lower-never, lower-chain}
 use Rattle.trellis.proofs.Labels.{by-symbols}
 use Rattle.trellis.proofs.Words.{word-eq}
@@ -28,8 +28,7 @@ use Rattle.trellis.proofs.OwnLaid.{own-n, own-vertex-count, own-root, own-goal,
 use Rattle.label.proofs.Digits.{symbol-last, symbol-drop}
 use Rattle.paths.proofs.Ordered.{Ordered, ended, leads, of-flatMap, in-flatMap, in-keep}
 use Rattle.paths.proofs.Sections.{from-of, listed-of}
-use Rattle.section_file.specs.Sound.{Sound}
-use Rattle.section_file.proofs.Words.{Read, read-of, words-ascend}
+use Rattle.section_file.proofs.Words.{read-of, words-ascend}
 use Rattle.section_file.proofs.Own.{Fitting, own-sound}
 
 -- ---- labels of symbols one by one

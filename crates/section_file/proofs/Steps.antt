@@ -1,26 +1,26 @@
 -- One step, all steps, the whole section, as the code checks them: the first condition that fails decides, and where none fails all hold. Each law
 -- takes what the calls on the way ensure, over plain variables. That edges are within bounds comes first, since the arrays of marks rest on it.
-use mathlib.Core.Path.{_≡_, refl, sym, ap, ap₂, subst, _∙_}
-use mathlib.Core.Bool.{Bool, true, false, not, cond, _&&_, _||_}
+use mathlib.Core.Path.{_≡_, refl, sym, ap, _∙_}
+use mathlib.Core.Bool.{Bool, true, false, not, _||_}
 use mathlib.Core.List.{List, []}
-use Prim.Native.Nat.{ℕ, zero, suc, _+_, _-_, _*_, _≤_, _<_}
+use Prim.Native.Nat.{ℕ, _+_, _-_, _*_, _≤_, _<_}
 use native.Mathlib.Omega.{arith}
 use native.Mathlib.Nat.{zero-add, le-of-eq}
 use native.Mathlib.Numerals.{add-one}
 use lib.ListN.{length, getD, take, drop, length-drop, drop-of-length-le}
 use lib.Seq.{take-all}
-use lib.Dec.{ltb, leb}
+use lib.Dec.{ltb}
 use borrow.Author.Tests.{ltb-true, not-true, not-false, le-leb, lt-leb}
 use Rattle.trellis.specs.Lists.{sum}
 use Rattle.trellis.specs.Own as own
-use Rattle.trellis.specs.Layout.{qOf, nOf, statesOf, vertexCountOf, edgeCountOf, edgesBefore, pairsPlace, symbolsPlace, sectionLength, edgeNumber}
+use Rattle.trellis.specs.Layout.{qOf, nOf, vertexCountOf, edgeCountOf, edgesBefore, pairsPlace, symbolsPlace, sectionLength, edgeNumber}
 use Rattle.trellis.proofs.Lists.{sum-last}
 use Rattle.section_file.specs.Usable.{all, within, inside, above, covered, noTwins, noForwardTwins, noBackwardTwins, stepGood, stepEdge, sizesRight, countsRight, whole, statesRight, stepRight, usable}
 use Rattle.section_file.specs.Places.{PlacesOf, Counted, StepAt, Vertices, Symbols}
 use Rattle.section_file.specs.Answer.{partOf, edgeAt}
 use Rattle.section_file.specs.declared.Part.{Part}
 use Rattle.section_file.specs.declared.Part.the-variants.{Usable, Unusable}
-use Rattle.section_file.proofs.Tests.{left-of, right-of, from-low, to-high, all-at, Passed, passed-start, passed-next, passed-fails, passed-all}
+use Rattle.section_file.proofs.Tests.{left-of, right-of, to-high, all-at, Passed, passed-start, passed-next}
 use Rattle.section_file.proofs.Reading.{counted-edges}
 
 -- ---- one step

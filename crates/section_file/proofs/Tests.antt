@@ -1,14 +1,14 @@
 -- Tests over all numbers below a count, and over some of them: what they say, and how a loop makes them. A loop that leaves at the first number that
 -- fails has shown of every number passed that the test holds there; one failure decides the whole test.
-use mathlib.Core.Path.{_≡_, refl, sym, ap, ap₂, subst, _∙_}
+use mathlib.Core.Path.{_≡_, refl, sym, ap, ap₂, _∙_}
 use mathlib.Core.Bool.{Bool, true, false, not, _&&_, _||_}
 use Prim.Native.Nat.{ℕ, zero, suc, _+_, _≤_, _<_}
 use native.Mathlib.Omega.{arith}
 use native.Mathlib.Nat.{not-suc-le-zero}
 use native.Mathlib.Numerals.{add-one}
 use native.Mathlib.Decide.{ℕ-discrete}
-use lib.Dec.{leb, ltb, eqb}
-use borrow.Author.Tests.{leb-true, le-leb, lt-leb, not-true, not-false}
+use lib.Dec.{leb}
+use borrow.Author.Tests.{leb-true, le-leb, not-true, not-false}
 use Rattle.section_file.specs.Usable.{all, any, within}
 
 pub clash : true ≡ false → ⊥

@@ -1,7 +1,7 @@
 -- A section is usable exactly if it is sound: each test says the statement of the same name, and each statement passes its test. That numbers and
 -- edges ascend from each to the next makes them ascend from each to all later ones, because the orders are transitive.
-use mathlib.Core.Path.{_≡_, refl, sym, ap, subst, _∙_}
-use mathlib.Core.Bool.{Bool, true, false, not, _&&_, _||_}
+use mathlib.Core.Path.{_≡_, refl, sym, ap, subst}
+use mathlib.Core.Bool.{Bool, true, not, _&&_, _||_}
 use mathlib.Core.List.{List}
 use Prim.Native.Nat.{ℕ, zero, suc, _+_, _≤_, _<_}
 use native.Mathlib.Omega.{arith}
@@ -9,7 +9,7 @@ use native.Mathlib.Nat.{not-suc-le-zero}
 use native.Mathlib.Numerals.{add-one}
 use native.Mathlib.Decide.{ℕ-discrete, decLt}
 use lib.ListN.{length}
-use lib.Dec.{leb, ltb, eqb}
+use lib.Dec.{ltb, eqb}
 use borrow.Author.Tests.{ltb-true, lt-ltb, leb-true, le-leb, eqb-true, eq-eqb}
 use Rattle.trellis.specs.Own.{Edge, edgeLess}
 use Rattle.trellis.specs.Layout.{qOf, nOf, statesOf, vertexCountOf, edgeCountOf, sectionLength, rootState, goalState}

@@ -1,19 +1,19 @@
 -- The words of a usable section, read off its paths, ascend strictly, so that each is on one path only; and they are words of n symbols. Its edges
 -- ascend and one symbol leads from a vertex to one inner vertex only, which is what the law of ordered paths asks; root and goal states ascend too.
-use mathlib.Core.Path.{_≡_, refl, sym, ap, subst, _∙_}
+use mathlib.Core.Path.{_≡_, sym, ap, subst, _∙_}
 use mathlib.Core.Bool.{Bool}
-use mathlib.Core.List.{List, [], _∷_, map, flatMap, List·Memᴰ·not-nil, Memᴰ·of-map}
+use mathlib.Core.List.{List, [], _∷_, map, Memᴰ·of-map}
 use Prim.Native.Nat.{ℕ, zero, suc, _+_, _*_, _^_, _≤_, _<_}
 use native.Mathlib.Omega.{arith}
-use native.Mathlib.Nat.{not-suc-le-zero, add-zero, add-suc, suc-add, zero-add, pow-suc, pow-succ', mul-comm, mul-assoc}
-use lib.ListN.{length, getD}
+use native.Mathlib.Nat.{not-suc-le-zero, add-zero, zero-add, pow-succ', mul-assoc}
+use lib.ListN.{length}
 use lib.Dec.{T}
-use Rattle.trellis.specs.Lists.{_∈_, Once, run, each, Lower}
+use Rattle.trellis.specs.Lists.{_∈_, Once, run, each}
 use Rattle.trellis.specs.Word.{Word, word, wordAt, Before, Table}
 use Rattle.trellis.specs.Own.{Edge, edgeLess}
 use Rattle.trellis.specs.Section.{Path, pathsFrom, packOnto, wordOf, wordsOf}
-use Rattle.trellis.specs.Layout.{qOf, nOf, statesOf, vertexCountOf, edgeCountOf, edgesBefore, rootState, goalState, edgeNumber, stepEdges, sectionWords}
-use Rattle.trellis.proofs.Lists.{From, of-run, of-each, in-run, in-place}
+use Rattle.trellis.specs.Layout.{nOf, statesOf, vertexCountOf, edgeCountOf, edgesBefore, rootState, goalState, edgeNumber, stepEdges, sectionWords}
+use Rattle.trellis.proofs.Lists.{From, of-run, of-each, in-place}
 use Rattle.trellis.proofs.Ascending.{Ascends}
 use Rattle.trellis.proofs.ThreeNumbers.{lower-of, lower-never}
 use Rattle.paths.proofs.Ordered.{Ordered, ended, leads, of-flatMap}

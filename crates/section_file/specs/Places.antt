@@ -1,6 +1,5 @@
 -- Where the parts of a section stand, as the code computes it: the places by the layout, each small enough that no sum of them wraps.
 use mathlib.Core.Path.{_≡_}
-use mathlib.Core.Bool.{Bool}
 use mathlib.Core.List.{List}
 use Prim.Native.Nat.{ℕ, _+_, _*_, _≤_, _<_}
 use lib.Dec.{eqb}

@@ -6,7 +6,7 @@ use lib.ListN.{length, getD}
 use Rattle.trellis.specs.Lists.{run}
 use Rattle.trellis.specs.Own.{Edge}
 use Rattle.trellis.specs.Section.{leaving}
-use Rattle.trellis.specs.Layout.{nOf, vertexCountOf, edgesBefore, allEdges, pairsPlace, symbolsPlace, edgeNumber, stepEdges}
+use Rattle.trellis.specs.Layout.{nOf, vertexCountOf, edgesBefore, allEdges, pairsPlace, symbolsPlace, edgeNumber}
 use Rattle.paths.specs.Costs.{plus, minAll}
 use Rattle.sweep.specs.Rows.{top, Fits, Priced, Rows}
 

@@ -3,7 +3,6 @@
 ghost use mathlib.Core.Path.{_≡_};
 ghost use mathlib.Core.List.{[], _∷_};
 ghost use Prim.Native.Nat.{_+_, _%_};
-ghost use lib.ListN.{length};
 ghost use Rattle.text.specs.Line.{digit, spaced, line, longer};
 ghost use Rattle.text.specs.Put.{Put, Spelt};
 

@@ -1,17 +1,16 @@
 -- Ascending lists: putting the elements of a list in order, each once, keeps just the elements; and an element of an ascending list of numbers
 -- stands at its rank. Each follows along the list, for any strict order in which every two elements can be compared.
 use mathlib.Core.Path.{_≡_, refl, sym, ap, subst, _∙_}
-use mathlib.Core.Bool.{Bool, true, false, _&&_, _||_}
+use mathlib.Core.Bool.{Bool, true, false}
 use mathlib.Core.Logic.{_⊎_, inl, inr}
-use mathlib.Core.List.{List, [], _∷_, _++_, List·Memᴰ, List·Memᴰ·head, List·Memᴰ·tail, List·Memᴰ·not-nil, List·Memᴰ·cases-cons, List·Memᴰ·append-cases, List·Memᴰ·eq-of-singleton, Memᴰ·append-left, Memᴰ·append-right, Memᴰ·cast}
+use mathlib.Core.List.{List, [], _∷_, _++_, List·Memᴰ·head, List·Memᴰ·tail, List·Memᴰ·not-nil, List·Memᴰ·cases-cons, List·Memᴰ·append-cases, List·Memᴰ·eq-of-singleton, Memᴰ·append-left, Memᴰ·append-right, Memᴰ·cast}
 use Prim.Native.Nat.{ℕ, zero, suc, _+_, _≤_, _<_}
 use native.Mathlib.Omega.{arith}
-use native.Mathlib.Nat.{zero-add}
 use native.Mathlib.Decide.{ℕ-discrete, decLt}
 use lib.ListN.{length, getD}
-use lib.Dec.{T, ltb, eqb, eqb→eq, eqb-refl, ltb→lt, lt→ltb}
-use Rattle.trellis.specs.Lists.{_∈_, Once, one-if, run, each, rank, placed, insert, ascending}
-use Rattle.trellis.proofs.Bools.{holds, fails, is-true, is-false, both, join, either, or-left, or-right}
+use lib.Dec.{T, ltb, ltb→lt, lt→ltb}
+use Rattle.trellis.specs.Lists.{_∈_, Once, one-if, each, rank, placed, insert, ascending}
+use Rattle.trellis.proofs.Bools.{holds, fails}
 use Rattle.trellis.proofs.Lists.{From, in-place, in-each, of-each}
 
 -- a strict order by a test, in which every two elements can be compared

@@ -1,8 +1,7 @@
 -- Tests and what they say: a test that computes to true or false, taken apart and put together.
 use mathlib.Core.Path.{_≡_, refl, sym, subst}
-use mathlib.Core.Bool.{Bool, true, false, not, _&&_, _||_}
+use mathlib.Core.Bool.{Bool, true, false, _&&_, _||_}
 use mathlib.Core.Logic.{_⊎_, inl, inr}
-use Prim.Native.Nat.{ℕ}
 use lib.Dec.{T}
 
 pub holds : {b : Bool} → b ≡ true → T b

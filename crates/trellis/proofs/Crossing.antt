@@ -2,14 +2,14 @@
 -- ending of the other is a word. The first half of the one path and the second half of the other are a path, and every path carries a word.
 use mathlib.Core.Path.{_≡_, refl, sym, ap, _∙_}
 use mathlib.Core.List.{List, Memᴰ·cast}
-use Prim.Native.Nat.{ℕ, zero, suc, _-_, _^_, _≤_, _<_}
+use Prim.Native.Nat.{ℕ, suc, _-_, _^_, _≤_, _<_}
 use native.Mathlib.Omega.{arith}
 use native.Mathlib.Decide.{ℕ-discrete, decLt}
 use lib.ListN.{length}
 use Rattle.trellis.specs.Lists.{_∈_}
 use Rattle.trellis.specs.Label.{symbol, front, back}
 use Rattle.trellis.specs.Word.{Word, wordAt, joined}
-use Rattle.trellis.specs.Own.{Edge, edge}
+use Rattle.trellis.specs.Own.{edge}
 use Rattle.trellis.specs.Drawn.{Drawing, IsPath, DrawnFor}
 use Rattle.trellis.proofs.Labels.{front-by-symbols, back-by-symbols}
 use Rattle.trellis.proofs.Words.{word-in, beginning-eq, ending-eq, joined-is}

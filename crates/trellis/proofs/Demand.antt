@@ -1,20 +1,18 @@
 -- Demand 3 for the definitions: of all sections that anyone can draw for a rectangular table, ours is the least, and it is itself such a section.
 -- Our counts are the numbers of different vertices and edges of the words' paths, to which the theorem of Least applies.
-use mathlib.Core.Path.{_≡_, refl, sym, ap, subst, _∙_}
+use mathlib.Core.Path.{_≡_, refl, sym, subst, _∙_}
 use mathlib.Core.Logic.{_↔_}
 use mathlib.Core.List.{List, Memᴰ·cast}
-use Prim.Native.Nat.{ℕ, suc, _+_, _^_, _≤_, _<_}
-use native.Mathlib.Omega.{arith}
-use native.Mathlib.Nat.{le-refl}
+use Prim.Native.Nat.{ℕ, _+_, _^_, _≤_, _<_}
 use lib.ListN.{length}
 use lib.Dec.{eqb, eqb→eq, eqb-refl}
-use Rattle.trellis.specs.Lists.{_∈_, Once, each}
+use Rattle.trellis.specs.Lists.{_∈_}
 use Rattle.trellis.specs.Label.{symbol}
-use Rattle.trellis.specs.Word.{Word, wordAt, Table, Rectangular}
-use Rattle.trellis.specs.Own.{Edge, sameEdge, vertexOf, vertexCount, edgeOf, edgesAt, edgeCount}
-use Rattle.trellis.specs.Drawn.{Drawing, PathOf, DrawnFor}
-use Rattle.trellis.specs.Demand.{allVertices, additions, selections, verticesOf, edgesOf, NoFewer, ours, Demand3}
-use Rattle.trellis.proofs.Lists.{From, length-run}
+use Rattle.trellis.specs.Word.{Word, Table, Rectangular}
+use Rattle.trellis.specs.Own.{sameEdge, vertexOf, vertexCount, edgeOf, edgeCount}
+use Rattle.trellis.specs.Drawn.{PathOf, DrawnFor}
+use Rattle.trellis.specs.Demand.{allVertices, additions, selections, verticesOf, edgesOf, ours, Demand3}
+use Rattle.trellis.proofs.Lists.{length-run}
 use Rattle.trellis.proofs.Distinct.{length-distinct, upto, in-upto, from-upto}
 use Rattle.trellis.proofs.Labels.{by-symbols}
 use Rattle.trellis.proofs.Words.{word-eq}

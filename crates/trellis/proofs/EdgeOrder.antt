@@ -3,24 +3,22 @@
 -- the order of their vertices, and within one vertex in the order of their symbols and goals.
 use mathlib.Core.Path.{_≡_, refl, sym, ap, ap₂, subst, _∙_}
 use mathlib.Core.Bool.{Bool, true, false}
-use mathlib.Core.Logic.{_⊎_, inl, inr, _↔_}
 use mathlib.Core.List.{List}
-use Prim.Native.Nat.{ℕ, zero, suc, _+_, _-_, _*_, _^_, _≤_, _<_}
+use Prim.Native.Nat.{ℕ, suc, _+_, _*_, _≤_, _<_}
 use native.Mathlib.Omega.{arith}
-use native.Mathlib.Nat.{not-suc-le-zero, mul-lt-mul-of-pos-right}
 use native.Mathlib.Decide.{ℕ-discrete, decLt}
-use lib.ListN.{length, getD}
+use lib.ListN.{length}
 use lib.Arith.{lt-of-le-ne}
-use lib.Dec.{T, ltb}
+use lib.Dec.{T}
 use Rattle.trellis.specs.Lists.{Lower, byFirst, bySecond, byThird, first}
-use Rattle.trellis.specs.Label.{symbol, front, back}
+use Rattle.trellis.specs.Label.{symbol, front}
 use Rattle.trellis.specs.Word.{Word, wordAt, Before, Table, beginning, ending, joined, Rectangular}
-use Rattle.trellis.specs.Own.{Edge, edge, edgeLess, sameEdge, key, keys, firstSharing, vertexOf, vertexCount, edgeOf}
+use Rattle.trellis.specs.Own.{edgeLess, sameEdge, key, firstSharing, vertexOf, edgeOf}
 use Rattle.trellis.specs.Witness.{sameBeginning}
 use Rattle.trellis.proofs.Bools.{holds, fails}
 use Rattle.trellis.proofs.Lists.{First, first-ok}
 use Rattle.trellis.proofs.ThreeNumbers.{lower-of, lower-never, lower-chain}
-use Rattle.trellis.proofs.Labels.{front-mono, front-step, symbol-front, symbol-back, back-step, front-suc, front-all, front-none, symbol-lower}
+use Rattle.trellis.proofs.Labels.{front-mono, symbol-back, back-step, front-suc, front-all, front-none, symbol-lower}
 use Rattle.trellis.proofs.Words.{word-in, index, comes-first, beginning-root, beginning-front, beginning-eq, ending-back, ending-goal, ending-eq, joined-beginning, joined-ending}
 use Rattle.trellis.proofs.Vertices.{Numbering, own-numbering, key-root, key-goal, key-inner, vertex-key, vertex-less, shares-yes, first-le, first-shares}
 use Rattle.trellis.proofs.Paths.{edge-eq, edge-ok, edge-rf}

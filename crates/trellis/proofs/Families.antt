@@ -1,8 +1,8 @@
 -- The law of selections for two families of paths that carry the same words: ours (c) and the drawn section's (d).
 -- Word by word the law of one word holds; edges and vertices of the drawn section that no chosen path has only add to its side.
-use mathlib.Core.Path.{_≡_, refl, sym, ap, subst, _∙_}
+use mathlib.Core.Path.{_≡_, ap}
 use mathlib.Core.Logic.{_⊎_, inl, inr}
-use mathlib.Core.List.{List, [], _∷_, map, List·Memᴰ, Memᴰ·cast}
+use mathlib.Core.List.{List, Memᴰ·cast}
 use Prim.Native.Nat.{ℕ, zero, suc, _+_, _≤_, _<_}
 use native.Mathlib.Omega.{arith}
 use native.Mathlib.Nat.{le-refl}
@@ -10,10 +10,10 @@ use lib.ListN.{length}
 use lib.Dec.{eqb, eqb→eq, eqb-refl}
 use Rattle.trellis.specs.Lists.{_∈_, Once, sum}
 use Rattle.trellis.specs.Own.{Edge, edge, sameEdge}
-use Rattle.trellis.proofs.Lists.{From, sum-add, sum-le, sum-suc}
-use Rattle.trellis.proofs.Distinct.{Fresh, Stale, Known, new, distinct, stale-of, distinct-le, upto, in-upto, from-upto}
+use Rattle.trellis.proofs.Lists.{sum-add, sum-le, sum-suc}
+use Rattle.trellis.proofs.Distinct.{Known, distinct, stale-of, distinct-le, upto, in-upto, from-upto}
 use Rattle.trellis.proofs.OneWord.{Stop, along}
-use Rattle.trellis.proofs.Paths.{edge-ok, edge-rf, step, vnew, enew, vcount, ecount, vcount-suc, ecount-suc, into, onward, vlook, elook, new-le-new, Into, slack, ends-upto}
+use Rattle.trellis.proofs.Paths.{edge-ok, edge-rf, step, vnew, enew, vcount, ecount, into, onward, vlook, elook, new-le-new, Into, slack, ends-upto}
 
 -- A new edge of ours that leads to an old vertex: the later edges and the last vertex are old.
 pub record Ended (n : ℕ) (s c : ℕ → ℕ → ℕ) (t i : ℕ) : Type 0 where

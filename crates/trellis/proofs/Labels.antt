@@ -1,6 +1,6 @@
 -- Laws of packed labels, for general n: a label is its front followed by its back at any depth, and its symbols decide both.
 -- Each is one division with remainder by a power of 4, or one more symbol.
-use mathlib.Core.Path.{_≡_, refl, sym, ap, ap₂, subst, _∙_}
+use mathlib.Core.Path.{_≡_, sym, ap, ap₂, subst, _∙_}
 use Prim.Native.Nat.{ℕ, zero, suc, _+_, _*_, _-_, _/_, _%_, _^_, _≤_, _<_}
 use native.Mathlib.Omega.{arith}
 use native.Mathlib.Nat.{le-refl, le-trans, le-div-iff-mul-le, div-mul-le-self, mul-lt-mul-of-pos-right, pow-suc, mod-lt, mod-one, div-add-mod', div-eq-of-lt, div-div-eq-div-mul, mul-comm, not-suc-le-zero, add-zero, add-suc, suc-add, sub-zero, sub-self, div-one}

@@ -1,17 +1,16 @@
 -- Our section of a rectangular table is the least of all that are drawn for it: in vertices at each depth, in edges at each step, in selections.
 -- Take one path of the drawn section for each word. Paths that meet there meet in ours, since they can be crossed; so ours has no more of anything on
 -- these paths, and by the law of selections no more of E - V.
-use mathlib.Core.Path.{_≡_, refl, sym, ap, subst, _∙_}
-use mathlib.Core.Logic.{_↔_}
+use mathlib.Core.Path.{_≡_, sym, ap, subst, _∙_}
 use mathlib.Core.List.{List, [], List·Memᴰ·not-nil}
-use Prim.Native.Nat.{ℕ, zero, suc, _+_, _-_, _≤_, _<_}
+use Prim.Native.Nat.{ℕ, suc, _+_, _-_, _≤_, _<_}
 use native.Mathlib.Omega.{arith}
 use native.Mathlib.Nat.{le-refl}
 use native.Mathlib.Decide.{ℕ-discrete, decLt}
 use lib.ListN.{length}
-use Rattle.trellis.specs.Lists.{_∈_, Once, sum}
+use Rattle.trellis.specs.Lists.{_∈_, sum}
 use Rattle.trellis.specs.Word.{Word, wordAt, Table}
-use Rattle.trellis.specs.Own.{Edge, edge}
+use Rattle.trellis.specs.Own.{edge}
 use Rattle.trellis.specs.Drawn.{Drawing, DrawnFor}
 use Rattle.trellis.specs.Demand.{allVertices, additions, selections, verticesOf, edgesOf, NoFewer}
 use Rattle.trellis.proofs.Lists.{sum-le, sum-eq, sum-suc}

@@ -7,7 +7,6 @@ use mathlib.Core.Logic.{_⊎_, inl, inr}
 use Prim.Native.Nat.{ℕ, zero, suc, _+_, _≤_, _<_}
 use native.Mathlib.Omega.{arith}
 use Rattle.trellis.specs.Lists.{sum}
-use Rattle.trellis.proofs.Lists.{sum-le}
 
 -- our edge of step t is new and leads to an old vertex: then all that follows is old
 pub record Stop (n : ℕ) (eM vD eD : ℕ → ℕ) (t : ℕ) : Type 0 where

@@ -2,18 +2,17 @@
 -- Each word takes its own path. The other way round, follow any path step by step: its first t edges are those of some word up to depth t, and where the
 -- next edge is another word's, the two words share a vertex, so the one's beginning followed by the other's ending is a word too.
 use mathlib.Core.Path.{_≡_, refl, sym, ap, subst, _∙_}
-use mathlib.Core.Logic.{_⊎_, inl, inr, _↔_}
-use mathlib.Core.List.{List, [], _∷_, List·Memᴰ·not-nil, List·Memᴰ·cases-cons, Memᴰ·cast}
-use Prim.Native.Nat.{ℕ, zero, suc, _+_, _-_, _^_, _≤_, _<_}
+use mathlib.Core.List.{List, Memᴰ·cast}
+use Prim.Native.Nat.{ℕ, zero, suc, _-_, _<_}
 use native.Mathlib.Omega.{arith}
 use native.Mathlib.Decide.{ℕ-discrete}
 use lib.ListN.{length, getD}
-use lib.Dec.{T, ltb, lt→ltb}
-use Rattle.trellis.specs.Lists.{_∈_, Once, run, each, rank, ascending}
-use Rattle.trellis.specs.Label.{symbol, front, back}
+use lib.Dec.{ltb, lt→ltb}
+use Rattle.trellis.specs.Lists.{_∈_, Once, run, each, rank}
+use Rattle.trellis.specs.Label.{symbol}
 use Rattle.trellis.specs.Word.{Word, wordAt, Table, beginning, ending, joined}
 use Rattle.trellis.specs.Own.{Edge, edge, edgeLess, key, keys, vertexOf, vertexCount, edgeOf, edgesAt}
-use Rattle.trellis.specs.Drawn.{Drawing, IsPath, Carries, PathOf, WordOf, Through, HasState, HasVertex, JustOne, DrawnFor}
+use Rattle.trellis.specs.Drawn.{IsPath, Carries, WordOf, JustOne, DrawnFor}
 use Rattle.trellis.specs.Demand.{ours}
 use Rattle.trellis.proofs.Lists.{From, in-each, of-each, of-run, in-place}
 use Rattle.trellis.proofs.Ascending.{Ascends, numbers, ascends, once-of, in-ascending, of-ascending, rank-at}

@@ -1,11 +1,10 @@
 -- Our section is not large: it has no more vertices at a depth and no more edges at a step than the table has words, as each of them is some word's.
-use mathlib.Core.Path.{_≡_, sym, _∙_}
 use mathlib.Core.List.{List}
-use Prim.Native.Nat.{ℕ, zero, suc, _+_, _*_, _≤_}
+use Prim.Native.Nat.{ℕ, _≤_}
 use native.Mathlib.Omega.{arith}
 use lib.ListN.{length}
 use lib.Dec.{ltb}
-use Rattle.trellis.specs.Lists.{each, sum}
+use Rattle.trellis.specs.Lists.{each}
 use Rattle.trellis.specs.Word.{Word}
 use Rattle.trellis.specs.Own.{edgeLess, key, keys, vertexCount, edgeOf, edgesAt, edgeCount}
 use Rattle.trellis.proofs.Lists.{length-run}

@@ -1,19 +1,18 @@
 -- The numbers of our section, read again by the layout, give our section: its counts, states and edges. The parts stand one behind another, each as
 -- long as its counts say, so the place of each part is the length of what stands before it.
-use mathlib.Core.Path.{_≡_, refl, sym, ap, ap₂, subst, _∙_}
+use mathlib.Core.Path.{_≡_, refl, sym, ap, subst, _∙_}
 use mathlib.Core.List.{List, [], _∷_, _++_, map, flatMap}
 use Prim.Native.Nat.{ℕ, zero, suc, _+_, _-_, _*_, _≤_, _<_}
 use native.Mathlib.Omega.{arith}
-use native.Mathlib.Nat.{add-zero, add-suc, suc-add, zero-add, not-suc-le-zero}
-use native.Mathlib.Decide.{ℕ-discrete}
-use lib.ListN.{length, getD, length-append, length-map, List·getD-append, List·getD-map}
+use native.Mathlib.Nat.{zero-add, not-suc-le-zero}
+use lib.ListN.{length, getD, length-append, length-map, List·getD-append}
 use lib.Seq.{getD-append-add, ext-getD}
 use Rattle.trellis.specs.Lists.{run, each, sum}
 use Rattle.trellis.specs.Word.{Word}
 use Rattle.trellis.specs.Own.{Edge, edge, keys, vertexCount, edgesAt, edgeCount}
 use Rattle.trellis.specs.Layout.{qOf, nOf, statesOf, vertexCountOf, edgeCountOf, edgesBefore, rootsPlace, goalsPlace, pairsPlace, symbolsPlace, sectionLength, rootState, goalState, edgeNumber, stepEdges, joinedUp, pairOf, symbolOf, sectionOf}
-use Rattle.trellis.proofs.Lists.{length-run, run-at, each-at, sum-eq, sum-last}
-use Rattle.trellis.proofs.Joined.{lengthsBefore, lengths-suc, joined-length, lengths-le, joined-at}
+use Rattle.trellis.proofs.Lists.{length-run, run-at, each-at, sum-eq}
+use Rattle.trellis.proofs.Joined.{lengths-suc, joined-length, lengths-le, joined-at}
 use Rattle.trellis.proofs.Paths.{edge-eq}
 
 -- pairs of numbers

@@ -6,12 +6,12 @@ use mathlib.Core.List.{List, Memᴰ·cast}
 use Prim.Native.Nat.{ℕ, zero, suc, _-_, _≤_, _<_}
 use native.Mathlib.Omega.{arith}
 use native.Mathlib.Decide.{ℕ-discrete, decLt}
-use lib.ListN.{length, getD}
+use lib.ListN.{length}
 use lib.Arith.{lt-of-le-ne}
 use Rattle.trellis.specs.Lists.{_∈_, byFirst, bySecond, byThird}
 use Rattle.trellis.specs.Label.{symbol, front, back}
 use Rattle.trellis.specs.Word.{Word, wordAt, Before, Table, beginning, ending, joined}
-use Rattle.trellis.specs.Own.{Edge, edge}
+use Rattle.trellis.specs.Own.{edge}
 use Rattle.trellis.proofs.Lists.{From}
 use Rattle.trellis.proofs.Distinct.{upto, in-upto, from-upto}
 use Rattle.trellis.proofs.Labels.{front-mono, front-step, symbol-front, symbol-back, back-later, spliced-lower}

@@ -3,14 +3,12 @@
 -- other, so all three share the next vertex. Backward it is the same.
 use mathlib.Core.Path.{_≡_, refl, sym, ap, ap₂, subst, _∙_}
 use mathlib.Core.List.{List}
-use Prim.Native.Nat.{ℕ, zero, suc, _+_, _-_, _*_, _^_, _≤_, _<_}
+use Prim.Native.Nat.{ℕ, suc, _+_, _-_, _*_, _^_, _<_}
 use native.Mathlib.Omega.{arith}
 use native.Mathlib.Decide.{ℕ-discrete, decLt}
-use lib.ListN.{length, getD}
-use Rattle.trellis.specs.Lists.{_∈_}
+use lib.ListN.{length}
 use Rattle.trellis.specs.Label.{symbol, front, back}
 use Rattle.trellis.specs.Word.{Word, wordAt, Table, beginning, ending, joined}
-use Rattle.trellis.specs.Own.{vertexOf}
 use Rattle.trellis.proofs.Labels.{front-suc, front-step, back-suc, back-step, symbol-front, symbol-back, front-none, back-by-symbols}
 use Rattle.trellis.proofs.Words.{word-in, index, beginning-root, beginning-front, beginning-eq, ending-back, ending-goal, ending-eq, joined-beginning, joined-ending}
 use Rattle.trellis.proofs.Vertices.{Numbering}

@@ -1,19 +1,18 @@
 -- A family of paths, one for each word: how many different vertices and edges the first m of them have, and what each further path adds.
 -- A new vertex is entered and left by new edges, since an old edge has old ends; so edges grow at least as vertices do.
-use mathlib.Core.Path.{_≡_, refl, sym, ap, subst, _∙_}
+use mathlib.Core.Path.{_≡_, refl, ap, _∙_}
 use mathlib.Core.Bool.{Bool}
 use mathlib.Core.Logic.{_⊎_, inl, inr}
-use mathlib.Core.List.{List, [], _∷_, map, List·Memᴰ, List·Memᴰ·head, List·Memᴰ·tail, List·Memᴰ·not-nil, List·Memᴰ·cases-cons, Memᴰ·cast}
-use Prim.Native.Nat.{ℕ, zero, suc, _+_, _≤_, _<_}
+use mathlib.Core.List.{List, [], _∷_, map, List·Memᴰ·head, List·Memᴰ·tail, List·Memᴰ·not-nil, List·Memᴰ·cases-cons, Memᴰ·cast}
+use Prim.Native.Nat.{ℕ, zero, suc, _+_, _≤_}
 use native.Mathlib.Omega.{arith}
 use lib.ListN.{length}
 use lib.Dec.{T, eqb, eqb→eq, eqb-refl}
 use Rattle.trellis.specs.Lists.{_∈_, Once, Lower}
 use Rattle.trellis.specs.Own.{Edge, edge, edgeLess, sameEdge}
-use Rattle.trellis.proofs.Lists.{From}
 use Rattle.trellis.proofs.Ascending.{Orders}
-use Rattle.trellis.proofs.ThreeNumbers.{Equal, alike-yes, alike-self, lower-yes, lower-of, lower-never, lower-chain, lower-compare}
-use Rattle.trellis.proofs.Distinct.{Fresh, Stale, Known, new, distinct, look, new-of, stale-of, distinct-le, le-distinct, upto, in-upto, from-upto}
+use Rattle.trellis.proofs.ThreeNumbers.{alike-yes, alike-self, lower-yes, lower-of, lower-never, lower-chain, lower-compare}
+use Rattle.trellis.proofs.Distinct.{Known, new, distinct, look, distinct-le, le-distinct, upto, in-upto, from-upto}
 
 -- ---- edges
 

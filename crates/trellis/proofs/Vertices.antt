@@ -2,20 +2,19 @@
 -- goal, and at an inner depth of a rectangular table exactly if the one's beginning followed by the other's ending is a word.
 -- Equal ranks are of equal keys; and sharing is an equivalence where the table is rectangular, so words that share have one first word.
 use mathlib.Core.Path.{_≡_, refl, sym, ap, ap₂, subst, _∙_}
-use mathlib.Core.Bool.{Bool, true, false}
-use mathlib.Core.Logic.{_⊎_, inl, inr, _↔_}
+use mathlib.Core.Logic.{_↔_}
 use mathlib.Core.List.{List}
-use Prim.Native.Nat.{ℕ, zero, suc, _≤_, _<_}
+use Prim.Native.Nat.{ℕ, _≤_, _<_}
 use native.Mathlib.Omega.{arith}
-use native.Mathlib.Decide.{ℕ-discrete, decLt}
+use native.Mathlib.Decide.{decLt}
 use lib.ListN.{length, getD}
 use lib.Dec.{T, ltb, eqb, eqb→eq, eqb-refl}
-use Rattle.trellis.specs.Lists.{_∈_, each, first, rank, ascending}
+use Rattle.trellis.specs.Lists.{_∈_, first, rank}
 use Rattle.trellis.specs.Word.{Word, wordAt, joined, RectangularAt, Rectangular}
 use Rattle.trellis.specs.Own.{shares, firstSharing, keyBy, key, keys, vertexOf, vertexCount}
 use Rattle.trellis.proofs.Bools.{is-true, is-false}
-use Rattle.trellis.proofs.Lists.{in-yes, in-of, in-each, of-each, First, first-ok}
-use Rattle.trellis.proofs.Ascending.{numbers, ascends, in-ascending, of-ascending, ranked, rank-less}
+use Rattle.trellis.proofs.Lists.{in-yes, in-of, in-each, First, first-ok}
+use Rattle.trellis.proofs.Ascending.{numbers, ascends, in-ascending, ranked, rank-less}
 use Rattle.trellis.proofs.Words.{word-in, same-yes, same-self, joined-self, joined-turn, joined-chain}
 
 -- c t i is the vertex of word i at depth t: any such numbering has our section's vertices

@@ -2,7 +2,7 @@
 -- A search over a range finds what it finds at the first place where there is something; each of the four searches is one of these.
 use mathlib.Core.Path.{_≡_, refl, sym, ap, subst, _∙_}
 use mathlib.Core.Bool.{Bool, true, false, _&&_, not}
-use mathlib.Core.Logic.{_⊎_, inl, inr, _↔_}
+use mathlib.Core.Logic.{_↔_}
 use mathlib.Core.List.{List}
 use Prim.Native.Nat.{ℕ, zero, suc, _+_, _-_, _≤_, _<_}
 use native.Mathlib.Omega.{arith}
@@ -11,9 +11,9 @@ use lib.ListN.{length}
 use lib.Dec.{T, eqb, eqb→eq, eqb-refl, T-not, not-T}
 use Rattle.trellis.specs.Lists.{_∈_, isIn}
 use Rattle.trellis.specs.Label.{front, back}
-use Rattle.trellis.specs.Word.{Word, wordAt, sameWord, beginning, ending, joined, RectangularAt, Rectangular}
+use Rattle.trellis.specs.Word.{Word, wordAt, sameWord, beginning, ending, joined, Rectangular}
 use Rattle.trellis.specs.Witness.{Witness, found, nothing, sameBeginning, sameEnding, refutes, orElse, when, firstOf, overK, overJ, witnessAt, witness, Refuted, FirstRefuted}
-use Rattle.trellis.proofs.Bools.{holds, fails, is-true, both, join}
+use Rattle.trellis.proofs.Bools.{holds, fails, both, join}
 use Rattle.trellis.proofs.Lists.{in-yes, in-of}
 use Rattle.trellis.proofs.Words.{word-in, same-yes, same-self, beginning-root, beginning-front, beginning-eq, ending-back, ending-goal, ending-eq, rectangular-by}
 

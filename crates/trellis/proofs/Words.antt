@@ -1,20 +1,17 @@
 -- Laws of words: equality by fields and by a test, places in the table, and words put together from two halves.
 -- A joined word has the one word's beginning and the other's ending, and no other word has both.
 use mathlib.Core.Path.{_≡_, refl, sym, ap, subst, _∙_}
-use mathlib.Core.Bool.{Bool}
-use mathlib.Core.Logic.{_⊎_, inl, inr}
-use mathlib.Core.List.{List, [], _∷_, map, List·Memᴰ, Memᴰ·cast}
-use Prim.Native.Nat.{ℕ, zero, suc, _+_, _-_, _≤_, _<_}
+use mathlib.Core.List.{List, Memᴰ·cast}
+use Prim.Native.Nat.{ℕ, zero, suc, _<_}
 use native.Mathlib.Omega.{arith}
 use native.Mathlib.Nat.{not-suc-le-zero}
 use native.Mathlib.Decide.{ℕ-discrete, decLt}
-use lib.ListN.{length, getD}
+use lib.ListN.{length}
 use lib.Dec.{T}
-use Rattle.trellis.specs.Lists.{_∈_, Lower, byFirst, bySecond, byThird, alike}
-use Rattle.trellis.specs.Label.{front, back, spliced}
+use Rattle.trellis.specs.Lists.{_∈_}
 use Rattle.trellis.specs.Word.{Word, word, wordAt, Before, sameWord, Table, Beginning, Ending, beginning, ending, joined, RectangularAt, Rectangular}
 use Rattle.trellis.proofs.Lists.{Place, in-place, place-of}
-use Rattle.trellis.proofs.ThreeNumbers.{lower-never, lower-chain, Equal, alike-yes, alike-self}
+use Rattle.trellis.proofs.ThreeNumbers.{lower-never, lower-chain, alike-yes, alike-self}
 use Rattle.trellis.proofs.Labels.{by-parts, spliced-front, spliced-back}
 
 -- ---- equality

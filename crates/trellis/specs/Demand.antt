@@ -5,7 +5,7 @@ use Prim.Native.Nat.{ℕ, suc, _+_, _-_, _≤_, _<_}
 use lib.ListN.{length, getD}
 use Rattle.trellis.specs.Lists.{each, sum}
 use Rattle.trellis.specs.Word.{Word}
-use Rattle.trellis.specs.Own.{keys, vertexCount, edgesAt, edgeCount}
+use Rattle.trellis.specs.Own.{keys, vertexCount, edgesAt}
 use Rattle.trellis.specs.Drawn.{Drawing, DrawnFor}
 
 -- v t vertices at depth t and e t edges at step t: all vertices, all edges

@@ -3,7 +3,7 @@
 -- end reads as 0. Step t + 1 of document 01 is written as step t.
 use mathlib.Core.List.{List, [], _∷_, _++_, map, flatMap}
 use Prim.Native.Nat.{ℕ, zero, suc, _+_, _*_}
-use lib.ListN.{length, getD}
+use lib.ListN.{getD}
 use Rattle.trellis.specs.Lists.{run, each, sum}
 use Rattle.trellis.specs.Word.{Word}
 use Rattle.trellis.specs.Own.{Edge, edge, keys, vertexCount, edgesAt, edgeCount}

@@ -1,5 +1,4 @@
 -- `assemble::put_header` writes three numbers.
-use mathlib.Core.Path.{refl}
 use native.Mathlib.Omega.{arith}
 use lib.ListN.{length-set}
 use borrow.Author.Needs.{needs}

@@ -1,7 +1,6 @@
 -- `assemble::put_numbers` writes one number after another: the loop keeps those that are written so far.
 use mathlib.Core.Path.{refl}
 use Prim.Native.Nat.{_-_}
-use native.Mathlib.Omega.{arith}
 use borrow.Author.Needs.{needs}
 use Rattle.assemble.specs.InNumbers.{InNumbers, numbers-none, numbers-more, numbers-end}
 use Rattle.assemble.proofs.put_numbers.Statement.{statement}

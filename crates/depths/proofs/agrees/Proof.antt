@@ -1,5 +1,4 @@
 -- `depths::agrees` meets its contract: the test of the definition, read off the rows. The places looked at are words', since rows point backward.
-use Prim.Native.Nat.{_-_}
 use borrow.Author.Needs.{needs}
 use native.Mathlib.Omega.{arith}
 use Rattle.depths.proofs.Agreement.{agrees-no, agrees-yes}

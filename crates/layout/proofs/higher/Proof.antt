@@ -1,5 +1,4 @@
 -- `layout::higher` gives the raised number: each branch is one case of the definition.
-use mathlib.Core.Path.{sym}
 use borrow.Author.Needs.{needs}
 use borrow.Author.Tests.{le-leb, lt-leb}
 use Rattle.layout.proofs.higher.Statement.{statement}

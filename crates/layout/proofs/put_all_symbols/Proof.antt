@@ -1,7 +1,6 @@
 -- `layout::put_all_symbols` writes the symbols of one step after another: the loop keeps what is written of the steps so far.
-use Prim.Native.Nat.{_-_, _*_}
+use Prim.Native.Nat.{_-_}
 use native.Mathlib.Omega.{arith}
-use lib.ListN.{length}
 use borrow.Author.Needs.{needs}
 use Rattle.layout.specs.AllPieces.{stepSymbols, InAll, all-none, all-room, symbols-more, all-end, step-words}
 use Rattle.layout.proofs.put_all_symbols.Statement.{statement}

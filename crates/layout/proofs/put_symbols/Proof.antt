@@ -1,8 +1,6 @@
 -- `layout::put_symbols` writes the symbols word by word: the loop keeps the piece that is written so far.
-use mathlib.Core.Path.{refl}
 use Prim.Native.Nat.{_-_}
 use native.Mathlib.Omega.{arith}
-use lib.ListN.{length-set}
 use borrow.Author.Needs.{needs}
 use Rattle.layout.specs.Pieces.{symbolsOf}
 use Rattle.layout.specs.InPieces.{InPiece, piece-none, symbols-piece, symbol-more, piece-end, word-below}

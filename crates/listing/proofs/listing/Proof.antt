@@ -1,5 +1,4 @@
 -- `listing::listing` makes the text in a buffer of its own, and copies it where there is room for it.
-use native.Mathlib.Omega.{arith}
 use Rattle.listing.proofs.Outcomes.{end-inside, end-taken, listed-short, listed-text}
 use borrow.Author.Needs.{needs}
 use Rattle.listing.proofs.listing.Statement.{statement}

@@ -1,6 +1,5 @@
 -- `listing::put_depths` puts a line for each depth. The loop's invariant: the lines of the depths passed are put. The measure is how many are left.
 use Prim.Native.Nat.{suc, _-_}
-use mathlib.Core.Path.{_∙_}
 use Rattle.listing.proofs.Lines.{Depths, depths-start, depths-next, depths-all}
 use borrow.Author.Needs.{needs}
 use Rattle.listing.proofs.put_depths.Statement.{statement}

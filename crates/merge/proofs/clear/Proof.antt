@@ -1,6 +1,5 @@
 -- `merge::clear` clears one place after another: the loop keeps those that are cleared so far.
 use Prim.Native.Nat.{_-_}
-use native.Mathlib.Omega.{arith}
 use borrow.Author.Needs.{needs}
 use Rattle.merge.specs.InClear.{InClear, clear-none, clear-more, clear-end}
 use Rattle.merge.proofs.clear.Statement.{statement}

@@ -1,8 +1,6 @@
 -- `merge::copy_words` copies one word after another: the loop keeps those that are copied so far.
 use mathlib.Core.Path.{ap}
 use Prim.Native.Nat.{_-_}
-use native.Mathlib.Omega.{arith}
-use lib.ListN.{length-set}
 use borrow.Author.Needs.{needs}
 use Rattle.table.specs.declared.Word.{Word}
 use Rattle.merge.specs.InCopy.{InCopy, copy-none, copy-more, copy-end}

@@ -1,6 +1,6 @@
 -- `passes::name_words` follows the picks from block to block. The loop's invariant: the words written are the beginning of the first path of least
 -- distance, the sum is their distance, and from this state there is a path onward. The measure is how many blocks are left.
-use mathlib.Core.Path.{_≡_, refl}
+use mathlib.Core.Path.{refl}
 use Prim.Native.Nat.{_-_}
 use native.Mathlib.Omega.{arith}
 use lib.ListN.{length}

@@ -1,5 +1,4 @@
 -- `read_back::gather` meets its contract. The loop's invariant: the array holds the beginnings up to depth t. The measure is what is left of the depths.
-use native.Mathlib.Omega.{arith}
 use Prim.Native.Nat.{_-_}
 use Rattle.read_back.proofs.Depths.{Depth, roots-level, depth-start, depth-step, depth-next, depth-over, depth-all}
 use borrow.Author.Needs.{needs}

@@ -1,7 +1,7 @@
 -- `read_back::starts_of` meets its contract. The loop's invariant: the edges from k on are noted. The measure is k.
 use mathlib.Core.Path.{refl}
 use native.Mathlib.Omega.{arith}
-use Prim.Native.Nat.{_-_, _<_}
+use Prim.Native.Nat.{_-_}
 use Rattle.section_file.specs.Answer.{edgeAt}
 use Rattle.read_back.proofs.Growing.{Noted, noted-start, noted-next, noted-all}
 use borrow.Author.Needs.{needs}

@@ -1,5 +1,4 @@
 -- `section_file::steps_right` meets its contract. The loop's invariant: all steps passed are right, and their edges are counted. The measure is what is left.
-use native.Mathlib.Omega.{arith}
 use Prim.Native.Nat.{_-_}
 use Rattle.section_file.proofs.Tests.{passed-fails, passed-all}
 use Rattle.section_file.proofs.Steps.{InSteps, steps-start, step-at, steps-next}

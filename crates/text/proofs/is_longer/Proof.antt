@@ -1,6 +1,5 @@
 -- `text::is_longer` is the test of `longer`, by whether there is room.
 use Rattle.text.proofs.Spelling.{longer-none, longer-some}
-use borrow.Author.Needs.{needs}
 use Rattle.text.proofs.is_longer.Statement.{statement}
 use Rattle.text.proofs.is_longer.Tie as tie
 

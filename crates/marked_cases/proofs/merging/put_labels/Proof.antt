@@ -1,6 +1,6 @@
 -- `marked_cases::merging::put_labels` writes two places for each label, and no write changes the file's length.
 use mathlib.Core.Path.{_≡_}
-use Prim.Native.Nat.{_≤_, _-_}
+use Prim.Native.Nat.{_-_}
 use lib.ListN.{length, length-set}
 use native.Mathlib.Omega.{arith}
 use borrow.Author.Needs.{needs}

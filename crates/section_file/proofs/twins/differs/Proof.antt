@@ -1,5 +1,4 @@
 -- `section_file::twins::differs` meets its contract, by the two tests of the definition.
-use mathlib.Core.Path.{sym}
 use borrow.Author.Tests.{eq-eqb, ne-eqb}
 use borrow.Author.Needs.{needs}
 use Rattle.section_file.proofs.twins.differs.Statement.{statement}

@@ -4,7 +4,7 @@ use mathlib.Core.Path.{refl}
 use native.Mathlib.Omega.{arith}
 use Prim.Native.Nat.{_+_, _-_, _*_}
 use lib.ListN.{getD}
-use Rattle.section_file.proofs.Marking.{Apart, small-of, slot-of, vertex-small, apart-start, slot-small, twins-found, twins-not, twins-none}
+use Rattle.section_file.proofs.Marking.{Apart, small-of, slot-of, apart-start, slot-small, twins-found, twins-not, twins-none}
 use borrow.Author.Needs.{needs}
 use Rattle.section_file.proofs.twins.without_twins.Statement.{statement}
 use Rattle.section_file.proofs.twins.without_twins.Tie as tie
