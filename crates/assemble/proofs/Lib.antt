@@ -2,3 +2,4 @@
 pub mod OuterRows
 pub mod SectionParts
 pub mod Whole
+pub mod Numbers

@@ -7,12 +7,12 @@ use native.Mathlib.Nat.{suc-mul, mul-le-mul-right, one-mul, zero-add}
 use lib.ListN.{length, getD, set, length-set}
 use lib.Seq.{ext-getD, getD-set-same, getD-set-other}
 use Rattle.trellis.specs.Lists.{rank}
-use Rattle.trellis.specs.Write.{Wrote}
+use Rattle.trellis.specs.inner.Write.{Wrote}
 use Rattle.trellis.proofs.Lists.{length-run, each-at}
 use Rattle.trellis.proofs.Write.{wrote-length, wrote-at, wrote-before, wrote-behind}
-use Rattle.layout.specs.States.{statesOf, Few, Marked, Summed, Numbered, vertexRow}
+use Rattle.layout.specs.inner.States.{statesOf, Few, Marked, Summed, Numbered, vertexRow}
 use Rattle.layout.proofs.Marks.{numbered}
-use Rattle.assemble.specs.Outer.{stateRow, RowPut, Asked, Placed, Put}
+use Rattle.assemble.specs.inner.Outer.{stateRow, RowPut, Asked, Placed, Put}
 
 row-is : {states ranks : List ℕ} {count : ℕ} → Few states → Numbered states ranks count → vertexRow states ranks ≡ stateRow states
 row-is {states} {ranks} {count} F N = ext-getD 0 (vertexRow states ranks) (stateRow states) (length-run _ 0 (length states) ∙ sym (length-run _ 0 (length states)))

@@ -11,21 +11,22 @@ use lib.ListN.{length, getD, length-append}
 use lib.Dec.{eqb}
 use lib.Arith.{lt-of-le-ne}
 use borrow.Author.Tests.{eqb-true, eqb-false}
+use Rattle.trellis.specs.Bounds.{mostStates}
 use Rattle.trellis.specs.Layout.{joinedUp}
-use Rattle.trellis.specs.Write.{Wrote}
+use Rattle.trellis.specs.inner.Write.{Wrote}
 use Rattle.trellis.proofs.Lists.{length-run}
 use Rattle.trellis.proofs.Write.{wrote-then, wrote-length}
-use Rattle.layout.specs.States.{marksBelow, markedBelow, Bits}
-use Rattle.layout.specs.Pieces.{stepTakers}
-use Rattle.layout.specs.AllPieces.{stepPairs, stepSymbols, pairs-size, symbols-size}
-use Rattle.assemble.specs.Numbers.{firstOf, numbersOf, Parts}
+use Rattle.layout.specs.inner.States.{marksBelow, markedBelow, Bits}
+use Rattle.layout.specs.inner.Pieces.{stepTakers, stepPairs, stepSymbols}
+use Rattle.layout.proofs.AllPieces.{pairs-size, symbols-size}
+use Rattle.assemble.specs.inner.Numbers.{firstOf, numbersOf, Parts}
 
 regroup : (h a b c d e f : List ℕ) → (((((h ++ a) ++ b) ++ c) ++ d) ++ e) ++ f ≡ h ++ (a ++ (b ++ (c ++ (d ++ (e ++ f)))))
 regroup h a b c d e f = simp append-assoc
 
 -- ---- lengths of the parts
 
-marked-length : (marks : List ℕ) → Bits marks → (s : ℕ) → s ≤ 64 → length (markedBelow marks s) ≡ marksBelow marks s
+marked-length : (marks : List ℕ) → Bits marks → (s : ℕ) → s ≤ mostStates → length (markedBelow marks s) ≡ marksBelow marks s
 unfolding markedBelow marksBelow
 marked-length marks B zero h = refl
 marked-length marks B (suc s) h = go (eqb (getD marks s 0) 1) refl (marked-length marks B s (omega arith))
@@ -57,11 +58,11 @@ module _ {n : ℕ} {counts edgeCounts rootMarks goalMarks m labels words b0 : Li
   symbols-long : length (joinedUp (stepSymbols m labels n) n) ≡ 1 * total
   symbols-long = joined-size (stepSymbols m labels n) (stepTakers m labels n) 1 n (symbols-size m labels n)
 
-  roots-long : length (markedBelow rootMarks 64) ≡ marksBelow rootMarks 64
-  roots-long = marked-length rootMarks (P .rootBits) 64 (omega arith)
+  roots-long : length (markedBelow rootMarks mostStates) ≡ marksBelow rootMarks mostStates
+  roots-long = marked-length rootMarks (P .rootBits) mostStates (omega arith)
 
-  goals-long : length (markedBelow goalMarks 64) ≡ marksBelow goalMarks 64
-  goals-long = marked-length goalMarks (P .goalBits) 64 (omega arith)
+  goals-long : length (markedBelow goalMarks mostStates) ≡ marksBelow goalMarks mostStates
+  goals-long = marked-length goalMarks (P .goalBits) mostStates (omega arith)
 
   module _ {q states : ℕ} {b1 : List ℕ} {a1 : ℕ} (H : Wrote b0 0 (q ∷ n ∷ states ∷ []) b1 a1) where
     pub room-vertices : a1 + (n + 1) ≤ length b1
@@ -84,21 +85,21 @@ module _ {n : ℕ} {counts edgeCounts rootMarks goalMarks m labels words b0 : Li
         len3 : length b3 ≡ length b0
         len3 = wrote-length B ∙ len2
 
-        pub room-roots : a3 + marksBelow rootMarks 64 < length b3
+        pub room-roots : a3 + marksBelow rootMarks mostStates < length b3
         room-roots = omega (arith, at3, len3, P .room, P .some)
 
-        module _ {b4 : List ℕ} {a4 : ℕ} (C : Wrote b3 a3 (markedBelow rootMarks 64) b4 a4) where
-          at4 : a4 ≡ 4 + 2 * n + marksBelow rootMarks 64
+        module _ {b4 : List ℕ} {a4 : ℕ} (C : Wrote b3 a3 (markedBelow rootMarks mostStates) b4 a4) where
+          at4 : a4 ≡ 4 + 2 * n + marksBelow rootMarks mostStates
           at4 = omega (arith, at3, C .end-is, roots-long)
 
           len4 : length b4 ≡ length b0
           len4 = wrote-length C ∙ len3
 
-          pub room-goals : a4 + marksBelow goalMarks 64 < length b4
+          pub room-goals : a4 + marksBelow goalMarks mostStates < length b4
           room-goals = omega (arith, at4, len4, P .room, P .some)
 
-          module _ {b5 : List ℕ} {a5 : ℕ} (D : Wrote b4 a4 (markedBelow goalMarks 64) b5 a5) where
-            at5 : a5 ≡ 4 + 2 * n + (marksBelow rootMarks 64 + marksBelow goalMarks 64)
+          module _ {b5 : List ℕ} {a5 : ℕ} (D : Wrote b4 a4 (markedBelow goalMarks mostStates) b5 a5) where
+            at5 : a5 ≡ 4 + 2 * n + (marksBelow rootMarks mostStates + marksBelow goalMarks mostStates)
             at5 = omega (arith, at4, D .end-is, goals-long)
 
             len5 : length b5 ≡ length b0
@@ -119,9 +120,9 @@ module _ {n : ℕ} {counts edgeCounts rootMarks goalMarks m labels words b0 : Li
                 unfolding numbersOf
                 all-parts = subst (λ vs. Wrote b0 0 vs b7 a7) together (wrote-then (wrote-then (wrote-then (wrote-then (wrote-then (wrote-then H A) B) C) D) E) F)
                   where
-                    together : ((((((q ∷ n ∷ states ∷ []) ++ firstOf counts (n + 1)) ++ firstOf edgeCounts n) ++ markedBelow rootMarks 64) ++ markedBelow goalMarks 64)
+                    together : ((((((q ∷ n ∷ states ∷ []) ++ firstOf counts (n + 1)) ++ firstOf edgeCounts n) ++ markedBelow rootMarks mostStates) ++ markedBelow goalMarks mostStates)
                         ++ joinedUp (stepPairs m labels n) n) ++ joinedUp (stepSymbols m labels n) n
                         ≡ q ∷ n ∷ states ∷
-                        (firstOf counts (suc n) ++ (firstOf edgeCounts n ++ (markedBelow rootMarks 64 ++ (markedBelow goalMarks 64
+                        (firstOf counts (suc n) ++ (firstOf edgeCounts n ++ (markedBelow rootMarks mostStates ++ (markedBelow goalMarks mostStates
                         ++ (joinedUp (stepPairs m labels n) n ++ joinedUp (stepSymbols m labels n) n)))))
-                    together = rw (add-one n) (regroup (q ∷ n ∷ states ∷ []) (firstOf counts (suc n)) (firstOf edgeCounts n) (markedBelow rootMarks 64) (markedBelow goalMarks 64) (joinedUp (stepPairs m labels n) n) (joinedUp (stepSymbols m labels n) n))
+                    together = rw (add-one n) (regroup (q ∷ n ∷ states ∷ []) (firstOf counts (suc n)) (firstOf edgeCounts n) (markedBelow rootMarks mostStates) (markedBelow goalMarks mostStates) (joinedUp (stepPairs m labels n) n) (joinedUp (stepSymbols m labels n) n))

@@ -1,41 +1,36 @@
 -- The finished map and the section's numbers are those of our section. The states of an outer depth are its keys, so the rows written there are the
 -- vertices; with the inner rows the map has the vertex of every word at every depth, and then the first words on edges give the edges in order.
 use mathlib.Core.Path.{_≡_, refl, sym, ap, ap₂, _∙_}
-use mathlib.Core.List.{List, [], _∷_, _++_, map, flatMap, map-append}
+use mathlib.Core.List.{List, _∷_, _++_, map, flatMap, map-append}
 use Prim.Native.Nat.{ℕ, zero, suc, _+_, _*_, _/_, _%_, _<_, _≤_}
 use native.Mathlib.Omega.{arith}
 use native.Mathlib.Nat.{suc-mul, zero-mul, mul-zero, one-mul, zero-add, le-refl, mul-le-mul-right, div-add-mod', div-lt-iff-lt-mul, mod-lt}
 use native.Mathlib.Decide.{ℕ-discrete}
 use lib.ListN.{length, getD, length-append, length-map}
 use lib.Dec.{ltb}
+use Rattle.trellis.specs.Bounds.{mostWords}
 use Rattle.trellis.specs.Lists.{each, rank, ascending}
 use Rattle.trellis.specs.Label.{symbol}
 use Rattle.trellis.specs.Word.{Word, Rectangular}
-use Rattle.trellis.specs.Own.{Edge, key, keys, vertexOf, vertexCount, edgeOf, edgesAt, edgeCount}
+use Rattle.trellis.specs.Own.{key, keys, vertexOf, vertexCount, edgeOf, edgesAt, edgeCount}
 use Rattle.trellis.specs.Layout.{joinedUp, pairOf, symbolOf, sectionOf}
-use Rattle.trellis.proofs.Lists.{length-run, flatMap-append, each-same}
+use Rattle.trellis.proofs.Lists.{length-run, flatMap-append, each-same, length-two}
 use Rattle.trellis.proofs.Ascending.{numbers, ascending-length}
 use Rattle.trellis.proofs.Paths.{edge-eq}
 use Rattle.trellis.proofs.Vertices.{key-root, key-goal, vertex-below}
-use Rattle.depths.specs.Words.{words, Held}
-use Rattle.depths.specs.Merge.{Sound}
+use Rattle.depths.specs.inner.Words.{words, Held}
+use Rattle.depths.specs.inner.Merge.{Sound}
 use Rattle.depths.proofs.Words.{held-length, word-root, word-label, word-goal}
-use Rattle.layout.specs.States.{statesOf, Few}
-use Rattle.layout.specs.Takers.{rowEdge, takers}
-use Rattle.layout.specs.Pieces.{SmallMap, stepEdge, stepTakers, stepList}
-use Rattle.layout.specs.AllPieces.{Taken, stepPairs, stepSymbols}
+use Rattle.layout.specs.inner.States.{statesOf, Few}
+use Rattle.layout.specs.inner.Takers.{rowEdge, takers}
+use Rattle.layout.specs.inner.Pieces.{SmallMap, stepEdge, stepTakers, stepList, Taken, stepPairs, stepSymbols}
 use Rattle.layout.proofs.FirstWords.{takers-edges}
 use Rattle.layout.proofs.Marks.{marked-are}
-use Rattle.assemble.specs.Outer.{Put}
-use Rattle.assemble.specs.Numbers.{numbersOf}
+use Rattle.assemble.specs.inner.Outer.{Put}
+use Rattle.assemble.specs.inner.Numbers.{numbersOf}
 
 six-long : (a b c d e f : List ℕ) → length (a ++ (b ++ (c ++ (d ++ (e ++ f))))) ≡ length a + (length b + (length c + (length d + (length e + length f))))
 six-long a b c d e f = simp length-append
-
-two-each : (l : List Edge) → length (flatMap pairOf l) ≡ 2 * length l
-unfolding flatMap
-two-each [] = omega arith
-two-each (e ∷ l) = omega (arith, two-each l)
 
 module _ {n : ℕ} {roots labels goals old new inner rootMarks goalMarks counts : List ℕ} (H : Held n roots labels goals)
     (S : Sound n (words roots labels goals) 1 old inner) (P : Put roots goals n old new inner rootMarks goalMarks counts) where
@@ -96,7 +91,7 @@ module _ {n : ℕ} {roots labels goals old new inner rootMarks goalMarks counts 
       go (no p) (yes q) = ap (λ u. getD counts u 0) q ∙ P .goalCount ∙ ap length goal-states ∙ ap (λ u. length (keys n (words roots labels goals) u)) (sym q)
       go (no p) (no q) = P .innerCount t (omega arith) (omega arith) ∙ S .counted t (omega arith) (omega arith)
 
-  few-vertices : (t i : ℕ) → i < length roots → vertexOf n table t i < 1024
+  few-vertices : (t i : ℕ) → i < length roots → vertexOf n table t i < mostWords
   unfolding vertexCount keys
   few-vertices t i h = omega (
     arith,
@@ -107,7 +102,7 @@ module _ {n : ℕ} {roots labels goals old new inner rootMarks goalMarks counts 
     H .few,
   )
 
-  pub few-counts : (t : ℕ) → t ≤ n → getD counts t 0 ≤ 1024
+  pub few-counts : (t : ℕ) → t ≤ n → getD counts t 0 ≤ mostWords
   unfolding vertexCount keys
   few-counts t h = omega (arith, counted t h, ascending-length ltb numbers (each (key n table t) (length table)), length-run (key n table t) 0 (length table), size, H .few)
 
@@ -120,7 +115,7 @@ module _ {n : ℕ} {roots labels goals old new inner rootMarks goalMarks counts 
     vertices = λ j h. vertices j (rw (H .labelled) at h);
   }
     where
-      vertices : (j : ℕ) → j < suc n * length roots → getD new j 0 < 1024
+      vertices : (j : ℕ) → j < suc n * length roots → getD new j 0 < mostWords
       vertices j h =
           let some : 0 < length roots = pos (length roots) (suc n) j h in
           let t = j / length roots in
@@ -202,7 +197,7 @@ module _ {n : ℕ} {roots labels goals old new inner rootMarks goalMarks counts 
           length-run (edgeCount n table) 0 n,
           counted 0 (omega arith),
           counted n (le-refl _),
-          two-each (joinedUp (edgesAt n table) n),
+          length-two pairOf (joinedUp (edgesAt n table) n) (λ e. refl),
           length-map (joinedUp (edgesAt n table) n) symbolOf,
           all-takers n (le-refl _),
         )

@@ -1,3 +1,1 @@
-pub mod Outer
-pub mod Numbers
-pub mod InNumbers
+pub mod inner

@@ -2,10 +2,10 @@
 ghost use mathlib.Core.List.{[], _∷_};
 ghost use Prim.Native.Nat.{_+_, _*_, _<_, _≤_};
 ghost use lib.ListN.{length};
-ghost use Rattle.trellis.specs.Write.{Wrote};
-ghost use Rattle.layout.specs.States.{Few};
-ghost use Rattle.assemble.specs.Outer.{Asked, RowPut, Put};
-ghost use Rattle.assemble.specs.Numbers.{firstOf, numbersOf, Parts};
+ghost use Rattle.trellis.specs.inner.Write.{Wrote};
+ghost use Rattle.layout.specs.inner.States.{Few};
+ghost use Rattle.assemble.specs.inner.Outer.{Asked, RowPut, Put};
+ghost use Rattle.assemble.specs.inner.Numbers.{firstOf, numbersOf, Parts};
 use layout::states;
 
 // What is known of an outer depth: its states as marks, and how many there are.

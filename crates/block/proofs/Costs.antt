@@ -9,10 +9,12 @@ use mathlib.Core.Bool.{Bool}
 use lib.Dec.{lit<}
 use lib.ListN.{length, getD, set, length-set}
 use lib.Seq.{getD-set-same, getD-set-other}
+use Rattle.trellis.specs.Bounds.{mostSymbols}
 use Rattle.trellis.specs.Label.{symbol}
-use Rattle.paths.specs.Ranked.{ranked, rankedCost}
-use Rattle.block.specs.Received.{erasedAt, costOver, symbolCost, Prices}
-use Rattle.block.specs.Loops.{InPrices}
+use Rattle.paths.specs.inner.Ranked.{ranked, rankedCost}
+use Rattle.block.specs.Received.{erasedAt, costOver, symbolCost}
+use Rattle.block.specs.inner.Prices.{Prices}
+use Rattle.block.specs.inner.Loops.{InPrices}
 
 pub prices-start : {n received mask : ℕ} {prices : List ℕ} → length prices ≡ 32 → InPrices n received mask prices 65536 n
 prices-start {n} h =
@@ -59,7 +61,7 @@ price-is n t cost a weight e =
     let m : a * (4 ^ (n - suc t) * 65536) ≡ a * 4 ^ (n - suc t) * 65536 = sym (mul-assoc a (4 ^ (n - suc t)) 65536) in
     ap (λ x. cost * 4294967296 + a * x) e ∙ omega (arith, m)
 
-pub prices-more : {n received mask t r weight c₀ c₁ c₂ c₃ w x y z : ℕ} {prices : List ℕ} {erased : Bool} → n ≤ 8 → InPrices n received mask prices weight t → 0 < t
+pub prices-more : {n received mask t r weight c₀ c₁ c₂ c₃ w x y z : ℕ} {prices : List ℕ} {erased : Bool} → n ≤ mostSymbols → InPrices n received mask prices weight t → 0 < t
     → erased ≡ erasedAt n (t - 1) mask → r ≡ symbol n (t - 1) received
     → c₀ ≡ costOver erased r 0 → w ≡ c₀ * 4294967296 + 0 * weight → c₁ ≡ costOver erased r 1 → x ≡ c₁ * 4294967296 + 1 * weight
     → c₂ ≡ costOver erased r 2 → y ≡ c₂ * 4294967296 + 2 * weight → c₃ ≡ costOver erased r 3 → z ≡ c₃ * 4294967296 + 3 * weight
@@ -78,7 +80,7 @@ prices-more {n} {received} {mask} {t} {r} {weight} {w = w} {x} {y} {z} {prices} 
 
     lighter : weight * 4 ≤ 4294967296
     lighter =
-        let m : 4 ^ (n - (t - 1)) ≤ 4 ^ 8 = pow-le-pow-right (lit< tt) (let k : n - (t - 1) ≤ 8 = omega arith in k) in
+        let m : 4 ^ (n - (t - 1)) ≤ 4 ^ 8 = pow-le-pow-right (lit< tt) (let k : n - (t - 1) ≤ mostSymbols = omega arith in k) in
         omega (arith, weights)
 
     heavy : weight ≡ 4 ^ (n - suc (t - 1)) * 65536

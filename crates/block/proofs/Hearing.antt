@@ -9,21 +9,24 @@ use native.Mathlib.Numerals.{add-one}
 use native.Mathlib.Omega.{arith}
 use lib.Dec.{T, eqb, lit<}
 use borrow.Author.Tests.{eq-eqb, ne-eqb}
+use Rattle.trellis.specs.Bounds.{mostSymbols}
 use Rattle.trellis.specs.Lists.{one-if, sum}
 use Rattle.trellis.specs.Label.{symbol, distance}
 use Rattle.trellis.proofs.Lists.{sum-add, sum-eq, sum-last}
-use Rattle.label.specs.Labels.{appended}
+use Rattle.trellis.proofs.Bools.{one-if-le}
+use Rattle.label.specs.inner.Labels.{appended}
 use Rattle.label.proofs.Appending.{appended-short, appended-last, appended-before}
 use Rattle.label.proofs.Differing.{distance-more, distance-sum, distance-le}
 use Rattle.label.proofs.Digits.{symbol-small}
-use Rattle.block.specs.Received.{erasedAt, costOver, symbolCost, blockDistance, Clean}
-use Rattle.block.specs.Loops.{InHeard}
+use Rattle.block.specs.Received.{erasedAt, costOver, symbolCost, blockDistance}
+use Rattle.block.specs.inner.Prices.{Clean}
+use Rattle.block.specs.inner.Loops.{InHeard}
 
 pub heard-start : {n mask label : ℕ} → InHeard n mask label 0 0 0
 unfolding sum
 heard-start = record { t-le = omega arith; short = lit< tt; few = omega arith; symbols = λ u h. absurd (not-suc-le-zero h); count = refl }
 
-pub heard-more : {n mask label t heard erased a s x new : ℕ} {gone : Bool} → n ≤ 8 → InHeard n mask label t heard erased → t < n → gone ≡ erasedAt n t mask
+pub heard-more : {n mask label t heard erased a s x new : ℕ} {gone : Bool} → n ≤ mostSymbols → InHeard n mask label t heard erased → t < n → gone ≡ erasedAt n t mask
     → a ≡ symbol n t label → s ≡ cond gone 0 a → new ≡ appended heard s → x ≡ one-if gone → InHeard n mask label (t + 1) new (erased + x)
 heard-more {n} {mask} {label} {t} {heard} {erased} {a} {s} {x} {new} {gone} few I h g p q w o =
     rw (add-one t) (record { t-le = h; short = rw w (appended-short t heard s (I .short) room small); few = fewer; symbols = symbols; count = count })
@@ -45,11 +48,7 @@ heard-more {n} {mask} {label} {t} {heard} {erased} {a} {s} {x} {new} {gone} few 
     x-is = o ∙ ap one-if g
 
     fewer : erased + x ≤ suc t
-    fewer = let f = I .few in let l = at-most-one gone in omega arith
-      where
-        at-most-one : (b : Bool) → one-if b ≤ 1
-        at-most-one true = omega arith
-        at-most-one false = omega arith
+    fewer = let f = I .few in let l = one-if-le gone in omega arith
 
     symbols : (u : ℕ) → u < suc t → symbol (suc t) u new ≡ cond (erasedAt n u mask) 0 (symbol n u label)
     symbols u l = ap (symbol (suc t) u) w ∙ go (ℕ-discrete u t)
@@ -87,7 +86,7 @@ one-symbol r a c false z e =
     let m : one-if (not (eqb a r)) ≡ one-if (not (eqb r c)) = ap (λ k. one-if (not k)) q in
     omega arith
 
-pub distance-heard : {n received mask label heard erased d : ℕ} → n ≤ 8 → Clean n received mask → InHeard n mask label n heard erased → d ≡ distance 8 received heard
+pub distance-heard : {n received mask label heard erased d : ℕ} → n ≤ mostSymbols → Clean n received mask → InHeard n mask label n heard erased → d ≡ distance 8 received heard
     → d + erased ≡ blockDistance n received mask label
 unfolding blockDistance symbolCost
 distance-heard {n} {received} {mask} {label} {heard} {erased} {d} few C I e =
@@ -123,12 +122,12 @@ block-at-most n received mask label = each n 0
     each zero t = omega arith
     each (suc k) t = let h = each k (suc t) in let l = one (erasedAt n t mask) (symbol n t received) (symbol n t label) in omega arith
 
-pub distance-ends : {n received mask label heard erased d : ℕ} → n ≤ 8 → Clean n received mask → InHeard n mask label n heard erased → d ≡ distance 8 received heard
-    → (d + erased * 1 ≡ blockDistance n received mask label) × (d + erased * 1 ≤ 8)
+pub distance-ends : {n received mask label heard erased d : ℕ} → n ≤ mostSymbols → Clean n received mask → InHeard n mask label n heard erased → d ≡ distance 8 received heard
+    → (d + erased * 1 ≡ blockDistance n received mask label) × (d + erased * 1 ≤ mostSymbols)
 distance-ends {n} {received} {mask} {label} few C I e =
     let a = distance-heard few C I e in
     let b = block-at-most n received mask label in
     (omega arith, omega arith)
 
-pub distance-few : {n received mask label heard erased d : ℕ} → Clean n received mask → InHeard n mask label n heard erased → d ≡ distance 8 received heard → d ≤ 8
+pub distance-few : {n received mask label heard erased d : ℕ} → Clean n received mask → InHeard n mask label n heard erased → d ≡ distance 8 received heard → d ≤ mostSymbols
 distance-few {received = received} {heard = heard} C I e = let a = distance-le 8 received heard in omega arith

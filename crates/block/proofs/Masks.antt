@@ -13,8 +13,9 @@ use Rattle.trellis.specs.Lists.{first}
 use Rattle.trellis.specs.Label.{symbol, isLabel, symbolsBelow}
 use Rattle.trellis.proofs.Bools.{holds, fails, is-true, both, join}
 use Rattle.trellis.proofs.Lists.{First, first-ok, first-is}
-use Rattle.block.specs.Received.{erasedAt, stray, fitsBlock, Clean}
-use Rattle.block.specs.Loops.{InStray}
+use Rattle.block.specs.Received.{erasedAt, stray, fitsBlock}
+use Rattle.block.specs.inner.Prices.{Clean}
+use Rattle.block.specs.inner.Loops.{InStray}
 
 pub bit-at : (n t mask : ℕ) → eqb (bitAnd (mask / 2 ^ (n - 1 - t)) 1) 1 ≡ erasedAt n t mask
 unfolding erasedAt

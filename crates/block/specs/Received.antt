@@ -1,14 +1,10 @@
 -- What was received of a block of n symbols: a label, and an erasure mask of n bits, the first symbol highest. Everything here computes.
 -- The cost of a symbol is fixed here and nowhere else.
-use mathlib.Core.Path.{_≡_}
 use mathlib.Core.Bool.{Bool, cond, not, _&&_}
-use mathlib.Core.List.{List}
-use Prim.Native.Nat.{ℕ, suc, _+_, _-_, _*_, _/_, _%_, _^_, _<_}
-use lib.Dec.{T, ltb, eqb}
-use lib.ListN.{getD}
+use Prim.Native.Nat.{ℕ, suc, _-_, _/_, _%_, _^_}
+use lib.Dec.{ltb, eqb}
 use Rattle.trellis.specs.Lists.{one-if, sum, first}
 use Rattle.trellis.specs.Label.{symbol, isLabel}
-use Rattle.paths.specs.Ranked.{rankedCost}
 
 -- whether symbol t is erased
 unfoldable pub erasedAt : ℕ → ℕ → ℕ → Bool
@@ -38,12 +34,3 @@ module _ (n received mask : ℕ) where
   -- no digit not below q, none not 0 where erased, no bits above the n digits, no mask bit at or above 2^n
   unfoldable pub fitsBlock : ℕ → Bool
   fitsBlock q = isLabel q n received && (ltb mask (2 ^ n) && eqb (first stray n) n)
-
-  -- what that says of the digits
-  pub record Clean : Type 0 where
-    pub short : received < 4 ^ n
-    pub zero : (t : ℕ) → t < n → T (erasedAt n t mask) → symbol n t received ≡ 0
-
-  -- the array holds what the symbols add, four a step: their costs, ranked by the symbols
-  pub record Prices (prices : List ℕ) : Type 0 where
-    pub at : (t a : ℕ) → t < n → a < 4 → getD prices (4 * t + a) 0 ≡ rankedCost n symbolCost t a

@@ -4,15 +4,17 @@ ghost use mathlib.Core.Path.{_≡_};
 ghost use mathlib.Core.Bool.{cond};
 ghost use Prim.Native.Nat.{_+_, _*_, _^_, _<_, _≤_};
 ghost use lib.Dec.{ltb, eqb};
+ghost use Rattle.trellis.specs.Bounds.{mostSymbols};
 ghost use Rattle.trellis.specs.Lists.{first, one-if};
-ghost use Rattle.block.specs.Received.{erasedAt, costOver, blockDistance, stray, fitsBlock, Clean, Prices};
-ghost use Rattle.block.specs.Loops.{InHeard};
+ghost use Rattle.block.specs.Received.{erasedAt, costOver, blockDistance, stray, fitsBlock};
+ghost use Rattle.block.specs.inner.Prices.{Clean, Prices};
+ghost use Rattle.block.specs.inner.Loops.{InHeard};
 
 const ERASURE_COST: u32 = 1;
 
 // Whether symbol t of n is erased.
 fn is_erased(mask: u8, n: usize, t: usize) -> bool
-    requires { ⌜ (t < n) × (n ≤ 8) ⌝ }
+    requires { ⌜ (t < n) × (n ≤ mostSymbols) ⌝ }
     ensures { λ r. ⌜ r ≡ erasedAt n t mask ⌝ }
 {
     (mask >> (n - 1 - t)) & 1 == 1
@@ -26,7 +28,7 @@ fn mask_fits(mask: u8, n: usize) -> bool
 }
 
 fn is_stray(received: u16, mask: u8, n: usize, t: usize) -> bool
-    requires { ⌜ (t < n) × (n ≤ 8) ⌝ }
+    requires { ⌜ (t < n) × (n ≤ mostSymbols) ⌝ }
     ensures { λ r. ⌜ r ≡ stray n received mask t ⌝ }
 {
     if is_erased(mask, n, t) {
@@ -37,7 +39,7 @@ fn is_stray(received: u16, mask: u8, n: usize, t: usize) -> bool
 
 // Whether no erased symbol is other than 0.
 fn is_clear(received: u16, mask: u8, n: usize) -> bool
-    requires { ⌜ n ≤ 8 ⌝ }
+    requires { ⌜ n ≤ mostSymbols ⌝ }
     ensures { λ r. ⌜ r ≡ eqb (first (stray n received mask) n) n ⌝ }
 {
     let mut t: usize = 0;
@@ -52,7 +54,7 @@ fn is_clear(received: u16, mask: u8, n: usize) -> bool
 
 // Whether a received label and mask fit a section of n symbols below q.
 pub fn fits(q: u16, n: usize, received: u16, mask: u8) -> bool
-    requires { ⌜ n ≤ 8 ⌝ }
+    requires { ⌜ n ≤ mostSymbols ⌝ }
     ensures { λ r. ⌜ r ≡ fitsBlock n received mask q ⌝ }
 {
     if !label::is_label(received, q, n) {
@@ -83,7 +85,7 @@ fn price(cost: u32, symbol: u64, weight: u64) -> u64
 
 // What the symbols add, four a step: the cost ranks first, then the symbol.
 pub fn prices(n: usize, received: u16, mask: u8) -> [u64; 32]
-    requires { ⌜ n ≤ 8 ⌝ }
+    requires { ⌜ n ≤ mostSymbols ⌝ }
     ensures { λ r. ⌜ Prices n received mask r ⌝ }
 {
     let mut prices = [0u64; 32];
@@ -121,7 +123,7 @@ fn counted(erased: bool) -> u32
 
 // The label with 0 where it is erased, and how many symbols are.
 fn heard_of(n: usize, mask: u8, label: u16) -> Heard
-    requires { ⌜ n ≤ 8 ⌝ }
+    requires { ⌜ n ≤ mostSymbols ⌝ }
     ensures { λ r. ⌜ InHeard n mask label n (r .label) (r .erased) ⌝ }
 {
     let mut rest: u16 = 0;
@@ -141,8 +143,8 @@ fn heard_of(n: usize, mask: u8, label: u16) -> Heard
 
 // The distance of a label from what was received.
 pub fn distance(n: usize, received: u16, mask: u8, label: u16) -> u32
-    requires { ⌜ (n ≤ 8) × Clean n received mask ⌝ }
-    ensures { λ r. ⌜ (r ≡ blockDistance n received mask label) × (r ≤ 8) ⌝ }
+    requires { ⌜ (n ≤ mostSymbols) × Clean n received mask ⌝ }
+    ensures { λ r. ⌜ (r ≡ blockDistance n received mask label) × (r ≤ mostSymbols) ⌝ }
 {
     let h = heard_of(n, mask, label);
     label::distance(received, h.label) + h.erased * ERASURE_COST

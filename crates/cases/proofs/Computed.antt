@@ -1,7 +1,7 @@
 -- The marked cases hold by computation: both sides of each work out to the same numbers.
 use mathlib.Core.Path.{refl}
 use mathlib.Core.List.{flatMap}
-use Rattle.trellis.specs.Lists.{run, sum, first, isIn, keep, rank, insert, ascending, lower, alike}
+use Rattle.trellis.specs.Lists.{run, sum, first, isIn, keep, rank, insert, ascending, lower, alike, all, any, within}
 use Rattle.trellis.specs.Label.{symbol, front, back, spliced, symbolsBelow, isLabel}
 use Rattle.trellis.specs.Own.{shares, firstSharing, key, keys, vertexOf, vertexCount, edgesAt, edgeCount}
 use Rattle.trellis.specs.Section.{leaving, pathsFrom, packOnto, wordOf, wordsOf}
@@ -10,12 +10,12 @@ use Rattle.trellis.specs.Demand.{allVertices, additions, selections}
 use Rattle.trellis.specs.Witness.{refutes, firstOf, overK, overJ, witnessAt, witness}
 use Rattle.table.specs.File.{wordCount, fileWord, fileWords, lengthBad, outside, sizeOutside, wordOutside, wordBad, orderBad, tableFile}
 use Rattle.merge.specs.Merging.{mapOf, written, merged, mergedTable, mergedFile, merging}
-use Rattle.section_file.specs.Usable.{all, any, within, higher, rising, inside, above, covered, apart, noTwins, noForwardTwins, noBackwardTwins, stepGood, stepEdge, sizesRight, countsRight, whole, statesRight, stepRight, usable}
+use Rattle.section_file.specs.Usable.{higher, rising, inside, above, covered, apart, noTwins, noForwardTwins, noBackwardTwins, stepGood, stepEdge, sizesRight, countsRight, whole, statesRight, stepRight, usable}
 use Rattle.read_back.specs.TableBytes.{tableBytes}
 use Rattle.read_back.specs.ReadingBack.{isSection, readingBack}
 use Rattle.paths.specs.Choice.{choose, chooseAll, best}
-use Rattle.paths.specs.Graph.{paths}
-use Rattle.paths.specs.Costs.{capped}
+use Rattle.paths.specs.inner.Graph.{paths}
+use Rattle.paths.specs.inner.Costs.{capped}
 use Rattle.paths.specs.Chain.{rootedAt, chainPaths, pathDistance, bestPath, costTable}
 use Rattle.block.specs.Received.{erasedAt, symbolCost, blockDistance, stray, fitsBlock}
 use Rattle.chain.specs.Sections.{sectionStart, sectionAt, unusable, sectionsBad, badSectionOf}

@@ -7,7 +7,7 @@ use native.Mathlib.Omega.{arith}
 use lib.Dec.{ltb, leb}
 use borrow.Author.Tests.{lt-ltb, le-ltb, le-leb, lt-leb, not-false, leb-true}
 use Rattle.trellis.proofs.Bools.{holds, is-true, both}
-use Rattle.section_file.specs.Usable.{within}
+use Rattle.trellis.specs.Lists.{within}
 
 pub within-under : (low high x : ℕ) → x < low → false ≡ within low high x
 unfolding within

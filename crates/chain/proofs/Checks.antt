@@ -1,7 +1,7 @@
 -- The checks of the frame come out as the definition's: each test of the code is the next test of `frameBad`. A block's test reads the section where its
 -- index says, which is the block's section; the blocks are tested in their order, so the first bad one is found.
 use mathlib.Core.Path.{_≡_, refl, sym, ap, subst, _∙_}
-use mathlib.Core.Bool.{Bool, true, false, not, _&&_, _||_}
+use mathlib.Core.Bool.{Bool, true, false, not, _&&_}
 use mathlib.Core.List.{List}
 use Prim.Native.Nat.{ℕ, _+_, _-_, _≤_, _<_}
 use native.Mathlib.Nat.{not-suc-le-zero}
@@ -10,28 +10,28 @@ use native.Mathlib.Omega.{arith}
 use lib.Dec.{T, ltb, leb}
 use lib.ListN.{length, getD, take, drop}
 use borrow.Author.Tests.{lt-ltb, le-ltb, eq-eqb, ne-eqb, not-true, not-false, eqb-true, ltb-true}
-use Rattle.trellis.specs.Lists.{first}
+use Rattle.trellis.specs.Bounds.{mostStates, mostBlocks}
+use Rattle.trellis.specs.Lists.{first, within}
 use Rattle.trellis.specs.Layout.{qOf, nOf}
-use Rattle.trellis.proofs.Bools.{holds, fails, is-true, is-false, both}
+use Rattle.trellis.proofs.Bools.{holds, fails, is-true, is-false, both, neither}
 use Rattle.trellis.proofs.Lists.{first-is, first-ok}
-use Rattle.section_file.specs.Usable.{within}
 use Rattle.block.specs.Received.{fitsBlock}
 use Rattle.block.proofs.Masks.{clean-of}
 use Rattle.chain.specs.Sections.{sectionAt}
 use Rattle.chain.specs.Frame.{frameBad, blockSection, blockBad}
-use Rattle.chain.specs.Loops.{InBlocks}
-use Rattle.chain.specs.Checked.{AllFound, Framed, BlockGood, Checked}
+use Rattle.chain.specs.inner.Loops.{InBlocks}
+use Rattle.chain.specs.inner.Checked.{AllFound, Framed, BlockGood, Checked}
 use Rattle.chain.proofs.Bounds.{within-of, at-least}
 use Rattle.chain.proofs.Starts.{Taken}
 
 -- ---- the frame
 
 module _ (indices received erased : List ℕ) (start end : ℕ) where
-  pub frame-many : {w : Bool} → w ≡ within 1 256 (length indices) → not w ≡ true → true ≡ frameBad indices received erased start end
+  pub frame-many : {w : Bool} → w ≡ within 1 mostBlocks (length indices) → not w ≡ true → true ≡ frameBad indices received erased start end
   unfolding frameBad
   frame-many {w} e h = simp (sym e, not-true w h)
 
-  module _ {w : Bool} (e : w ≡ within 1 256 (length indices)) (h : not w ≡ false) where
+  module _ {w : Bool} (e : w ≡ within 1 mostBlocks (length indices)) (h : not w ≡ false) where
     pub frame-received : (length received ≡ length indices → ⊥) → true ≡ frameBad indices received erased start end
     unfolding frameBad
     frame-received n = simp (sym e, not-false w h, ne-eqb (length received) (length indices) n)
@@ -42,16 +42,16 @@ module _ (indices received erased : List ℕ) (start end : ℕ) where
       frame-erased n = simp (sym e, not-false w h, eq-eqb (length received) (length indices) p, ne-eqb (length erased) (length indices) n)
 
       module _ (q : length erased ≡ length indices) where
-        pub frame-start : 64 ≤ start → true ≡ frameBad indices received erased start end
+        pub frame-start : mostStates ≤ start → true ≡ frameBad indices received erased start end
         unfolding frameBad
         frame-start n =
-            simp (sym e, not-false w h, eq-eqb (length received) (length indices) p, eq-eqb (length erased) (length indices) q, le-ltb start 64 n)
+            simp (sym e, not-false w h, eq-eqb (length received) (length indices) p, eq-eqb (length erased) (length indices) q, le-ltb start mostStates n)
 
-        pub frame-end : start < 64 → leb 64 end ≡ frameBad indices received erased start end
+        pub frame-end : start < mostStates → leb mostStates end ≡ frameBad indices received erased start end
         unfolding frameBad
         frame-end n =
-            simp (sym e, not-false w h, eq-eqb (length received) (length indices) p, eq-eqb (length erased) (length indices) q, lt-ltb start 64 n)
-            (at-least 64 end)
+            simp (sym e, not-false w h, eq-eqb (length received) (length indices) p, eq-eqb (length erased) (length indices) q, lt-ltb start mostStates n)
+            (at-least mostStates end)
 
 pub framed-of : {indices received erased : List ℕ} {start end : ℕ} {bad : Bool} → bad ≡ frameBad indices received erased start end → bad ≡ false
     → Framed indices received erased start end
@@ -61,19 +61,15 @@ framed-of {indices} {received} {erased} {start} {end} e h =
     let b = neither _ _ (a .1) in
     let c = neither _ _ (b .1) in
     let d = neither _ _ (c .1) in
-    let w = within-of 1 256 (length indices) (not-false _ (a .0)) in
+    let w = within-of 1 mostBlocks (length indices) (not-false _ (a .0)) in
     record {
       some = w .0;
       many = w .1;
       receivedLong = eqb-true (length received) (length indices) (not-false _ (b .0));
       erasedLong = eqb-true (length erased) (length indices) (not-false _ (c .0));
-      startBelow = ltb-true start 64 (not-false _ (d .0));
-      endBelow = ltb-true end 64 (not-false _ (d .1));
+      startBelow = ltb-true start mostStates (not-false _ (d .0));
+      endBelow = ltb-true end mostStates (not-false _ (d .1));
     }
-  where
-    neither : (a b : Bool) → (a || b) ≡ false → (a ≡ false) × (b ≡ false)
-    neither true b k = let z : _≡_ {A = ℕ} 0 1 = cc in absurd (omega arith)
-    neither false b k = (refl, k)
 
 -- ---- one block
 

@@ -5,11 +5,12 @@ use mathlib.Core.List.{List}
 use Prim.Native.Nat.{ℕ, _≤_, _<_}
 use native.Mathlib.Omega.{arith}
 use lib.ListN.{length, getD}
+use Rattle.trellis.specs.Bounds.{mostStates}
 use Rattle.trellis.specs.Outcome.{success, noPath}
-use Rattle.passes.specs.Blocks.{top, leastFrom, Ready, Picked, Filled}
-use Rattle.passes.specs.Loops.{Named}
+use Rattle.passes.specs.inner.Blocks.{top, leastFrom, Ready, Picked, Filled}
+use Rattle.passes.specs.inner.Loops.{Named}
 use Rattle.chain.specs.Decoding.{fitted}
-use Rattle.chain.specs.Checked.{Checked}
+use Rattle.chain.specs.inner.Checked.{Checked}
 use Rattle.chain.proofs.Buffers.{Room}
 use Rattle.chain.proofs.Faults.{EndsFor, past-room}
 use Rattle.chain.proofs.Frames.{ready}
@@ -52,10 +53,10 @@ module _ {sections starts indices received erased : List ℕ} {start end : ℕ} 
     opened-end = opened (B .checks) filled-end (λ e. n (ap (λ j. getD new j 0) (B .from-is) ∙ e))
 
     pub names-ready : Ready sections starts indices received erased × Picked sections starts indices received erased to 0 picks
-        × (length indices ≤ length labels) × (length indices ≤ length goals) × (from < 64) × (leastFrom sections starts indices received erased to 0 from < top)
+        × (length indices ≤ length labels) × (length indices ≤ length goals) × (from < mostStates) × (leastFrom sections starts indices received erased to 0 from < top)
     names-ready = (ready (B .checks), B .filled .picked, B .room .forLabels, B .room .forGoals, small, onward)
       where
-        small : from < 64
+        small : from < mostStates
         small = omega (arith, B .from-is, B .checks .frame .startBelow)
 
         onward : leastFrom sections starts indices received erased to 0 from < top

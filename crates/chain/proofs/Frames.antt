@@ -6,18 +6,20 @@ use Prim.Native.Nat.{ℕ, _-_, _≤_, _<_}
 use native.Mathlib.Decide.{decLt}
 use native.Mathlib.Omega.{arith}
 use lib.ListN.{length, getD, drop, List·getD-eq-default}
+use Rattle.trellis.specs.Bounds.{mostSymbols}
 use Rattle.trellis.specs.Word.{Word}
 use Rattle.trellis.specs.Layout.{nOf, sectionWords}
 use Rattle.paths.specs.Chain.{costTable, chainLeast, chainTrace}
 use Rattle.paths.proofs.Chain.{cost-table}
-use Rattle.section_file.specs.Sound.{Sound}
+use Rattle.section_file.specs.inner.Sound.{Sound}
 use Rattle.section_file.proofs.Usable.{usable-sound}
-use Rattle.block.specs.Received.{blockDistance, Clean}
+use Rattle.block.specs.Received.{blockDistance}
+use Rattle.block.specs.inner.Prices.{Clean}
 use Rattle.block.proofs.Hearing.{block-at-most}
-use Rattle.passes.specs.Blocks.{top, Good, endsIn, sectionOf, wordsOf, distanceOf, leastFrom, pathFrom, Ready}
+use Rattle.passes.specs.inner.Blocks.{top, Good, endsIn, sectionOf, wordsOf, distanceOf, leastFrom, pathFrom, Ready}
 use Rattle.chain.specs.Sections.{sectionAt}
 use Rattle.chain.specs.Frame.{blockSection, blockWords, wordDistance}
-use Rattle.chain.specs.Checked.{Checked}
+use Rattle.chain.specs.inner.Checked.{Checked}
 use Rattle.chain.proofs.Goodness.{good-of}
 use Rattle.chain.proofs.Starts.{taken-at}
 
@@ -45,7 +47,7 @@ module _ {sections starts indices received erased : List ℕ} {start end : ℕ} 
       usable-sound (blockSection sections indices received erased b) (C .sectionsFound .found .usable-before (getD indices b 0) (index-below b))
 
   -- no distance is above 8
-  pub distance-to : (b : ℕ) (w : Word) → dist b w ≤ 8
+  pub distance-to : (b : ℕ) (w : Word) → dist b w ≤ mostSymbols
   unfolding wordDistance
   distance-to b w =
       let n = nOf (blockSection sections indices received erased b) in

@@ -6,11 +6,11 @@ use native.Mathlib.Decide.{decLt}
 use native.Mathlib.Omega.{arith}
 use Rattle.trellis.specs.Layout.{qOf, nOf, vertexCountOf, edgeCountOf, edgesBefore, rootsPlace, goalsPlace, pairsPlace, symbolsPlace, sectionLength, edgeNumber}
 use Rattle.section_file.specs.Usable.{stepEdge}
-use Rattle.section_file.specs.Sound.{Sound}
+use Rattle.section_file.specs.inner.Sound.{Sound}
 use Rattle.section_file.proofs.Words.{words-ascend}
-use Rattle.sweep.specs.Rows.{Fits}
-use Rattle.sweep.proofs.Edges.{before-none, before-more}
-use Rattle.passes.specs.Blocks.{Good}
+use Rattle.sweep.specs.inner.Rows.{Fits}
+use Rattle.trellis.proofs.Laid.{before-none, before-more}
+use Rattle.passes.specs.inner.Blocks.{Good}
 
 -- the step of an edge
 record StepOf (l : List ℕ) (n i : ℕ) : Type 0 where

@@ -11,23 +11,24 @@ use lib.Dec.{eqb}
 use lib.ListN.{length, getD, drop, length-drop}
 use lib.Seq.{drop-cons}
 use borrow.Author.Tests.{lt-ltb, le-ltb}
+use Rattle.trellis.specs.Bounds.{mostStates, costsABlock}
 use Rattle.trellis.specs.Lists.{_∈_}
 use Rattle.trellis.specs.Word.{Word, word, wordAt, Before}
 use Rattle.trellis.specs.Layout.{sectionWords}
 use Rattle.trellis.specs.Outcome.{Outcome, success, noPath}
 use Rattle.paths.specs.Choice.{none, some}
-use Rattle.paths.specs.Costs.{least}
+use Rattle.paths.specs.inner.Costs.{least}
 use Rattle.paths.specs.Chain.{chainPaths, pathDistance, bestPath, costTable, chainLeast}
 use Rattle.paths.proofs.Chain.{cost-table, drops, none-listed}
 use Rattle.paths.proofs.First.{best-first, first-in}
-use Rattle.paths.proofs.Ordered.{Ordered}
+use Rattle.paths.specs.inner.Ordered.{Ordered}
 use Rattle.paths.proofs.Winner.{of-paths, in-paths, word-of, best-wins}
 use Rattle.section_file.proofs.Words.{words-ascend, root-below, goal-below}
-use Rattle.passes.specs.Blocks.{top, endsIn, aheadOf, leastFrom, pathFrom, Filled}
-use Rattle.passes.specs.Loops.{Named}
+use Rattle.passes.specs.inner.Blocks.{top, endsIn, aheadOf, leastFrom, pathFrom, Filled}
+use Rattle.passes.specs.inner.Loops.{Named}
 use Rattle.chain.specs.Frame.{blockSection, blockWords, wordDistance}
 use Rattle.chain.specs.Meaning.{Won, Meaning}
-use Rattle.chain.specs.Checked.{Checked}
+use Rattle.chain.specs.inner.Checked.{Checked}
 use Rattle.chain.proofs.Frames.{sound-at, distance-to}
 use Rattle.chain.proofs.Tables.{table-at, best-some, path-right}
 
@@ -68,15 +69,15 @@ module _ {sections starts indices received erased : List ℕ} {start end : ℕ} 
   short b (w ∷ ws) = let h = short (suc b) ws in let d = distance-to C b w in omega arith
 
   ahead-table : {costs new picks : List ℕ} → Filled sections starts indices received erased end 0 costs new picks
-      → (b s : ℕ) → s < 64 → aheadOf new (length indices) end b s ≡ tableFrom b s
+      → (b s : ℕ) → s < mostStates → aheadOf new (length indices) end b s ≡ tableFrom b s
   unfolding aheadOf chainLeast least
   ahead-table {costs} {new} F b s l = go (decLt b (length indices))
     where
       go : Dec (b < length indices) → aheadOf new (length indices) end b s ≡ tableFrom b s
-      go (yes i) = ap (λ c. cond c (getD new (64 * b + s) 0) (cond (eqb s end) 0 top)) (lt-ltb b (length indices) i) ∙ table-at C F b s i l
+      go (yes i) = ap (λ c. cond c (getD new (costsABlock * b + s) 0) (cond (eqb s end) 0 top)) (lt-ltb b (length indices) i) ∙ table-at C F b s i l
       go (no i) =
           let z : length indices - b ≡ 0 = omega arith in
-          ap (λ c. cond c (getD new (64 * b + s) 0) (cond (eqb s end) 0 top)) (le-ltb b (length indices) (omega arith))
+          ap (λ c. cond c (getD new (costsABlock * b + s) 0) (cond (eqb s end) 0 top)) (le-ltb b (length indices) (omega arith))
           ∙ sym (ap (λ j. costTable words (endsIn end) dist top j b s) z ∙ cost-table words (endsIn end) dist top 0 b s)
 
   module _ {labels newLabels goals newGoals : List ℕ} {total : ℕ}
@@ -133,7 +134,7 @@ module _ {sections starts indices received erased : List ℕ} {start end : ℕ} 
 
     module _ {costs new picks : List ℕ} (F : Filled sections starts indices received erased end 0 costs new picks) where
       drops-at : (b : ℕ) → b < length indices
-          → getD new (64 * b + wordAt path b .root) 0 ≡ dist b (wordAt path b) + aheadOf new (length indices) end (suc b) (wordAt path b .goal)
+          → getD new (costsABlock * b + wordAt path b .root) 0 ≡ dist b (wordAt path b) + aheadOf new (length indices) end (suc b) (wordAt path b .goal)
       drops-at b h =
           let w = wordAt path b in
           let X = at-word b h (along b (omega arith)) in

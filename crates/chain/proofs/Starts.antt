@@ -11,20 +11,20 @@ use lib.Dec.{eqb}
 use lib.ListN.{length, getD, take, drop, set, length-set, length-drop}
 use lib.Seq.{getD-set-same, getD-set-other, take-all}
 use borrow.Author.Tests.{lt-ltb, le-ltb, eq-eqb, ne-eqb, not-true, not-false}
-use Rattle.trellis.specs.Lists.{first}
+use Rattle.trellis.specs.Bounds.{mostSections}
+use Rattle.trellis.specs.Lists.{first, within}
 use Rattle.trellis.specs.Layout.{rootsPlace, goalsPlace, pairsPlace, symbolsPlace, sectionLength}
 use Rattle.trellis.proofs.Bools.{holds, fails, is-true, is-false}
 use Rattle.trellis.proofs.Lists.{first-is}
-use Rattle.section_file.specs.Usable.{usable, within}
-use Rattle.section_file.specs.Sound.{Sound}
-use Rattle.section_file.specs.Answer.{partOf}
+use Rattle.section_file.specs.Usable.{usable}
+use Rattle.section_file.specs.inner.Sound.{Sound}
+use Rattle.section_file.specs.inner.Answer.{partOf}
 use Rattle.section_file.specs.declared.Part.{Part}
 use Rattle.section_file.specs.declared.Part.the-variants.{Usable, Unusable}
 use Rattle.section_file.proofs.Usable.{usable-sound}
 use Rattle.chain.specs.Sections.{sectionStart, sectionAt, unusable, sectionsBad, badSectionOf}
-use Rattle.chain.specs.Answer.{partLength}
-use Rattle.chain.specs.Loops.{Found, InSections, FirstUnusable}
-use Rattle.chain.specs.Checked.{AllFound}
+use Rattle.chain.specs.inner.Loops.{Found, InSections, FirstUnusable, partLength}
+use Rattle.chain.specs.inner.Checked.{AllFound}
 use Rattle.chain.proofs.Bounds.{within-of}
 
 -- ---- the length that was read
@@ -59,7 +59,7 @@ none-sized l {n} e h u = let z = e ∙ ap (λ b. cond b (sectionLength l) 0) u i
 
 -- ---- the loop
 
-pub starts-start : {sections : List ℕ} {k : ℕ} (starts : List ℕ) → length starts ≡ 17 → InSections sections (set starts 0 0) k 0 0
+pub starts-start : {sections : List ℕ} {k : ℕ} (starts : List ℕ) → length starts ≡ suc mostSections → InSections sections (set starts 0 0) k 0 0
 unfolding sectionStart
 starts-start {sections} starts h = record {
   i-le = omega arith;
@@ -94,7 +94,7 @@ module _ {sections starts : List ℕ} {k i at n : ℕ} (I : InSections sections 
   pub starts-fit : (n ≡ 0 → ⊥) → at + n ≤ length sections
   starts-fit z = let f = next-fits z in let a = I .at-is in omega arith
 
-  pub starts-more : k ≤ 16 → i < k → (n ≡ 0 → ⊥) → InSections sections (set starts (i + 1) (at + n)) k (i + 1) (at + n)
+  pub starts-more : k ≤ mostSections → i < k → (n ≡ 0 → ⊥) → InSections sections (set starts (i + 1) (at + n)) k (i + 1) (at + n)
   unfolding sectionStart sectionAt
   starts-more few h z = rw (add-one i)
       (record {
@@ -153,11 +153,11 @@ pub record SectionsGood (sections starts : List ℕ) (k : ℕ) : Type 0 where
   pub good : sectionsBad sections k ≡ false
   pub found : AllFound sections starts k
 
-pub many-sections : {sections : List ℕ} {k : ℕ} {w : Bool} → w ≡ within 1 16 k → not w ≡ true → SectionFault sections k k
+pub many-sections : {sections : List ℕ} {k : ℕ} {w : Bool} → w ≡ within 1 mostSections k → not w ≡ true → SectionFault sections k k
 unfolding sectionsBad badSectionOf
 many-sections {w = w} e h = record { bad = simp (sym e, not-true w h); at = simp (sym e, not-true w h) }
 
-module _ {sections starts : List ℕ} {k r : ℕ} {w : Bool} (e : w ≡ within 1 16 k) (h : not w ≡ false) (F : FirstUnusable sections starts k r) where
+module _ {sections starts : List ℕ} {k r : ℕ} {w : Bool} (e : w ≡ within 1 mostSections k) (h : not w ≡ false) (F : FirstUnusable sections starts k r) where
   pub unusable-section : r < k → SectionFault sections k r
   unfolding sectionsBad badSectionOf
   unusable-section l = record {
@@ -187,7 +187,7 @@ module _ {sections starts : List ℕ} {k r : ℕ} {w : Bool} (e : w ≡ within 1
     sections-good n =
         let z : eqb (sectionStart sections k) (length sections) ≡ true
         = eq-eqb (sectionStart sections k) (length sections) (sym (F .found .at k l) ∙ n) in
-        let b = within-of 1 16 k (sym e ∙ not-false w h) in
+        let b = within-of 1 mostSections k (sym e ∙ not-false w h) in
         record {
           good = simp (sym e, not-false w h, first-is-k, le-ltb k k (omega arith), z);
           found = record { some = b .0; few = b .1; found = subst (Found sections starts) r-is (F .found) };

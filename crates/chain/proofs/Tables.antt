@@ -7,6 +7,7 @@ use native.Mathlib.Nat.{sub-zero}
 use native.Mathlib.Decide.{decLt}
 use native.Mathlib.Omega.{arith}
 use lib.ListN.{length, getD, length-map, List·getD-map}
+use Rattle.trellis.specs.Bounds.{mostStates, costsABlock}
 use Rattle.trellis.specs.Word.{Word, word, wordAt}
 use Rattle.trellis.specs.Outcome.{success, noPath}
 use Rattle.trellis.proofs.Lists.{length-run, each-at}
@@ -15,12 +16,14 @@ use Rattle.paths.specs.Chain.{chainPaths, bestPath, costTable, IsPath}
 use Rattle.paths.proofs.Chain.{table-le, best-traced, no-path}
 use Rattle.paths.proofs.First.{best-first, first-in}
 use Rattle.paths.proofs.Winner.{of-paths}
-use Rattle.passes.specs.Blocks.{top, endsIn, leastFrom, pathFrom, Filled, Written}
-use Rattle.passes.specs.Loops.{Named}
+use Rattle.passes.specs.inner.Blocks.{top, endsIn, leastFrom, pathFrom, Filled, Written}
+use Rattle.passes.specs.inner.Loops.{Named}
 use Rattle.chain.specs.Frame.{blockWords, wordDistance}
-use Rattle.chain.specs.Decoding.{left, over, bestOf, tableOf, found}
-use Rattle.chain.specs.Checked.{Checked}
-use Rattle.chain.proofs.Buffers.{over-is, Room}
+use Rattle.chain.specs.Decoding.{left, bestOf, tableOf, found}
+use Rattle.trellis.specs.Lists.{over}
+use Rattle.chain.specs.inner.Checked.{Checked}
+use Rattle.chain.proofs.Buffers.{Room}
+use Rattle.trellis.proofs.Buffers.{over-is}
 use Rattle.chain.proofs.Frames.{distance-to, least-is, path-is}
 
 module _ {sections starts indices received erased : List ℕ} {start end : ℕ} (C : Checked sections starts indices received erased start end) where
@@ -45,27 +48,27 @@ module _ {sections starts indices received erased : List ℕ} {start end : ℕ} 
   -- ---- the table
 
   module _ {costs new picks : List ℕ} (F : Filled sections starts indices received erased end 0 costs new picks) where
-    pub table-at : (b s : ℕ) → b < length indices → s < 64 → getD new (64 * b + s) 0 ≡ tableFrom b s
+    pub table-at : (b s : ℕ) → b < length indices → s < mostStates → getD new (costsABlock * b + s) 0 ≡ tableFrom b s
     table-at b s h l = F .table .at b s (omega arith) h l ∙ least-is C b s
 
-    pub table-over : (k : ℕ) → 64 * length indices ≤ length costs → new ≡ over (table k) costs
+    pub table-over : (k : ℕ) → costsABlock * length indices ≤ length costs → new ≡ over (table k) costs
     unfolding tableOf
     table-over k room = over-is (table k) costs new (omega (arith, long)) (F .long) at (λ i h. F .kept i (omega (arith, long)))
       where
-        long : length (table k) ≡ 64 * length indices
-        long = length-run _ 0 (64 * length indices)
+        long : length (table k) ≡ costsABlock * length indices
+        long = length-run _ 0 (costsABlock * length indices)
 
         at : (i : ℕ) → i < length (table k) → getD new i 0 ≡ getD (table k) i 0
         at i h =
             let l = long in
-            let e : 64 * (i / 64) + i % 64 ≡ i = omega arith in
-            ap (λ j. getD new j 0) (sym e) ∙ table-at (i / 64) (i % 64) (omega arith) (omega arith)
-            ∙ sym (each-at (λ j. tableFrom (j / 64) (j % 64)) (64 * length indices) i 0 (omega arith))
+            let e : costsABlock * (i / costsABlock) + i % costsABlock ≡ i = omega arith in
+            ap (λ j. getD new j 0) (sym e) ∙ table-at (i / costsABlock) (i % costsABlock) (omega arith) (omega arith)
+            ∙ sym (each-at (λ j. tableFrom (j / costsABlock) (j % costsABlock)) (costsABlock * length indices) i 0 (omega arith))
 
     -- the start state's place
     start-at : getD new start 0 ≡ leastFrom sections starts indices received erased end 0 start
     start-at =
-        let a : 64 * 0 + start ≡ start = omega arith in
+        let a : costsABlock * 0 + start ≡ start = omega arith in
         let m = C .frame .some in
         ap (λ j. getD new j 0) (sym a) ∙ F .table .at 0 start (omega arith) (omega arith) (C .frame .startBelow)
 
@@ -87,7 +90,7 @@ module _ {sections starts indices received erased : List ℕ} {start end : ℕ} 
         go (yes i) c e l = i
         go (no i) c e l = absurd (n (omega arith))
 
-    pub none-found : (k : ℕ) (labels goals : List ℕ) → 64 * length indices ≤ length costs → best ≡ none
+    pub none-found : (k : ℕ) (labels goals : List ℕ) → costsABlock * length indices ≤ length costs → best ≡ none
         → left noPath new labels goals
         ≡ found sections k indices received erased start end costs labels goals (bestOf sections k indices received erased start end)
     unfolding found bestOf

@@ -1,8 +1,5 @@
 -- What this crate's answer says: document 01's number and values for each case of `Decoded`. And the length of a part of the sections.
 use Rattle.trellis.specs.Outcome.{Outcome, success, badSection, badBlock, shortBuffer, noPath}
-use Prim.Native.Nat.{ℕ}
-use Rattle.section_file.specs.declared.Part.{Part}
-use Rattle.section_file.specs.declared.Part.the-variants.{Usable, Unusable}
 use Rattle.chain.specs.declared.Decoded.{Decoded}
 use Rattle.chain.specs.declared.Decoded.the-variants.{Distance, Section, Block, Short, NoPath}
 
@@ -12,7 +9,3 @@ decodedOutcome (Section index) = badSection index
 decodedOutcome (Block index) = badBlock index
 decodedOutcome (Short needed) = shortBuffer needed
 decodedOutcome NoPath = noPath
-
-abbrev pub partLength : Part → ℕ
-partLength (Usable length) = length
-partLength Unusable = 0

@@ -1,16 +1,17 @@
 -- What decoding a chain leaves: document 01's answer and the whole content of the three buffers, from the buffers before the call. The answer is read off
 -- the plain list of all paths in word order: the first of least distance.
 use mathlib.Core.Bool.{cond}
-use mathlib.Core.List.{List, _++_, map}
+use mathlib.Core.List.{List, map}
 use Prim.Native.Nat.{ℕ, _-_, _*_, _/_, _%_}
 use lib.Dec.{ltb}
-use lib.ListN.{length, drop}
-use Rattle.trellis.specs.Lists.{each, first}
+use lib.ListN.{length}
+use Rattle.trellis.specs.Bounds.{costsABlock}
+use Rattle.trellis.specs.Lists.{each, first, over}
 use Rattle.trellis.specs.Word.{Word}
 use Rattle.trellis.specs.Outcome.{Outcome, success, badSection, badBlock, shortBuffer, noPath}
 use Rattle.paths.specs.Choice.{Choice, none, some}
 use Rattle.paths.specs.Chain.{bestPath, costTable}
-use Rattle.passes.specs.Blocks.{top, endsIn}
+use Rattle.passes.specs.inner.Blocks.{top, endsIn}
 use Rattle.chain.specs.Sections.{sectionsBad, badSectionOf}
 use Rattle.chain.specs.Frame.{frameBad, blockWords, wordDistance, blockBad}
 
@@ -23,13 +24,9 @@ pub record Decoding : Type 0 where
 abbrev pub left : Outcome → List ℕ → List ℕ → List ℕ → Decoding
 left o costs labels goals = record { answer = o; costs = costs; labels = labels; goals = goals }
 
--- a buffer with vs in front; places beyond are unchanged
-abbrev pub over : List ℕ → List ℕ → List ℕ
-over vs buffer = vs ++ drop (length vs) buffer
-
 -- the length that the first short buffer needs: the cost table 64·B, the labels B, the goals B; 0 where none is short
 unfoldable pub neededOf : ℕ → ℕ → ℕ → ℕ → ℕ
-neededOf blocks costs labels goals = cond (ltb costs (64 * blocks)) (64 * blocks) (cond (ltb labels blocks) blocks (cond (ltb goals blocks) blocks 0))
+neededOf blocks costs labels goals = cond (ltb costs (costsABlock * blocks)) (costsABlock * blocks) (cond (ltb labels blocks) blocks (cond (ltb goals blocks) blocks 0))
 
 module _ (sections : List ℕ) (k : ℕ) (indices received erased : List ℕ) (start end : ℕ) where
   -- the first path of least distance from the start state to the end state
@@ -43,8 +40,8 @@ module _ (sections : List ℕ) (k : ℕ) (indices received erased : List ℕ) (s
       each
       (λ i.
       costTable (blockWords sections indices received erased) (endsIn end) (wordDistance sections indices received erased) top
-      (length indices - i / 64) (i / 64) (i % 64))
-      (64 * length indices)
+      (length indices - i / costsABlock) (i / costsABlock) (i % costsABlock))
+      (costsABlock * length indices)
 
   module _ (costs labels goals : List ℕ) where
     -- 11, or success

@@ -5,19 +5,20 @@ use mathlib.Core.List.{List}
 use Prim.Native.Nat.{ℕ}
 use lib.Dec.{ltb, eqb}
 use lib.ListN.{length, getD}
+use Rattle.trellis.specs.Bounds.{mostStates, mostBlocks}
 use Rattle.trellis.specs.Word.{Word}
 use Rattle.trellis.specs.Layout.{qOf, nOf, sectionWords}
-use Rattle.section_file.specs.Usable.{within}
+use Rattle.trellis.specs.Lists.{within}
 use Rattle.block.specs.Received.{blockDistance, fitsBlock}
 use Rattle.chain.specs.Sections.{sectionAt}
 
 -- B is outside its bounds, lengths are unequal, or a state is not below 64
 unfoldable pub frameBad : List ℕ → List ℕ → List ℕ → ℕ → ℕ → Bool
 frameBad indices received erased start end =
-    not (within 1 256 (length indices))
+    not (within 1 mostBlocks (length indices))
     || (not (eqb (length received) (length indices))
     || (not (eqb (length erased) (length indices))
-    || (not (ltb start 64) || not (ltb end 64))))
+    || (not (ltb start mostStates) || not (ltb end mostStates))))
 
 module _ (sections indices received erased : List ℕ) where
   -- the section of block b, with what follows it

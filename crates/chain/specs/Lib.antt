@@ -4,5 +4,4 @@ pub mod Frame
 pub mod Decoding
 pub mod Answer
 pub mod Meaning
-pub mod Loops
-pub mod Checked
+pub mod inner

@@ -4,12 +4,13 @@ use mathlib.Core.Path.{_≡_}
 use mathlib.Core.List.{List}
 use Prim.Native.Nat.{ℕ, suc, _+_, _*_, _<_}
 use lib.ListN.{length, getD}
+use Rattle.trellis.specs.Bounds.{costsABlock}
 use Rattle.trellis.specs.Lists.{_∈_}
 use Rattle.trellis.specs.Word.{Word, wordAt}
 use Rattle.trellis.specs.Layout.{sectionWords}
 use Rattle.trellis.specs.Outcome.{Outcome, success, noPath}
 use Rattle.paths.specs.Chain.{chainPaths, pathDistance, IsPath, Winner}
-use Rattle.passes.specs.Blocks.{endsIn, aheadOf}
+use Rattle.passes.specs.inner.Blocks.{endsIn, aheadOf}
 use Rattle.chain.specs.Frame.{blockSection, blockWords, wordDistance}
 
 -- the written words win, and d is their distance
@@ -23,7 +24,7 @@ pub record Won (sections indices received erased : List ℕ) (start end d : ℕ)
   pub inSection : (b : ℕ) → b < length indices → wordAt words b ∈ sectionWords (blockSection sections indices received erased b)
   -- what the table has before a block is the distance of the block's word and what it has behind the block
   pub drops : (b : ℕ) → b < length indices
-      → getD costs (64 * b + wordAt words b .root) 0
+      → getD costs (costsABlock * b + wordAt words b .root) 0
       ≡ wordDistance sections indices received erased b (wordAt words b) + aheadOf costs (length indices) end (suc b) (wordAt words b .goal)
 
 pub record Meaning (sections indices received erased : List ℕ) (start end : ℕ) (answer : Outcome) (costs labels goals : List ℕ) : Type 0 where

@@ -5,9 +5,10 @@ use mathlib.Core.List.{List}
 use Prim.Native.Nat.{ℕ, zero, suc, _+_}
 use lib.Dec.{ltb, eqb}
 use lib.ListN.{length, drop}
-use Rattle.trellis.specs.Lists.{first}
+use Rattle.trellis.specs.Bounds.{mostSections}
+use Rattle.trellis.specs.Lists.{first, within}
 use Rattle.trellis.specs.Layout.{sectionLength}
-use Rattle.section_file.specs.Usable.{usable, within}
+use Rattle.section_file.specs.Usable.{usable}
 
 -- where section i begins
 unfoldable pub sectionStart : List ℕ → ℕ → ℕ
@@ -23,8 +24,8 @@ unusable sections i = not (usable (sectionAt sections i))
 
 -- K is outside its bounds, or a section is unusable, or numbers are left over after the last
 unfoldable pub sectionsBad : List ℕ → ℕ → Bool
-sectionsBad sections k = not (within 1 16 k) || (ltb (first (unusable sections) k) k || not (eqb (sectionStart sections k) (length sections)))
+sectionsBad sections k = not (within 1 mostSections k) || (ltb (first (unusable sections) k) k || not (eqb (sectionStart sections k) (length sections)))
 
 -- K, the first unusable section, or K where numbers are left over: `first` is K where every section is usable
 unfoldable pub badSectionOf : List ℕ → ℕ → ℕ
-badSectionOf sections k = cond (within 1 16 k) (first (unusable sections) k) k
+badSectionOf sections k = cond (within 1 mostSections k) (first (unusable sections) k) k

@@ -2,17 +2,18 @@
 // answers for all arguments, by an equation with `decoding`: the outcome of document 01 and the whole content of the three buffers.
 ghost use mathlib.Core.Path.{_≡_};
 ghost use mathlib.Core.Bool.{cond};
-ghost use Prim.Native.Nat.{ℕ, _+_, _*_, _<_, _≤_};
+ghost use Prim.Native.Nat.{ℕ, suc, _+_, _*_, _<_, _≤_};
 ghost use lib.ListN.{length, drop};
-ghost use Rattle.trellis.specs.Lists.{first};
+ghost use Rattle.trellis.specs.Bounds.{mostSections, mostBlocks};
+ghost use Rattle.trellis.specs.Lists.{first, within};
 ghost use Rattle.trellis.specs.Layout.{sectionLength};
-ghost use Rattle.section_file.specs.Usable.{usable, within};
+ghost use Rattle.section_file.specs.Usable.{usable};
 ghost use Rattle.chain.specs.Frame.{frameBad, blockBad};
 ghost use Rattle.chain.specs.Decoding.{left, neededOf, fitted, framed, decoding};
-ghost use Rattle.chain.specs.Answer.{decodedOutcome, partLength};
+ghost use Rattle.chain.specs.Answer.{decodedOutcome};
 ghost use Rattle.chain.specs.Meaning.{Meaning};
-ghost use Rattle.chain.specs.Loops.{Found, FirstUnusable};
-ghost use Rattle.chain.specs.Checked.{AllFound, Checked};
+ghost use Rattle.chain.specs.inner.Loops.{Found, FirstUnusable, partLength};
+ghost use Rattle.chain.specs.inner.Checked.{AllFound, Checked};
 use numbers::wide;
 use numbers::widened;
 use passes::NO_PATH;
@@ -53,7 +54,7 @@ fn length_at(sections: &[u16], at: usize) -> usize
 
 // The first unusable section, or k, and the places where the sections before it and the next one begin.
 fn find_sections(sections: &[u16], k: usize, starts: &mut [usize; 17]) -> usize
-    requires { ⌜ (k ≤ 16) × (length (now starts) ≡ 17) ⌝ }
+    requires { ⌜ (k ≤ mostSections) × (length (now starts) ≡ suc mostSections) ⌝ }
     ensures { λ r. ⌜ FirstUnusable (now (sections .entry)) (now (starts .exit)) k r ⌝ }
 {
     starts[0] = 0;
@@ -98,7 +99,7 @@ fn block_bad(
     erased: &[u8],
     b: usize,
 ) -> bool
-    requires { ⌜ Found (now sections) (now starts) k × (k ≤ 16) × (b < length (now indices)) × (length (now received) ≡ length (now indices)) × (length (now erased) ≡ length (now indices)) ⌝ }
+    requires { ⌜ Found (now sections) (now starts) k × (k ≤ mostSections) × (b < length (now indices)) × (length (now received) ≡ length (now indices)) × (length (now erased) ≡ length (now indices)) ⌝ }
     ensures { λ r. ⌜ r ≡ blockBad (now (sections .entry)) (now (indices .entry)) (now (received .entry)) (now (erased .entry)) k b ⌝ }
 {
     let i = widened(indices[b]);
@@ -119,7 +120,7 @@ fn first_bad(
     received: &[u16],
     erased: &[u8],
 ) -> usize
-    requires { ⌜ Found (now sections) (now starts) k × (k ≤ 16) × (length (now received) ≡ length (now indices)) × (length (now erased) ≡ length (now indices)) ⌝ }
+    requires { ⌜ Found (now sections) (now starts) k × (k ≤ mostSections) × (length (now received) ≡ length (now indices)) × (length (now erased) ≡ length (now indices)) ⌝ }
     ensures { λ r. ⌜ r ≡ first (blockBad (now (sections .entry)) (now (indices .entry)) (now (received .entry)) (now (erased .entry)) k) (length (now (indices .entry))) ⌝ }
 {
     let mut b: usize = 0;
@@ -134,7 +135,7 @@ fn first_bad(
 
 // The length that the first short buffer needs, or 0.
 fn needed(blocks: usize, costs: usize, labels: usize, goals: usize) -> usize
-    requires { ⌜ blocks ≤ 256 ⌝ }
+    requires { ⌜ blocks ≤ mostBlocks ⌝ }
     ensures { λ r. ⌜ r ≡ neededOf blocks costs labels goals ⌝ }
 {
     if costs < 64 * blocks {

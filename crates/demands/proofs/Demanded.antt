@@ -7,10 +7,10 @@ use native.Mathlib.Omega.{arith}
 use native.Mathlib.Nat.{not-suc-le-zero}
 use lib.ListN.{length, take, drop}
 use borrow.Author.Tests.{le-ltb}
-use Rattle.trellis.specs.Lists.{each}
+use Rattle.trellis.specs.Lists.{each, over}
 use Rattle.trellis.specs.Word.{Word, Rectangular}
 use Rattle.trellis.specs.Own.{vertexCount, edgeCount}
-use Rattle.trellis.specs.Demand.{ours}
+use Rattle.trellis.proofs.Ours.{ours}
 use Rattle.trellis.specs.Layout.{qOf, nOf, statesOf, vertexCountOf, edgeCountOf, sectionOf, drawingOf}
 use Rattle.trellis.specs.Witness.{Witness, found, nothing, witness}
 use Rattle.trellis.specs.Outcome.{Outcome, success, notRectangular}
@@ -19,9 +19,9 @@ use Rattle.trellis.proofs.Witness.{witness-first, witness-none}
 use Rattle.trellis.proofs.Least.{same-counts}
 use Rattle.trellis.proofs.Demand.{drawn, demand-3, own-words}
 use Rattle.trellis.proofs.OwnLaid.{own-vertex-count, own-edge-count, own-root, own-goal, own-step-edges}
-use Rattle.table.specs.Good.{Good}
+use Rattle.table.specs.inner.Good.{Good}
 use Rattle.table.proofs.Accepted.{accepted-good}
-use Rattle.merge.specs.Merging.{Merging, left, over, mapOf, mapLength, written, merged, mergedTable, mergedFile, merging}
+use Rattle.merge.specs.Merging.{Merging, left, mapOf, mapLength, written, merged, mergedTable, mergedFile, merging}
 use Rattle.demands.specs.Merged.{Fair, Smallest, Accepted, Refused, Demanded}
 use Rattle.demands.proofs.SameDrawing.{Alike, drawn-same, path-new, path-old}
 

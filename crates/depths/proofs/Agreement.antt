@@ -12,8 +12,9 @@ use native.Mathlib.Decide.{ℕ-discrete, decLt}
 use lib.Dec.{eqb, eqb→eq}
 use borrow.Author.Tests.{eq-eqb, ne-eqb, lt-ltb, le-ltb}
 use Rattle.trellis.proofs.Bools.{holds, is-true, both}
-use Rattle.runs.specs.Runs.{goesOn, Agrees}
-use Rattle.depths.specs.Rows.{at, firstWordIn, agreesTest, allBelow, runsAgreeTest}
+use Rattle.runs.specs.inner.Runs.{goesOn, Agrees}
+use Rattle.depths.specs.inner.Rows.{at, firstWordIn, agreesTest, runsAgreeTest}
+use Rattle.trellis.specs.Lists.{all}
 
 -- ---- one word
 
@@ -73,23 +74,23 @@ module _ (W : ℕ) (s u : ℕ → ℕ) (same : (i : ℕ) → i < W → s i ≡ u
 
 -- ---- all words
 
-pub all-iff : (p : ℕ → Bool) (m : ℕ) → (allBelow p m ≡ true) ↔ ((i : ℕ) → i < m → p i ≡ true)
-unfolding allBelow
+pub all-iff : (p : ℕ → Bool) (m : ℕ) → (all p m ≡ true) ↔ ((i : ℕ) → i < m → p i ≡ true)
+unfolding all
 all-iff p zero = (λ e i h. absurd (not-suc-le-zero h), λ f. refl)
 all-iff p (suc m) = (to (all-iff p m .0), from (all-iff p m .1))
   where
-    to : (allBelow p m ≡ true → (i : ℕ) → i < m → p i ≡ true) → (allBelow p m && p m) ≡ true → (i : ℕ) → i < suc m → p i ≡ true
+    to : (all p m ≡ true → (i : ℕ) → i < m → p i ≡ true) → (all p m && p m) ≡ true → (i : ℕ) → i < suc m → p i ≡ true
     to r e i h = go (ℕ-discrete i m)
       where
         go : Dec (i ≡ m) → p i ≡ true
-        go (yes q) = ap p q ∙ is-true _ (both (allBelow p m) (p m) (holds e) .1)
-        go (no q) = r (is-true _ (both (allBelow p m) (p m) (holds e) .0)) i (omega arith)
+        go (yes q) = ap p q ∙ is-true _ (both (all p m) (p m) (holds e) .1)
+        go (no q) = r (is-true _ (both (all p m) (p m) (holds e) .0)) i (omega arith)
 
-    from : (((i : ℕ) → i < m → p i ≡ true) → allBelow p m ≡ true) → ((i : ℕ) → i < suc m → p i ≡ true) → (allBelow p m && p m) ≡ true
+    from : (((i : ℕ) → i < m → p i ≡ true) → all p m ≡ true) → ((i : ℕ) → i < suc m → p i ≡ true) → (all p m && p m) ≡ true
     from r f = ap₂ (λ x y. x && y) (r (λ i h. f i (omega arith))) (f m (omega arith))
 
-all-fails : (p : ℕ → Bool) (i m : ℕ) → p i ≡ false → i < m → allBelow p m ≡ false
-unfolding allBelow
+all-fails : (p : ℕ → Bool) (i m : ℕ) → p i ≡ false → i < m → all p m ≡ false
+unfolding all
 all-fails p i zero e h = absurd (omega arith)
 all-fails p i (suc m) e h = go (ℕ-discrete i m) (all-fails p i m e)
   where
@@ -97,21 +98,21 @@ all-fails p i (suc m) e h = go (ℕ-discrete i m) (all-fails p i m e)
     and-false true = refl
     and-false false = refl
 
-    go : Dec (i ≡ m) → (i < m → allBelow p m ≡ false) → (allBelow p m && p m) ≡ false
-    go (yes q) r = ap (λ b. allBelow p m && b) (ap p (sym q) ∙ e) ∙ and-false (allBelow p m)
+    go : Dec (i ≡ m) → (i < m → all p m ≡ false) → (all p m && p m) ≡ false
+    go (yes q) r = ap (λ b. all p m && b) (ap p (sym q) ∙ e) ∙ and-false (all p m)
     go (no q) r = ap (λ b. b && p m) (r (omega arith))
 
 pub record InAgreement (W : ℕ) (starts firsts : List ℕ) (i : ℕ) : Type 0 where
   pub iLe : i ≤ W
-  pub soFar : allBelow (agreesTest W (at starts) (firstWordIn starts firsts)) i ≡ true
+  pub soFar : all (agreesTest W (at starts) (firstWordIn starts firsts)) i ≡ true
 
 pub agreement-none : (W : ℕ) (starts firsts : List ℕ) → InAgreement W starts firsts 0
-unfolding allBelow
+unfolding all
 agreement-none W starts firsts = record { iLe = omega arith; soFar = refl }
 
 module _ {W : ℕ} {starts firsts : List ℕ} {i : ℕ} (c : InAgreement W starts firsts i) where
   pub agreement-more : agreesTest W (at starts) (firstWordIn starts firsts) i ≡ true → i < W → InAgreement W starts firsts (i + 1)
-  unfolding allBelow
+  unfolding all
   agreement-more e h = record { iLe = omega arith; soFar = rw (add-one i) (simp (c .soFar, e)) }
 
   pub agreement-no : agreesTest W (at starts) (firstWordIn starts firsts) i ≡ false → i < W → false ≡ runsAgreeTest W starts firsts
@@ -122,4 +123,4 @@ module _ {W : ℕ} {starts firsts : List ℕ} {i : ℕ} (c : InAgreement W start
   unfolding runsAgreeTest
   agreement-yes h =
       let e : i ≡ W = omega (arith, c .iLe) in
-      sym (sym (ap (allBelow (agreesTest W (at starts) (firstWordIn starts firsts))) e) ∙ c .soFar)
+      sym (sym (ap (all (agreesTest W (at starts) (firstWordIn starts firsts))) e) ∙ c .soFar)

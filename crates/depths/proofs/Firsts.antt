@@ -11,15 +11,16 @@ use lib.ListN.{length, set, length-set, replicate, length-replicate, getD-replic
 use lib.Seq.{getD-set-same}
 use lib.Dec.{eqb}
 use borrow.Author.Tests.{eq-eqb, ne-eqb}
+use Rattle.trellis.specs.Bounds.{mostWords}
 use Rattle.trellis.specs.Label.{symbol}
 use Rattle.trellis.specs.Word.{Word}
-use Rattle.runs.specs.Runs.{firstLike}
-use Rattle.runs.specs.Cuts.{endingAt, stepKey}
+use Rattle.runs.specs.inner.Runs.{firstLike}
+use Rattle.runs.specs.inner.Cuts.{endingAt, stepKey}
 use Rattle.runs.proofs.FirstLike.{like-le, like-is, like-eq, like-cong}
 use Rattle.runs.proofs.Keys.{symbol-lt, tells-first, tells-row, tells-step}
-use Rattle.depths.specs.Words.{words, Held}
-use Rattle.depths.specs.Rows.{at, Row, Small, rowKey}
-use Rattle.depths.specs.Merge.{EndingRow}
+use Rattle.depths.specs.inner.Words.{words, Held}
+use Rattle.depths.specs.inner.Rows.{at, Row, Small, rowKey}
+use Rattle.depths.specs.inner.Merge.{EndingRow}
 use Rattle.depths.proofs.Words.{held-length, word-label}
 use Rattle.depths.proofs.Places.{at-set, upto-next, row-none, row-more}
 
@@ -30,29 +31,29 @@ pub record HasKey (key : ℕ → ℕ) (i x y : ℕ) : Type 0 where
 
 pub record InFirsts (labels : List ℕ) (n t : ℕ) (old row seen : List ℕ) (i : ℕ) : Type 0 where
   pub iLe : i ≤ length labels
-  pub few : length labels ≤ 1024
+  pub few : length labels ≤ mostWords
   pub small : Small (length labels) old
   pub places : length seen ≡ 4096
   pub done : Row i (firstLike (rowKey labels n t old)) row
   pub rest : (j : ℕ) → i ≤ j → at row j ≡ at old j
   pub noted : (j : ℕ) → j < i → at seen (rowKey labels n t old j) ≡ firstLike (rowKey labels n t old) j
-  pub known : (x : ℕ) → x < 4096 → (at seen x ≡ 1024) ⊎ HasKey (rowKey labels n t old) i x (at seen x)
+  pub known : (x : ℕ) → x < 4096 → (at seen x ≡ mostWords) ⊎ HasKey (rowKey labels n t old) i x (at seen x)
 
 key-lt : (labels : List ℕ) (n t : ℕ) (row : List ℕ) (W i : ℕ) → Small W row → i < W → rowKey labels n t row i < 4096
 unfolding rowKey
 key-lt labels n t row W i S h = omega (arith, S .lt i h, symbol-lt n t (at labels i))
 
 -- what is noted for the key of i, or i if nothing is, is the first word with that key
-noted-first : (key : ℕ → ℕ) (i found : ℕ) → i < 1024 → ((j : ℕ) → j < i → key j ≡ key i → found ≡ firstLike key j)
-    → (found ≡ 1024) ⊎ HasKey key i (key i) found → cond (eqb found 1024) i found ≡ firstLike key i
-noted-first key i found h f (inl e) = rw (eq-eqb found 1024 e) (go (decLt (firstLike key i) i))
+noted-first : (key : ℕ → ℕ) (i found : ℕ) → i < mostWords → ((j : ℕ) → j < i → key j ≡ key i → found ≡ firstLike key j)
+    → (found ≡ mostWords) ⊎ HasKey key i (key i) found → cond (eqb found mostWords) i found ≡ firstLike key i
+noted-first key i found h f (inl e) = rw (eq-eqb found mostWords e) (go (decLt (firstLike key i) i))
   where
     go : Dec (firstLike key i < i) → i ≡ firstLike key i
     go (yes l) = let q = f (firstLike key i) l (like-is key i) in absurd (omega (arith, like-le key (firstLike key i)))
     go (no l) = omega (arith, like-le key i)
 noted-first key i found h f (inr o) =
     let q = o .earlier in
-    rw (ne-eqb found 1024 (λ e. omega arith)) (f found (o .earlier) (o .has) ∙ like-eq key found i (o .has))
+    rw (ne-eqb found mostWords (λ e. omega arith)) (f found (o .earlier) (o .has) ∙ like-eq key found i (o .has))
 
 module _ {labels : List ℕ} {n t : ℕ} {old row seen : List ℕ} {i : ℕ} (c : InFirsts labels n t old row seen i) where
   abbrev keys : ℕ → ℕ
@@ -62,19 +63,19 @@ module _ {labels : List ℕ} {n t : ℕ} {old row seen : List ℕ} {i : ℕ} (c 
   unfolding rowKey
   firsts-key {a} {s} {b} p q r = ap₂ (λ x y. x * 4 + y) (p ∙ c .rest i (omega arith)) (r ∙ q)
 
-  pub firsts-small : {a : ℕ} → a ≡ at row i → i < length labels → a < 1024
+  pub firsts-small : {a : ℕ} → a ≡ at row i → i < length labels → a < mostWords
   firsts-small {a} p h = omega (arith, p ∙ c .rest i (omega arith), c .small .lt i h)
 
   pub firsts-lt : {a s b : ℕ} → a ≡ at row i → s ≡ symbol n t (at labels i) → b ≡ s → i < length labels → a * 4 + b < 4096
   firsts-lt {a} {s} {b} p q r h = let e = firsts-key {a = a} {s = s} {b = b} p q r in omega (arith, key-lt labels n t old (length labels) i (c .small) h)
 
-  first-is : (first x : ℕ) → x ≡ keys i → first ≡ cond (eqb (at seen x) 1024) i (at seen x) → i < length labels → first ≡ firstLike keys i
+  first-is : (first x : ℕ) → x ≡ keys i → first ≡ cond (eqb (at seen x) mostWords) i (at seen x) → i < length labels → first ≡ firstLike keys i
   first-is first x e f h =
-      f ∙ ap (λ y. cond (eqb (at seen y) 1024) i (at seen y)) e
+      f ∙ ap (λ y. cond (eqb (at seen y) mostWords) i (at seen y)) e
       ∙ noted-first keys i (at seen (keys i)) (omega (arith, c .few)) (λ j l q. ap (at seen) (sym q) ∙ c .noted j l)
       (c .known (keys i) (key-lt labels n t old (length labels) i (c .small) h))
 
-  pub firsts-more : {first x : ℕ} → x ≡ keys i → first ≡ cond (eqb (at seen x) 1024) i (at seen x) → i < length labels
+  pub firsts-more : {first x : ℕ} → x ≡ keys i → first ≡ cond (eqb (at seen x) mostWords) i (at seen x) → i < length labels
       → InFirsts labels n t old (set row i first) (set seen x first) (i + 1)
   firsts-more {first} {x} e f h = record {
     iLe = omega arith;
@@ -101,8 +102,8 @@ module _ {labels : List ℕ} {n t : ℕ} {old row seen : List ℕ} {i : ℕ} (c 
       note j (yes q) r = ap (at (set seen x first)) q ∙ hit ∙ like-eq keys i j (sym e ∙ sym q)
       note j (no q) r = at-set seen x (keys j) first q ∙ r
 
-      own : (y : ℕ) → Dec (y ≡ x) → (at seen y ≡ 1024) ⊎ HasKey keys i y (at seen y)
-          → (at (set seen x first) y ≡ 1024) ⊎ HasKey keys (i + 1) y (at (set seen x first) y)
+      own : (y : ℕ) → Dec (y ≡ x) → (at seen y ≡ mostWords) ⊎ HasKey keys i y (at seen y)
+          → (at (set seen x first) y ≡ mostWords) ⊎ HasKey keys (i + 1) y (at (set seen x first) y)
       own y (yes q) r = inr (subst (λ z. HasKey keys (i + 1) y z) (sym (ap (at (set seen x first)) q ∙ hit))
           (record { earlier = omega (arith, like-le keys i); has = like-is keys i ∙ sym e ∙ sym q }))
       own y (no q) (inl r) = inl (at-set seen x y first q ∙ r)
@@ -111,17 +112,17 @@ module _ {labels : List ℕ} {n t : ℕ} {old row seen : List ℕ} {i : ℕ} (c 
   pub firsts-end : length labels ≤ i → Row (length labels) (firstLike keys) row
   firsts-end h = let e : i ≡ length labels = omega (arith, c .iLe) in subst (λ k. Row k (firstLike keys) row) e (c .done)
 
-pub firsts-none : (labels : List ℕ) (n t : ℕ) (old : List ℕ) → length labels ≤ 1024 → Small (length labels) old
-    → InFirsts labels n t old old (replicate 4096 1024) 0
+pub firsts-none : (labels : List ℕ) (n t : ℕ) (old : List ℕ) → length labels ≤ mostWords → Small (length labels) old
+    → InFirsts labels n t old old (replicate 4096 mostWords) 0
 firsts-none labels n t old h s = record {
   iLe = omega arith;
   few = h;
   small = s;
-  places = length-replicate {A = ℕ} 4096 1024;
+  places = length-replicate {A = ℕ} 4096 mostWords;
   done = row-none _ old (s .len);
   rest = λ j q. refl;
   noted = λ j q. absurd (omega arith);
-  known = λ x q. inl (getD-replicate {A = ℕ} 4096 x 1024 0 q);
+  known = λ x q. inl (getD-replicate {A = ℕ} 4096 x mostWords 0 q);
 }
 
 -- ---- the row, said of the words

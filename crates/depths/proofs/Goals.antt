@@ -4,12 +4,13 @@ use mathlib.Core.List.{List}
 use Prim.Native.Nat.{ℕ, _+_, _≤_, _<_}
 use native.Mathlib.Omega.{arith}
 use lib.ListN.{length, set}
+use Rattle.trellis.specs.Bounds.{mostWords}
 use Rattle.trellis.specs.Word.{Word, wordAt}
-use Rattle.runs.specs.Cuts.{endingAt}
+use Rattle.runs.specs.inner.Cuts.{endingAt}
 use Rattle.runs.proofs.Keys.{tells-goals, tells-row}
-use Rattle.depths.specs.Words.{words, Held}
-use Rattle.depths.specs.Rows.{at, Row, Bytes}
-use Rattle.depths.specs.Merge.{EndingRow}
+use Rattle.depths.specs.inner.Words.{words, Held}
+use Rattle.depths.specs.inner.Rows.{at, Row, Bytes}
+use Rattle.depths.specs.inner.Merge.{EndingRow}
 use Rattle.depths.proofs.Words.{held-length, word-goal}
 use Rattle.depths.proofs.Places.{upto-next, row-none, row-more}
 
@@ -18,10 +19,10 @@ pub record InBytes (bytes new : List ℕ) (i : ℕ) : Type 0 where
   pub row : Row i (at bytes) new
   pub byte : (j : ℕ) → j < i → at bytes j < 256
 
-pub bytes-none : (bytes row : List ℕ) → length row ≡ 1024 → InBytes bytes row 0
+pub bytes-none : (bytes row : List ℕ) → length row ≡ mostWords → InBytes bytes row 0
 bytes-none bytes row h = record { iLe = omega arith; row = row-none (at bytes) row h; byte = λ j k. absurd (omega arith) }
 
-pub bytes-more : {bytes row : List ℕ} {i x : ℕ} → InBytes bytes row i → (x ≡ at bytes i) × (x < 256) → length bytes ≤ 1024 → i < length bytes
+pub bytes-more : {bytes row : List ℕ} {i x : ℕ} → InBytes bytes row i → (x ≡ at bytes i) × (x < 256) → length bytes ≤ mostWords → i < length bytes
     → InBytes bytes (set row i x) (i + 1)
 bytes-more {bytes} {row} {i} {x} c e m h = record {
   iLe = omega arith;

@@ -9,11 +9,12 @@ use native.Mathlib.Nat.{mul-le-mul-right, suc-mul}
 use native.Mathlib.Decide.{ℕ-discrete}
 use lib.ListN.{length, set, length-set}
 use lib.Seq.{getD-set-same}
+use Rattle.trellis.specs.Bounds.{mostSymbols}
 use Rattle.trellis.specs.Word.{Word, RectangularAt, Rectangular}
 use Rattle.trellis.specs.Own.{vertexOf, vertexCount}
-use Rattle.depths.specs.Words.{words}
-use Rattle.depths.specs.Rows.{at}
-use Rattle.depths.specs.Merge.{EndingRow, Merging, DepthMerged, DepthDone, lowestOf, countOf, Inner, Found, InnerDone}
+use Rattle.depths.specs.inner.Words.{words}
+use Rattle.depths.specs.inner.Rows.{at}
+use Rattle.depths.specs.inner.Merge.{EndingRow, Merging, DepthMerged, DepthDone, lowestOf, countOf, Inner, Found, InnerDone}
 use Rattle.depths.specs.declared.Depth.{Depth}
 use Rattle.depths.specs.declared.Depth.the-variants.{Merged, Refused}
 use Rattle.depths.proofs.Places.{at-set}
@@ -98,7 +99,7 @@ found-refused n table zero map counts h l f = absurd (omega arith)
 found-refused n table (suc t) map counts h l f = record { from = omega arith; inner = l; fails = f; sooner = λ u p q. absurd (omega arith) }
 
 module _ {n : ℕ} {table : List Word} {oldMap map oldCounts counts row new row′ : List ℕ} {t refused : ℕ}
-    (c : InDepths n table oldMap map oldCounts counts row t refused) (short : n ≤ 8) (h : 1 < t) where
+    (c : InDepths n table oldMap map oldCounts counts row t refused) (short : n ≤ mostSymbols) (h : 1 < t) where
   turned : (depth : Depth) → DepthDone n (t - 1) table row′ map new depth
       → InDepths n table oldMap new oldCounts (set counts (t - 1) (countOf depth)) row′ (t - 1) (lowestOf depth (t - 1) refused)
   turned (Merged count) D =

@@ -10,9 +10,9 @@ use lib.ListN.{length, set, length-set}
 use lib.Seq.{getD-set-same}
 use lib.Dec.{eqb}
 use Rattle.trellis.specs.Lists.{one-if}
-use Rattle.runs.specs.Runs.{below, numberOf}
+use Rattle.runs.specs.inner.Runs.{below, numberOf}
 use Rattle.runs.proofs.Counting.{below-le}
-use Rattle.depths.specs.Rows.{at, RowAt, firstWordIn, ToNumber, Numbered}
+use Rattle.depths.specs.inner.Rows.{at, RowAt, firstWordIn, ToNumber, Numbered}
 use Rattle.depths.proofs.Places.{at-set, upto-next}
 
 pub record InNumbers (place W : ℕ) (firstWord : ℕ → ℕ) (old new : List ℕ) (i count : ℕ) : Type 0 where

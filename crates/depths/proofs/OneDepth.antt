@@ -10,17 +10,17 @@ use lib.ListN.{length}
 use lib.Dec.{eqb}
 use Rattle.trellis.specs.Word.{Word, Table, RectangularAt}
 use Rattle.trellis.specs.Own.{vertexOf, vertexCount}
-use Rattle.runs.specs.Runs.{firstLike, below, numberOf, Cut, Tells, firstWordBy}
-use Rattle.runs.specs.Cuts.{beginningAt, endingAt, stepKey}
+use Rattle.runs.specs.inner.Runs.{firstLike, below, numberOf, Cut, Tells, firstWordBy}
+use Rattle.runs.specs.inner.Cuts.{beginningAt, endingAt, stepKey}
 use Rattle.runs.proofs.FirstLike.{like-le}
 use Rattle.runs.proofs.Counting.{below-cong}
 use Rattle.runs.proofs.Agreement.{first-le, first-start, first-twice}
 use Rattle.runs.proofs.Cuts.{cut, rectangle-of}
 use Rattle.runs.proofs.Keys.{tells-step}
 use Rattle.runs.proofs.Vertices.{rectangular-iff, vertex-is, count-is}
-use Rattle.depths.specs.Words.{words}
-use Rattle.depths.specs.Rows.{at, Row, RowAt, joins, runStart, rowKey, firstWordIn, agreesTest, runsAgreeTest, Backward, ToNumber, Numbered}
-use Rattle.depths.specs.Merge.{Merging, DepthDone}
+use Rattle.depths.specs.inner.Words.{words}
+use Rattle.depths.specs.inner.Rows.{at, Row, RowAt, joins, runStart, rowKey, firstWordIn, agreesTest, runsAgreeTest, Backward, ToNumber, Numbered}
+use Rattle.depths.specs.inner.Merge.{Merging, DepthDone}
 use Rattle.depths.specs.declared.Depth.the-variants.{Merged, Refused}
 use Rattle.depths.proofs.Words.{held-length}
 use Rattle.depths.proofs.Starts.{starts-are}

@@ -6,7 +6,8 @@ use native.Mathlib.Omega.{arith}
 use native.Mathlib.Decide.{ℕ-discrete}
 use lib.ListN.{length, set, length-set}
 use lib.Seq.{getD-set-same, getD-set-other}
-use Rattle.depths.specs.Rows.{at, Row}
+use Rattle.trellis.specs.Bounds.{mostWords}
+use Rattle.depths.specs.inner.Rows.{at, Row}
 
 pub at-set : (l : List ℕ) (i j v : ℕ) → (j ≡ i → ⊥) → at (set l i v) j ≡ at l j
 at-set l i j v h = getD-set-other l i j v 0 h
@@ -18,10 +19,10 @@ upto-next P i h p j l = go (ℕ-discrete j i)
     go (yes e) = subst P (sym e) p
     go (no e) = h j (omega arith)
 
-pub row-none : (f : ℕ → ℕ) (l : List ℕ) → length l ≡ 1024 → Row 0 f l
+pub row-none : (f : ℕ → ℕ) (l : List ℕ) → length l ≡ mostWords → Row 0 f l
 row-none f l e = record { len = e; is = λ i h. absurd (omega arith) }
 
-pub row-more : {i : ℕ} {f : ℕ → ℕ} {l : List ℕ} (v : ℕ) → Row i f l → i < 1024 → v ≡ f i → Row (i + 1) f (set l i v)
+pub row-more : {i : ℕ} {f : ℕ → ℕ} {l : List ℕ} (v : ℕ) → Row i f l → i < mostWords → v ≡ f i → Row (i + 1) f (set l i v)
 row-more {i} {f} {l} v R h e = record {
   len = simp length-set (R .len);
   is = upto-next (λ j. at (set l i v) j ≡ f j) i (λ j k. at-set l i j v (λ q. omega arith) ∙ R .is j k) (getD-set-same l i v 0 (omega (arith, R .len)) ∙ e);

@@ -9,14 +9,15 @@ use native.Mathlib.Decide.{ℕ-discrete, decLt}
 use lib.ListN.{length, set}
 use lib.Dec.{eqb}
 use borrow.Author.Tests.{eq-eqb, ne-eqb}
+use Rattle.trellis.specs.Bounds.{mostWords}
 use Rattle.trellis.specs.Label.{front}
 use Rattle.trellis.specs.Word.{Word}
-use Rattle.runs.specs.Runs.{firstLike}
-use Rattle.runs.specs.Cuts.{beginningAt}
+use Rattle.runs.specs.inner.Runs.{firstLike}
+use Rattle.runs.specs.inner.Cuts.{beginningAt}
 use Rattle.runs.proofs.FirstLike.{like-le, like-is, like-eq}
 use Rattle.runs.proofs.Cuts.{cut, begins-eq}
-use Rattle.depths.specs.Words.{words, Held}
-use Rattle.depths.specs.Rows.{at, Row, beginAlike, joins, startBy, runStart}
+use Rattle.depths.specs.inner.Words.{words, Held}
+use Rattle.depths.specs.inner.Rows.{at, Row, beginAlike, joins, startBy, runStart}
 use Rattle.depths.proofs.Words.{held-length, word-root, word-label}
 use Rattle.depths.proofs.Places.{row-none, row-more}
 
@@ -32,11 +33,11 @@ unfolding startBy runStart
 start-now joined zero start h = refl
 start-now joined (suc i) start h = simp (ne-eqb (suc i) 0 (λ e. omega arith), h i refl)
 
-pub starts-none : (roots labels : List ℕ) (n t : ℕ) (starts : List ℕ) → length starts ≡ 1024 → InStarts roots labels n t starts 0 0
+pub starts-none : (roots labels : List ℕ) (n t : ℕ) (starts : List ℕ) → length starts ≡ mostWords → InStarts roots labels n t starts 0 0
 starts-none roots labels n t starts h = record { iLe = omega arith; row = row-none _ starts h; last = λ j e. absurd (omega arith) }
 
 pub starts-more : {roots labels : List ℕ} {n t : ℕ} {starts : List ℕ} {i start now : ℕ} → InStarts roots labels n t starts i start
-    → now ≡ startBy (joins roots labels n t) i start → i < length roots → i < 1024 → InStarts roots labels n t (set starts i now) (i + 1) now
+    → now ≡ startBy (joins roots labels n t) i start → i < length roots → i < mostWords → InStarts roots labels n t (set starts i now) (i + 1) now
 starts-more {roots} {labels} {n} {t} {starts} {i} {start} {now} c e h k =
     let is = e ∙ start-now (joins roots labels n t) i start (c .last) in
     record {

@@ -6,11 +6,12 @@ ghost use mathlib.Core.Bool.{cond};
 ghost use Prim.Native.Nat.{_+_, _-_, _<_, _≤_};
 ghost use lib.ListN.{length};
 ghost use lib.Dec.{eqb};
+ghost use Rattle.trellis.specs.Bounds.{mostWords};
 ghost use Rattle.trellis.specs.Lists.{one-if};
-ghost use Rattle.runs.specs.Runs.{firstLike, goesOn};
-ghost use Rattle.depths.specs.Words.{words};
-ghost use Rattle.depths.specs.Rows.{at, Row, Small, Bytes, beginAlike, joins, startBy, runStart, rowKey, firstWordIn, agreesTest, runsAgreeTest, Backward, ToNumber, Numbered};
-ghost use Rattle.depths.specs.Merge.{Merging, DepthDone, lowestOf, countOf, Inner, InnerDone};
+ghost use Rattle.runs.specs.inner.Runs.{firstLike, goesOn};
+ghost use Rattle.depths.specs.inner.Words.{words};
+ghost use Rattle.depths.specs.inner.Rows.{at, Row, Small, Bytes, beginAlike, joins, startBy, runStart, rowKey, firstWordIn, agreesTest, runsAgreeTest, Backward, ToNumber, Numbered};
+ghost use Rattle.depths.specs.inner.Merge.{Merging, DepthDone, lowestOf, countOf, Inner, InnerDone};
 use numbers::wide;
 
 // Whether words i and j have the same beginning at depth t.
@@ -23,7 +24,7 @@ fn begin_alike(roots: &[u8], labels: &[u16], n: usize, t: usize, i: usize, j: us
 
 // The start of i's run, where `before` is the start of the run of the word before i.
 fn run_start(roots: &[u8], labels: &[u16], n: usize, t: usize, i: usize, before: u16) -> u16
-    requires { ⌜ (i < length (now roots)) × (length (now roots) ≤ 1024) × (length (now labels) ≡ length (now roots)) ⌝ }
+    requires { ⌜ (i < length (now roots)) × (length (now roots) ≤ mostWords) × (length (now labels) ≡ length (now roots)) ⌝ }
     ensures { λ r. ⌜ r ≡ startBy (joins (now (roots .entry)) (now (labels .entry)) n t) i before ⌝ }
 {
     if i == 0 {
@@ -38,7 +39,7 @@ fn run_start(roots: &[u8], labels: &[u16], n: usize, t: usize, i: usize, before:
 
 // The start of each word's run at depth t.
 pub fn put_starts(roots: &[u8], labels: &[u16], n: usize, t: usize, starts: &mut [u16; 1024])
-    requires { ⌜ (length (now roots) ≤ 1024) × (length (now labels) ≡ length (now roots)) × (length (now starts) ≡ 1024) ⌝ }
+    requires { ⌜ (length (now roots) ≤ mostWords) × (length (now labels) ≡ length (now roots)) × (length (now starts) ≡ mostWords) ⌝ }
     ensures { λ _. ⌜ Row (length (now (roots .entry))) (runStart (joins (now (roots .entry)) (now (labels .entry)) n t)) (now (starts .exit)) ⌝ }
 {
     let mut i: usize = 0;
@@ -52,14 +53,14 @@ pub fn put_starts(roots: &[u8], labels: &[u16], n: usize, t: usize, starts: &mut
 
 // What was noted for a key, or i where nothing was: 1024 stands for nothing.
 fn noted(old: u16, i: u16) -> u16
-    ensures { λ r. ⌜ r ≡ cond (eqb old 1024) i old ⌝ }
+    ensures { λ r. ⌜ r ≡ cond (eqb old mostWords) i old ⌝ }
 {
     if old == 1024 { i } else { old }
 }
 
 // The row becomes, for each word, the first word with its symbol t and its number in the row.
 pub fn put_firsts(labels: &[u16], n: usize, t: usize, row: &mut [u16; 1024])
-    requires { ⌜ (length (now labels) ≤ 1024) × Small (length (now labels)) (now row) ⌝ }
+    requires { ⌜ (length (now labels) ≤ mostWords) × Small (length (now labels)) (now row) ⌝ }
     ensures { λ _. ⌜ Row (length (now (labels .entry))) (firstLike (rowKey (now (labels .entry)) n t (now (row .entry)))) (now (row .exit)) ⌝ }
 {
     let mut seen = [1024u16; 4096];
@@ -75,7 +76,7 @@ pub fn put_firsts(labels: &[u16], n: usize, t: usize, row: &mut [u16; 1024])
 
 // Whether the word after i is of i's run.
 fn goes_on(starts: &[u16; 1024], w: usize, i: usize) -> bool
-    requires { ⌜ (i < w) × (w ≤ 1024) ⌝ }
+    requires { ⌜ (i < w) × (w ≤ mostWords) ⌝ }
     ensures { λ r. ⌜ r ≡ goesOn w (at (now (starts .entry))) i ⌝ }
 {
     i + 1 < w && starts[i + 1] == starts[i]
@@ -83,7 +84,7 @@ fn goes_on(starts: &[u16; 1024], w: usize, i: usize) -> bool
 
 // The first word of i's vertex.
 fn first_word(starts: &[u16; 1024], firsts: &[u16; 1024], w: usize, i: usize) -> usize
-    requires { ⌜ (i < w) × (w ≤ 1024) × Backward w (now starts) (now firsts) ⌝ }
+    requires { ⌜ (i < w) × (w ≤ mostWords) × Backward w (now starts) (now firsts) ⌝ }
     ensures { λ r. ⌜ r ≡ firstWordIn (now (starts .entry)) (now (firsts .entry)) i ⌝ }
 {
     let first = wide(firsts[i]);
@@ -92,7 +93,7 @@ fn first_word(starts: &[u16; 1024], firsts: &[u16; 1024], w: usize, i: usize) ->
 
 // Whether i's run agrees at i with the run of its first word.
 fn agrees(starts: &[u16; 1024], firsts: &[u16; 1024], w: usize, i: usize) -> bool
-    requires { ⌜ (i < w) × (w ≤ 1024) × Backward w (now starts) (now firsts) ⌝ }
+    requires { ⌜ (i < w) × (w ≤ mostWords) × Backward w (now starts) (now firsts) ⌝ }
     ensures { λ r. ⌜ r ≡ agreesTest w (at (now (starts .entry))) (firstWordIn (now (starts .entry)) (now (firsts .entry))) i ⌝ }
 {
     let start = wide(starts[i]);
@@ -104,7 +105,7 @@ fn agrees(starts: &[u16; 1024], firsts: &[u16; 1024], w: usize, i: usize) -> boo
 }
 
 fn runs_agree(starts: &[u16; 1024], firsts: &[u16; 1024], w: usize) -> bool
-    requires { ⌜ (w ≤ 1024) × Backward w (now starts) (now firsts) ⌝ }
+    requires { ⌜ (w ≤ mostWords) × Backward w (now starts) (now firsts) ⌝ }
     ensures { λ r. ⌜ r ≡ runsAgreeTest w (now (starts .entry)) (now (firsts .entry)) ⌝ }
 {
     let mut i: usize = 0;
@@ -119,7 +120,7 @@ fn runs_agree(starts: &[u16; 1024], firsts: &[u16; 1024], w: usize) -> bool
 
 // One number more where i is the first word of its vertex.
 fn numbered(count: u16, first: usize, i: usize) -> u16
-    requires { ⌜ count ≤ 1024 ⌝ }
+    requires { ⌜ count ≤ mostWords ⌝ }
     ensures { λ r. ⌜ r ≡ count + one-if (eqb first i) ⌝ }
 {
     if first == i { count + 1 } else { count }
@@ -185,7 +186,7 @@ fn widen(x: u8) -> u16
 
 // The goals as a row: they tell the endings at depth n apart.
 pub fn put_goals(goals: &[u8], row: &mut [u16; 1024])
-    requires { ⌜ (length (now goals) ≤ 1024) × (length (now row) ≡ 1024) ⌝ }
+    requires { ⌜ (length (now goals) ≤ mostWords) × (length (now row) ≡ mostWords) ⌝ }
     ensures { λ _. ⌜ Bytes (now (goals .entry)) (now (row .exit)) ⌝ }
 {
     let mut i: usize = 0;

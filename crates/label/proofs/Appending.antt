@@ -8,7 +8,7 @@ use lib.Arith.{mod-mul, digits-div, digits-mod}
 use lib.Bits.{bitAnd, bitOr, or-shifted}
 use lib.Dec.{lit<}
 use Rattle.trellis.specs.Label.{symbol, front}
-use Rattle.label.specs.Labels.{appended}
+use Rattle.label.specs.inner.Labels.{appended}
 use Rattle.label.proofs.Digits.{symbol-last, symbol-drop}
 use Rattle.label.proofs.Shifts.{mask-one}
 

@@ -2,7 +2,7 @@
 -- 0, which is the sum of the distances of its two bytes from 0. Where both labels are used up, further symbols are zeros and do not differ.
 -- The distance counts from the last symbol up; counted from the first one down it is the same sum.
 use mathlib.Core.Path.{_≡_, refl, sym, _∙_, ap, ap₂}
-use mathlib.Core.Bool.{Bool, true, false, not}
+use mathlib.Core.Bool.{not}
 use Prim.Native.Nat.{ℕ, zero, suc, _+_, _*_, _/_, _%_, _^_, _<_, _≤_}
 use native.Mathlib.Omega.{arith}
 use native.Mathlib.Nat.{zero-add, add-assoc, suc-add, pow-suc, pow-succ', div-one, div-div-eq-div-mul, not-suc-le-zero, mod-lt}
@@ -14,15 +14,13 @@ use borrow.Author.Tests.{eq-eqb, ne-eqb}
 use Rattle.trellis.specs.Lists.{one-if, sum}
 use Rattle.trellis.specs.Label.{symbol, distance}
 use Rattle.trellis.proofs.Lists.{sum-last}
-use Rattle.label.proofs.Digits.{four-pos, drop-short, symbol-last, symbol-drop}
+use Rattle.trellis.proofs.Bools.{one-if-le}
+use Rattle.label.proofs.Digits.{drop-short, symbol-last, symbol-drop}
+use Rattle.trellis.proofs.Labels.{four-pos}
 
 -- 1 where two symbols differ
 abbrev unlike : ℕ → ℕ → ℕ
 unlike a b = one-if (not (eqb a b))
-
-one-if-le : (b : Bool) → one-if b ≤ 1
-one-if-le true = lit< tt
-one-if-le false = omega arith
 
 pub distance-le : (n x y : ℕ) → distance n x y ≤ n
 unfolding distance

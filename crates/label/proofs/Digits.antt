@@ -1,15 +1,11 @@
 -- A label of n + 1 symbols x is the label x / 4 of n symbols with the symbol x % 4 behind it: symbol t < n of x is symbol t of x / 4, since dividing
 -- by 4 and then by 4 ^ k is dividing by 4 ^ (k + 1), and symbol n of x is x % 4. So whatever holds of labels is shown by dropping the last symbol.
-use mathlib.Core.Path.{_≡_, sym, _∙_}
-use Prim.Native.Nat.{ℕ, zero, suc, _-_, _/_, _%_, _^_, _<_}
+use mathlib.Core.Path.{_≡_}
+use Prim.Native.Nat.{ℕ, suc, _-_, _/_, _%_, _^_, _<_}
 use native.Mathlib.Omega.{arith}
 use native.Mathlib.Nat.{sub-self, pow-suc, pow-succ', mod-lt, div-one, div-lt-iff-lt-mul, div-div-eq-div-mul}
 use lib.Dec.{lit<}
 use Rattle.trellis.specs.Label.{symbol}
-
-pub four-pos : (k : ℕ) → 0 < 4 ^ k
-four-pos zero = lit< tt
-four-pos (suc k) = let h = four-pos k in omega (arith, pow-suc 4 k)
 
 -- the bound of a label with its last symbol dropped, and back
 pub drop-short : (n : ℕ) {x : ℕ} → x < 4 ^ suc n → x / 4 < 4 ^ n
@@ -32,13 +28,3 @@ module _ (n : ℕ) where
   symbol-drop t x h =
       let e : suc n - suc t ≡ suc (n - suc t) = omega arith in
       rw (e, pow-succ', ← div-div-eq-div-mul)
-
--- labels with the same symbols are the same
-pub by-symbols : (n x y : ℕ) → x < 4 ^ n → y < 4 ^ n → ((t : ℕ) → t < n → symbol n t x ≡ symbol n t y) → x ≡ y
-by-symbols zero x y a b f = omega arith
-by-symbols (suc n) x y a b f =
-    let front : x / 4 ≡ y / 4 =
-    by-symbols n (x / 4) (y / 4) (drop-short n a) (drop-short n b)
-    (λ t l. sym (symbol-drop n t x l) ∙ f t (omega arith) ∙ symbol-drop n t y l) in
-    let last : x % 4 ≡ y % 4 = sym (symbol-last n x) ∙ f n (omega arith) ∙ symbol-last n y in
-    omega arith

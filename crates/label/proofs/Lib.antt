@@ -5,4 +5,3 @@ pub mod Appending
 pub mod Packing
 pub mod Order
 pub mod Differing
-pub mod Entries

@@ -8,9 +8,10 @@ use native.Mathlib.Decide.{ℕ-discrete}
 use native.Mathlib.Nat.{not-suc-le-zero}
 use lib.Dec.{ltb}
 use borrow.Author.Tests.{ltb-true, lt-ltb}
-use Rattle.trellis.specs.Label.{symbol, Earlier}
-use Rattle.label.specs.Labels.{InOrder}
-use Rattle.label.proofs.Digits.{drop-short, symbol-last, symbol-drop, by-symbols}
+use Rattle.trellis.specs.Label.{symbol}
+use Rattle.label.specs.inner.Labels.{InOrder, Earlier}
+use Rattle.label.proofs.Digits.{drop-short, symbol-last, symbol-drop}
+use Rattle.trellis.proofs.Labels.{by-symbols}
 
 module _ (n x y : ℕ) where
   -- what is left without the last symbols decides

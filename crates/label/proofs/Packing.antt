@@ -12,7 +12,8 @@ use lib.Bits.{bitAnd}
 use lib.Dec.{ltb, eqb, eqb·suc-zero}
 use borrow.Author.Tests.{ltb-true, lt-ltb, le-ltb}
 use Rattle.trellis.specs.Label.{symbol, symbolsBelow, isLabel}
-use Rattle.label.specs.Labels.{Packed}
+use Rattle.trellis.proofs.Bools.{left-true, right-true, both-true}
+use Rattle.label.specs.inner.Labels.{Packed}
 use Rattle.label.proofs.Digits.{drop-short, join-short, symbol-last, symbol-drop}
 use Rattle.label.proofs.Shifts.{mask-one}
 
@@ -21,18 +22,6 @@ swap true true c = refl
 swap true false c = refl
 swap false true c = refl
 swap false false c = refl
-
-left-true : (a b : Bool) → (a && b) ≡ true → a ≡ true
-left-true true b h = refl
-left-true false b h = h
-
-right-true : (a b : Bool) → (a && b) ≡ true → b ≡ true
-right-true true b h = h
-right-true false true h = refl
-right-true false false h = h
-
-both-true : (a b : Bool) → a ≡ true → b ≡ true → (a && b) ≡ true
-both-true a b p q = rw (p, q)
 
 short-drop : (n x : ℕ) → ltb x (4 ^ suc n) ≡ ltb (x / 4) (4 ^ n)
 short-drop n x = go (decLt (x / 4) (4 ^ n)) (drop-short n) (join-short n)
@@ -88,7 +77,7 @@ module _ (q : ℕ) where
   is-packed zero x p = label-none x ∙ lt-ltb x 1 (p .short)
   is-packed (suc n) x p =
       label-step n x
-      ∙ both-true (ltb (x % 4) q) (isLabel q n (x / 4))
+      ∙ both-true
       (lt-ltb (x % 4) q (rw symbol-last at (p .below n (omega arith))))
       (is-packed n (x / 4) (packed-drop p))
 
@@ -99,7 +88,7 @@ module _ (q : ℕ) where
 
   zero-label : (n : ℕ) → 0 < q → isLabel q n 0 ≡ true
   zero-label zero h = label-none 0
-  zero-label (suc n) h = label-step n 0 ∙ both-true (ltb 0 q) (isLabel q n 0) (lt-ltb 0 q h) (zero-label n h)
+  zero-label (suc n) h = label-step n 0 ∙ both-true (lt-ltb 0 q h) (zero-label n h)
 
   label-more : (m n x : ℕ) → m ≤ n → x < 4 ^ suc m → isLabel q (suc n) x ≡ isLabel q (suc m) x
   label-more zero n x h short = label-step n x ∙ go (ltb (x % 4) q) refl ∙ sym (label-step zero x)

@@ -3,7 +3,7 @@
 ghost use mathlib.Core.Path.{_≡_};
 ghost use Prim.Native.Nat.{_-_, _/_, _%_, _^_, min};
 ghost use Rattle.trellis.specs.Label.{symbol, front, back, isLabel, distance};
-ghost use Rattle.label.specs.Labels.{appended, InOrder};
+ghost use Rattle.label.specs.inner.Labels.{appended, InOrder};
 
 mod counts;
 

@@ -23,7 +23,7 @@ use Rattle.trellis.proofs.ThreeNumbers.{lower-yes}
 use Rattle.trellis.proofs.Paths.{edge-ok, edge-rf, edges-order}
 use Rattle.trellis.proofs.EdgeOrder.{New, new-last}
 use Rattle.label.proofs.Digits.{symbol-small}
-use Rattle.layout.specs.Takers.{keyOf, raised, highest, leadsHigher, takers}
+use Rattle.layout.specs.inner.Takers.{keyOf, raised, highest, leadsHigher, takers}
 
 -- ---- what the scan keeps
 

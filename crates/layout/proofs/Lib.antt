@@ -2,3 +2,8 @@
 pub mod FirstWords
 pub mod Ranks
 pub mod Marks
+pub mod Scanning
+pub mod Pieces
+pub mod Steps
+pub mod AllPieces
+pub mod StateMarks

@@ -5,11 +5,11 @@ ghost use mathlib.Core.List.{[], _∷_};
 ghost use Prim.Native.Nat.{_+_, _-_, _*_, _<_, _≤_};
 ghost use lib.ListN.{length};
 ghost use lib.Dec.{leb};
-ghost use Rattle.trellis.specs.Write.{Wrote};
+ghost use Rattle.trellis.specs.Bounds.{mostWords};
+ghost use Rattle.trellis.specs.inner.Write.{Wrote};
 ghost use Rattle.trellis.specs.Layout.{joinedUp};
-ghost use Rattle.layout.specs.Pieces.{SmallMap, AllTaken, stepTakers, part, pairsOf, symbolsOf, Words};
-ghost use Rattle.layout.specs.AllPieces.{Taken, stepPairs, stepSymbols};
-ghost use Rattle.layout.specs.Takers.{rowEdge, raised, takers, SmallRows, ArcOf};
+ghost use Rattle.layout.specs.inner.Pieces.{SmallMap, AllTaken, stepTakers, part, pairsOf, symbolsOf, Words, Taken, stepPairs, stepSymbols};
+ghost use Rattle.layout.specs.inner.Takers.{rowEdge, raised, takers, SmallRows, ArcOf};
 use numbers::wide;
 
 pub mod states;
@@ -37,7 +37,7 @@ fn arc_at(labels: &[u16], n: usize, t: usize, map: &[u16], row: usize, i: usize)
 
 // One more than `to` where that is higher.
 fn higher(high: u16, to: u16) -> u16
-    requires { ⌜ to < 1024 ⌝ }
+    requires { ⌜ to < mostWords ⌝ }
     ensures { λ r. ⌜ r ≡ raised high to ⌝ }
 {
     if high <= to { to + 1 } else { high }

@@ -3,9 +3,8 @@ use mathlib.Core.Path.{_≡_, refl, sym, ap, subst}
 use mathlib.Core.List.{List, [], _∷_}
 use Prim.Native.Nat.{ℕ}
 use Rattle.trellis.specs.Outcome.{Outcome, outcome}
-use Rattle.merge.specs.Answer.{outcomeOf}
+use Rattle.merge.specs.Answer.{outcomeOf, Ends}
 use Rattle.merge.specs.Merging.{Merging}
-use Rattle.merge.specs.Stages.{Ends}
 use Rattle.merge.specs.declared.Merged.{Merged}
 use Rattle.read_back.specs.ReadingBack.{ReadingBack, leaves}
 use Rattle.chain.specs.Decoding.{Decoding, left}

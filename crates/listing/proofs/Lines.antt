@@ -11,7 +11,7 @@ use Rattle.merge.specs.Answer.{outcomeOf}
 use Rattle.merge.specs.declared.Merged.{Merged}
 use Rattle.merge.specs.declared.Merged.the-variants.{Section, Length, Size, Word, Order, ShortMap, NotRectangular, ShortSection}
 use Rattle.text.specs.Line.{line}
-use Rattle.text.specs.Put.{Put}
+use Rattle.text.specs.inner.Put.{Put}
 use Rattle.text.proofs.Putting.{put-none, put-then}
 use Rattle.listing.specs.Text.{sectionWord, depthWord, additionsWord, selectionsWord, entering, depthLine, sums, sizesOf, textFrom}
 

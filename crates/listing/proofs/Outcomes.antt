@@ -11,14 +11,14 @@ use lib.Dec.{ltb}
 use borrow.Author.Tests.{lt-ltb, le-ltb}
 use Rattle.trellis.specs.Outcome.{badLength, success, shortBuffer}
 use Rattle.table.specs.File.{wordCount}
-use Rattle.merge.specs.Answer.{outcomeOf}
+use Rattle.merge.specs.Answer.{outcomeOf, Ends}
 use Rattle.merge.specs.Merging.{merging}
-use Rattle.merge.specs.Stages.{Ends}
 use Rattle.merge.specs.declared.Merged.{Merged}
-use Rattle.text.specs.Put.{Put}
+use Rattle.text.specs.inner.Put.{Put}
 use Rattle.text.proofs.Putting.{front-holds, front-end, front-put}
 use Rattle.listing.specs.Text.{refusalLine, textFrom, merged, textOf}
-use Rattle.listing.specs.Listing.{Listing, listedOutcome, leaves, Made, listing}
+use Rattle.listing.specs.Listing.{Listing, listedOutcome, leaves, listing}
+use Rattle.listing.specs.inner.Made.{Made}
 use Rattle.listing.specs.declared.Listed.{Listed}
 use Rattle.listing.specs.declared.Listed.the-variants.{Text}
 use Rattle.listing.proofs.Lines.{few-values}

@@ -6,6 +6,7 @@ use Prim.Native.Nat.{ℕ, zero, suc, _+_, _*_, _≤_}
 use native.Mathlib.Omega.{arith}
 use native.Mathlib.Nat.{mul-le-mul, suc-mul}
 use lib.ListN.{length}
+use Rattle.trellis.specs.Bounds.{mostSymbols}
 use Rattle.trellis.specs.Lists.{sum}
 use Rattle.trellis.specs.Word.{Word}
 use Rattle.trellis.specs.Layout.{nOf, vertexCountOf, edgeCountOf, edgesBefore, rootsPlace, goalsPlace, pairsPlace, symbolsPlace, sectionLength, sectionOf}
@@ -21,7 +22,7 @@ unfolding sum
 sum-of-same m at zero = omega arith
 sum-of-same m at (suc k) = omega (arith, sum-of-same m (suc at) k, suc-mul k m)
 
-module _ (q n states : ℕ) (table : List Word) (few : length table ≤ 1024) (short : n ≤ 8) where
+module _ (q n states : ℕ) (table : List Word) (few : length table ≤ 1024) (short : n ≤ mostSymbols) where
   abbrev l : List ℕ
   l = sectionOf q n states table
 

@@ -7,6 +7,7 @@ use native.Mathlib.Omega.{arith}
 use native.Mathlib.Nat.{mul-le-mul, suc-mul}
 use lib.ListN.{length, getD, drop, replicate, length-append, getD-replicate}
 use lib.Dec.{ltb, leb, eqb, lit<}
+use Rattle.trellis.specs.Bounds.{mostSymbols}
 use Rattle.trellis.specs.Word.{Word}
 use Rattle.trellis.specs.Witness.{Witness, found, nothing, witness}
 use Rattle.trellis.specs.Outcome.{Outcome, badLength}
@@ -52,7 +53,7 @@ sums-short l =
     let b = line-short selectionsWord (selections (nOf l) (vertexCountOf l) (edgeCountOf l) ∷ []) in
     omega (arith, a, b, length-append (line additionsWord (additions (nOf l) (edgeCountOf l) ∷ [])) (line selectionsWord (selections (nOf l) (vertexCountOf l) (edgeCountOf l) ∷ [])))
 
-sizes-short : (words : ℕ) (l : List ℕ) → nOf l ≤ 8 → length (sizesOf words l) ≤ 1024
+sizes-short : (words : ℕ) (l : List ℕ) → nOf l ≤ mostSymbols → length (sizesOf words l) ≤ 1024
 unfolding sizesOf
 sizes-short words l h =
     let first = line sectionWord (getD l 0 0 ∷ nOf l ∷ getD l 2 0 ∷ words ∷ []) in
@@ -77,17 +78,17 @@ abbrev zeros : List ℕ
 zeros = replicate 26644 0
 
 abbrev SmallN : Merging → Type 0
-SmallN m = nOf (m .section) ≤ 8
+SmallN m = nOf (m .section) ≤ mostSymbols
 
 either-small : (b : Bool) (x y : Merging) → SmallN x → SmallN y → SmallN (cond b x y)
 either-small true x y g h = g
 either-small false x y g h = h
 
-zero-n : nOf zeros ≤ 8
+zero-n : nOf zeros ≤ mostSymbols
 zero-n = omega (arith, getD-replicate {A = ℕ} 26644 1 0 0 (lit< tt))
 
-module _ (q n states : ℕ) (table : List Word) (map : List ℕ) (short : n ≤ 8) where
-  section-n : (rest : List ℕ) → nOf (sectionOf q n states table ++ rest) ≤ 8
+module _ (q n states : ℕ) (table : List Word) (map : List ℕ) (short : n ≤ mostSymbols) where
+  section-n : (rest : List ℕ) → nOf (sectionOf q n states table ++ rest) ≤ mostSymbols
   unfolding sectionOf
   section-n rest = short
 

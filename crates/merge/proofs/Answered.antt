@@ -6,13 +6,12 @@ use Prim.Native.Nat.{ℕ}
 use lib.ListN.{length}
 use Rattle.trellis.specs.Outcome.{Outcome}
 use Rattle.table.specs.File.{accepted, refused, tableFile, fileWords, fileOutcome}
-use Rattle.table.specs.Answer.{checkedOutcome, isTable}
+use Rattle.table.specs.inner.Answer.{checkedOutcome, isTable}
 use Rattle.table.specs.declared.Checked.{Checked}
 use Rattle.table.specs.declared.Checked.the-variants.{Table}
 use Rattle.table.proofs.Exactly.{checked-table, checked-refused}
-use Rattle.merge.specs.Answer.{outcomeOf}
+use Rattle.merge.specs.Answer.{outcomeOf, Ends}
 use Rattle.merge.specs.Merging.{left, mergedFile, merging, mergedTable}
-use Rattle.merge.specs.Stages.{Ends}
 use Rattle.merge.specs.declared.Merged.{Merged}
 use Rattle.merge.proofs.LastStage.{ends-by}
 

@@ -8,17 +8,19 @@ use native.Mathlib.Numerals.{add-one}
 use lib.ListN.{length, getD, take}
 use lib.Seq.{length-take-le, getD-take, ext-getD}
 use borrow.Author.Tests.{lt-ltb, le-ltb}
+use Rattle.trellis.specs.Bounds.{mostStates, mostWords}
 use Rattle.trellis.specs.Word.{Word, word, wordAt, Table}
 use Rattle.trellis.specs.Outcome.{shortMap}
 use Rattle.trellis.specs.Witness.{witness}
 use Rattle.trellis.proofs.Words.{word-in, word-eq}
 use Rattle.table.specs.File.{accepted, tableFile, fileWords}
-use Rattle.table.specs.Good.{Good}
+use Rattle.table.specs.inner.Good.{Good}
 use Rattle.table.proofs.Accepted.{accepted-good, good-at}
-use Rattle.depths.specs.Words.{words}
+use Rattle.depths.specs.inner.Words.{words}
 use Rattle.depths.proofs.Words.{word-is, words-length}
 use Rattle.merge.specs.Merging.{mapLength, merged, mergedTable}
-use Rattle.merge.specs.Stages.{Ends, Words, Copied}
+use Rattle.merge.specs.inner.Stages.{Words, Copied}
+use Rattle.merge.specs.Answer.{Ends}
 use Rattle.merge.specs.declared.Merged.{Merged}
 use Rattle.merge.specs.declared.Merged.the-variants.{ShortMap}
 use Rattle.merge.proofs.LastStage.{ends-by}
@@ -27,14 +29,14 @@ module _ (file : List ℕ) {q n states count : ℕ} (A : (tableFile file ≡ acc
   G : Good file q n states (fileWords file)
   G = accepted-good file (A .0)
 
-  pub count-few : count ≤ 1024
+  pub count-few : count ≤ mostWords
   count-few = omega (arith, A .1, G .countTo)
 
   pub needed-fits : (w : ℕ) → w ≡ count → w * (n + 1) ≤ 9216
   needed-fits w e =
-      let j : w ≤ 1024 = omega (arith, count-few) in
+      let j : w ≤ mostWords = omega (arith, count-few) in
       let k : n + 1 ≤ 9 = omega (arith, G .nTo) in
-      let p : w * (n + 1) ≤ 1024 * 9 = mul-le-mul j k in
+      let p : w * (n + 1) ≤ mostWords * 9 = mul-le-mul j k in
       omega arith
 
   needed-is : (w : ℕ) → w ≡ count → w * (n + 1) ≡ mapLength n (fileWords file)
@@ -80,14 +82,14 @@ module _ (file : List ℕ) {q n states count : ℕ} (A : (tableFile file ≡ acc
             ∙ word-eq (getD-take w roots i 0 h ∙ C .root i (omega arith)) (getD-take w labels i 0 h ∙ C .label i (omega arith)) (getD-take w goals i 0 h ∙ C .goal i (omega arith))
             ∙ sym (good-at file G i (omega (arith, A .1)))
 
-    root-low : (i : ℕ) → i < length (take w roots) → getD (take w roots) i 0 < 64
+    root-low : (i : ℕ) → i < length (take w roots) → getD (take w roots) i 0 < mostStates
     root-low i h =
         let l : i < w = omega (arith, size-roots) in
         let k : i < length (fileWords file) = omega (arith, A .1) in
         let z : getD (take w roots) i 0 ≡ wordAt (fileWords file) i .root = getD-take w roots i 0 l ∙ C .root i (omega arith) ∙ sym (ap (λ (x : Word). x .root) (good-at file G i k)) in
         omega (arith, G .rootsBelow (wordAt (fileWords file) i) (word-in (fileWords file) i k), G .statesTo)
 
-    goal-low : (i : ℕ) → i < length (take w goals) → getD (take w goals) i 0 < 64
+    goal-low : (i : ℕ) → i < length (take w goals) → getD (take w goals) i 0 < mostStates
     goal-low i h =
         let l : i < w = omega (arith, size-goals) in
         let k : i < length (fileWords file) = omega (arith, A .1) in

@@ -15,15 +15,12 @@ use Rattle.trellis.specs.Witness.{Witness, found, nothing, when, refutes, overK
 use Rattle.trellis.proofs.Bools.{holds, fails}
 use Rattle.trellis.proofs.Lists.{in-yes, in-of}
 use Rattle.trellis.proofs.Words.{same-yes, same-self, word-in, rectangular-by}
-use Rattle.trellis.proofs.Witness.{Hit, search-none, search-hit, refutes-of, witness-first, witness-none}
-use Rattle.depths.specs.Merge.{FirstRefused}
-use Rattle.witness.specs.Search.{asWitness}
+use Rattle.trellis.proofs.Witness.{Hit, search-none, search-hit, refutes-of, witness-first, witness-none, none-found}
+use Rattle.depths.specs.inner.Merge.{FirstRefused}
+use Rattle.witness.specs.inner.Search.{asWitness}
 use Rattle.witness.specs.declared.Witness.{Witness as Found}
 use Rattle.witness.specs.declared.Witness.the-variants.{At, Nothing}
 use Rattle.merge.specs.Merging.{refusalOf}
-
-clash : {t i j k : ℕ} → _≡_ {A = Witness} nothing (found t i j k) → ⊥
-clash e = let z : _≡_ {A = ℕ} 0 1 = cc in omega arith
 
 module _ (n : ℕ) (table : List Word) where
   -- a witness found at depth t is of depth t
@@ -37,7 +34,7 @@ module _ (n : ℕ) (table : List Word) where
     where
       tag : (b : Bool) (i j k : ℕ) → when b (found t i j k) ≡ found a p q r → a ≡ t
       tag true i j k f = cc
-      tag false i j k f = absurd (clash f)
+      tag false i j k f = absurd (none-found f)
 
   -- a depth without a witness is rectangular
   no-witness : (t : ℕ) → 0 < t → t < n → witnessAt n table t ≡ nothing → RectangularAt n t table
@@ -45,7 +42,7 @@ module _ (n : ℕ) (table : List Word) where
   no-witness t low deep e = rectangular-by n t table (λ i j k a b c x y. go i j k a b c x y (isIn sameWord (joined n t (wordAt table k) (wordAt table j)) table) refl)
     where
       silent : (b : Bool) (i j k : ℕ) → when b (found t i j k) ≡ nothing → T b → ⊥
-      silent true i j k f s = clash (sym f)
+      silent true i j k f s = none-found (sym f)
       silent false i j k f s = s
 
       none : (i j k : ℕ) → i < length table → j < length table → k < length table → T (refutes n table t i j k) → ⊥
@@ -106,7 +103,7 @@ module _ (n : ℕ) (table : List Word) where
                 not-later u H = pick (decLt t (H .place))
                   where
                     pick : Dec (t < H .place) → H .place ≤ t
-                    pick (yes l) = absurd (clash (sym (H .before t (F .from) l) ∙ e))
+                    pick (yes l) = absurd (none-found (sym (H .before t (F .from) l) ∙ e))
                     pick (no l) = omega arith
 
 -- ---- the refusal that the search gives

@@ -10,14 +10,16 @@ use lib.ListN.{length, replicate, length-replicate}
 use Rattle.trellis.specs.Word.{Word}
 use Rattle.trellis.specs.Witness.{Witness, found, nothing, witness}
 use Rattle.trellis.proofs.Witness.{witness-none}
-use Rattle.depths.specs.Words.{words}
-use Rattle.depths.specs.Merge.{FirstRefused, Found, InnerDone}
+use Rattle.depths.specs.inner.Words.{words}
+use Rattle.depths.specs.inner.Merge.{FirstRefused, Found, InnerDone}
 use Rattle.depths.proofs.Words.{held-length}
-use Rattle.merge.specs.Answer.{outcomeOf}
-use Rattle.merge.specs.Merging.{over, mapOf, mapLength, refusalOf, written, merged}
-use Rattle.merge.specs.Stages.{Ends, cleared, Words, Inside, Refused}
+use Rattle.merge.specs.Answer.{outcomeOf, Ends}
+use Rattle.merge.specs.Merging.{mapOf, mapLength, refusalOf, written, merged}
+use Rattle.trellis.specs.Lists.{over}
+use Rattle.merge.specs.inner.Stages.{cleared, Words, Inside, Refused}
 use Rattle.merge.specs.declared.Merged.{Merged}
-use Rattle.merge.proofs.MapRows.{over-same, map-length}
+use Rattle.merge.proofs.MapRows.{map-length}
+use Rattle.trellis.proofs.Buffers.{over-same}
 use Rattle.merge.proofs.LastStage.{ends-by}
 
 module _ {n r : ℕ} {roots labels goals map0 map1 counts0 counts : List ℕ} (A : Words n roots labels goals map0)

@@ -8,25 +8,27 @@ use native.Mathlib.Nat.{mul-le-mul}
 use lib.ListN.{length, getD, length-append, replicate, length-replicate}
 use lib.Dec.{leb}
 use borrow.Author.Tests.{lt-ltb, le-ltb, le-leb}
+use Rattle.trellis.specs.Bounds.{mostWords, mostSymbols}
 use Rattle.trellis.specs.Word.{Word, Rectangular}
 use Rattle.trellis.specs.Layout.{joinedUp, sectionOf}
-use Rattle.trellis.specs.Write.{Wrote}
+use Rattle.trellis.specs.inner.Write.{Wrote}
 use Rattle.trellis.proofs.Write.{wrote-front}
-use Rattle.depths.specs.Words.{words, Held}
+use Rattle.depths.specs.inner.Words.{words, Held}
 use Rattle.depths.proofs.Words.{held-length}
-use Rattle.layout.specs.Pieces.{SmallMap, stepEdge, stepTakers, AllTaken}
-use Rattle.layout.specs.AllPieces.{Taken, taken-all, joined-rise}
+use Rattle.layout.specs.inner.Pieces.{SmallMap, stepEdge, stepTakers, AllTaken, Taken}
+use Rattle.layout.proofs.AllPieces.{taken-all, joined-rise}
 use Rattle.layout.proofs.Marks.{bits-of, all-marks}
-use Rattle.assemble.specs.Outer.{Put}
-use Rattle.assemble.specs.Numbers.{numbersOf, Parts}
+use Rattle.assemble.specs.inner.Outer.{Put}
+use Rattle.assemble.specs.inner.Numbers.{numbersOf, Parts}
 use Rattle.assemble.proofs.Whole.{complete, few-counts, small, numbers-are, section-length}
-use Rattle.merge.specs.Merging.{Merging, left, over, mapOf, written}
+use Rattle.merge.specs.Merging.{Merging, left, mapOf, written}
+use Rattle.trellis.specs.Lists.{over}
 use Rattle.trellis.specs.Outcome.{Outcome, success, shortSection}
 use Rattle.trellis.specs.Own.{Edge}
-use Rattle.layout.specs.Takers.{highest, leadsHigher, takers}
-use Rattle.merge.specs.Answer.{outcomeOf}
+use Rattle.layout.specs.inner.Takers.{highest, leadsHigher, takers}
+use Rattle.merge.specs.Answer.{outcomeOf, Ends}
 use Rattle.merge.specs.declared.Merged.{Merged}
-use Rattle.merge.specs.Stages.{Ends, Inside}
+use Rattle.merge.specs.inner.Stages.{Inside}
 use Rattle.merge.specs.declared.Merged.the-variants.{Section, ShortSection}
 use Rattle.merge.proofs.MapRows.{map-is}
 
@@ -84,15 +86,15 @@ module _ {n : ℕ} {roots labels goals map0 map1 inner rootMarks goalMarks count
   pub map-small : SmallMap map1 labels n
   map-small = small H (I .sound) P (omega (arith, I .asked .room, P .placed .len))
 
-  pub root-few : getD counts 0 0 ≤ 1024
+  pub root-few : getD counts 0 0 ≤ mostWords
   root-few = few-counts H (I .sound) P 0 (omega arith)
 
-  pub goal-few : getD counts n 0 ≤ 1024
+  pub goal-few : getD counts n 0 ≤ mostWords
   goal-few = few-counts H (I .sound) P n (omega arith)
 
   module _ {firsts edgeCounts : List ℕ} {total : ℕ} (A : AllTaken map1 labels n (replicate 8192 0) firsts total edgeCounts) where
     room8 : n * length labels ≤ 8192
-    room8 = let p : n * length labels ≤ 8 * 1024 = mul-le-mul (H .short) (map-small .words) in omega arith
+    room8 = let p : n * length labels ≤ mostSymbols * mostWords = mul-le-mul (H .short) (map-small .words) in omega arith
 
     pub total-few : total ≤ 8192
     total-few = omega (arith, A .few, room8)

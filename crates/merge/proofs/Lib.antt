@@ -5,3 +5,5 @@ pub mod FirstDepth
 pub mod InnerStage
 pub mod FileStage
 pub mod Answered
+pub mod Clearing
+pub mod Copying

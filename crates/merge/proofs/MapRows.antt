@@ -2,18 +2,19 @@
 -- Place j of the front is of word j % W at depth j / W.
 use mathlib.Core.Path.{_≡_, sym, ap, _∙_}
 use mathlib.Core.List.{List, _++_}
-use Prim.Native.Nat.{ℕ, zero, suc, _+_, _-_, _*_, _/_, _%_, _<_, _≤_}
+use Prim.Native.Nat.{ℕ, zero, suc, _+_, _*_, _/_, _%_, _<_, _≤_}
 use native.Mathlib.Omega.{arith}
 use native.Mathlib.Nat.{suc-mul, zero-mul, mul-le-mul-right, div-add-mod', div-lt-iff-lt-mul, mod-lt}
-use native.Mathlib.Decide.{ℕ-discrete, decLt}
-use lib.ListN.{length, getD, drop, length-append, length-drop, List·getD-append}
-use lib.Seq.{ext-getD, getD-append-add, getD-drop}
-use Rattle.trellis.specs.Lists.{each}
+use native.Mathlib.Decide.{ℕ-discrete}
+use lib.ListN.{length, getD, length-append, List·getD-append}
+use lib.Seq.{getD-append-add}
+use Rattle.trellis.specs.Lists.{each, over}
 use Rattle.trellis.specs.Word.{Word}
 use Rattle.trellis.specs.Own.{vertexOf}
 use Rattle.trellis.specs.Layout.{joinedUp}
 use Rattle.trellis.proofs.Lists.{length-run, each-at}
-use Rattle.merge.specs.Merging.{over, mapOf}
+use Rattle.trellis.proofs.Buffers.{over-is}
+use Rattle.merge.specs.Merging.{mapOf}
 
 -- ---- rows of one length
 
@@ -45,30 +46,6 @@ module _ (f : ℕ → ℕ → ℕ) (w : ℕ) where
       go (no e) r = List·getD-append (joinedUp (λ t. each (f t) w) m) (each (f m) w) 0 (t * w + i) (before (omega arith)) ∙ r (omega arith) l
 
 -- ---- a buffer with a front of its own
-
-over-front : (vs l : List ℕ) (j : ℕ) → j < length vs → getD (over vs l) j 0 ≡ getD vs j 0
-over-front vs l j h = List·getD-append vs (drop (length vs) l) 0 j h
-
-over-behind : (vs l : List ℕ) (j : ℕ) → length vs ≤ j → getD (over vs l) j 0 ≡ getD l j 0
-over-behind vs l j h =
-    let e : j ≡ length vs + (j - length vs) = omega arith in
-    ap (λ k. getD (over vs l) k 0) e ∙ getD-append-add vs (drop (length vs) l) (j - length vs) 0 ∙ getD-drop (length vs) l (j - length vs) 0 ∙ ap (λ k. getD l k 0) (sym e)
-
-over-length : (vs l : List ℕ) → length vs ≤ length l → length (over vs l) ≡ length l
-over-length vs l h = omega (arith, length-append vs (drop (length vs) l), length-drop (length vs) l)
-
--- a buffer is vs over another one if it agrees with both
-pub over-is : (vs l new : List ℕ) → length vs ≤ length l → length new ≡ length l → ((j : ℕ) → j < length vs → getD new j 0 ≡ getD vs j 0)
-    → ((j : ℕ) → length vs ≤ j → getD new j 0 ≡ getD l j 0) → new ≡ over vs l
-over-is vs l new h e front behind = ext-getD 0 new (over vs l) (e ∙ sym (over-length vs l h)) (λ j k. go j (decLt j (length vs)))
-  where
-    go : (j : ℕ) → Dec (j < length vs) → getD new j 0 ≡ getD (over vs l) j 0
-    go j (yes q) = front j q ∙ sym (over-front vs l j q)
-    go j (no q) = behind j (omega arith) ∙ sym (over-behind vs l j (omega arith))
-
--- buffers that agree beyond a front are alike under it
-pub over-same : (vs l k : List ℕ) → length vs ≤ length l → length k ≡ length l → ((j : ℕ) → length vs ≤ j → getD k j 0 ≡ getD l j 0) → over vs k ≡ over vs l
-over-same vs l k h e behind = over-is vs l (over vs k) h (over-length vs k (omega arith) ∙ e) (λ j q. over-front vs k j q) (λ j q. over-behind vs k j q ∙ behind j q)
 
 -- ---- the map
 

@@ -1,5 +1,3 @@
 pub mod Answer
 pub mod Merging
-pub mod Stages
-pub mod InClear
-pub mod InCopy
+pub mod inner

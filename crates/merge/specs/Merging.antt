@@ -1,11 +1,11 @@
 -- What merging a table file leaves: document 01's answer and the whole content of both buffers, from the file's bytes and the buffers before the call.
 -- Everything here computes.
 use mathlib.Core.Bool.{cond}
-use mathlib.Core.List.{List, _++_}
+use mathlib.Core.List.{List}
 use Prim.Native.Nat.{ℕ, suc, _+_, _*_}
-use lib.ListN.{length, drop, replicate}
+use lib.ListN.{length, replicate}
 use lib.Dec.{ltb}
-use Rattle.trellis.specs.Lists.{each}
+use Rattle.trellis.specs.Lists.{each, over}
 use Rattle.trellis.specs.Word.{Word}
 use Rattle.trellis.specs.Own.{vertexOf}
 use Rattle.trellis.specs.Layout.{joinedUp, sectionOf}
@@ -20,10 +20,6 @@ pub record Merging : Type 0 where
 
 abbrev pub left : Outcome → List ℕ → List ℕ → Merging
 left o map section = record { answer = o; map = map; section = section }
-
--- a buffer with vs in front; places beyond are unchanged
-abbrev pub over : List ℕ → List ℕ → List ℕ
-over vs buffer = vs ++ drop (length vs) buffer
 
 -- refusal 6, as a witness gives it
 abbrev pub refusalOf : Witness → Outcome

@@ -3,12 +3,13 @@
 ghost use mathlib.Core.Path.{_≡_};
 ghost use Prim.Native.Nat.{_+_, _*_, _<_, _≤_};
 ghost use lib.ListN.{length};
+ghost use Rattle.trellis.specs.Bounds.{mostWords};
 ghost use Rattle.trellis.specs.Witness.{witness};
 ghost use Rattle.table.specs.File.{accepted, tableFile, fileWords};
-ghost use Rattle.depths.specs.Words.{words};
-ghost use Rattle.merge.specs.Answer.{outcomeOf};
+ghost use Rattle.depths.specs.inner.Words.{words};
+ghost use Rattle.merge.specs.Answer.{outcomeOf, Ends};
 ghost use Rattle.merge.specs.Merging.{refusalOf, merging, mergedTable, merged, written};
-ghost use Rattle.merge.specs.Stages.{Ends, cleared, Words, Inside, Refused, Copied};
+ghost use Rattle.merge.specs.inner.Stages.{cleared, Words, Inside, Refused, Copied};
 use numbers::wide;
 
 pub enum Merged {
@@ -107,7 +108,7 @@ struct Lists {
 }
 
 fn copy_words(file: &[u8], count: u16) -> Lists
-    requires { ⌜ count ≤ 1024 ⌝ }
+    requires { ⌜ count ≤ mostWords ⌝ }
     ensures { λ r. ⌜ Copied (now (file .entry)) count (r .roots) (r .labels) (r .goals) ⌝ }
 {
     let mut roots = [0u8; 1024];

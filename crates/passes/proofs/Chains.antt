@@ -12,13 +12,14 @@ use lib.Dec.{eqb}
 use lib.ListN.{length, getD, take, drop, length-drop}
 use lib.Seq.{take-all}
 use borrow.Author.Tests.{lt-ltb, le-ltb}
+use Rattle.trellis.specs.Bounds.{mostStates, mostSections, mostBlocks, costsABlock}
 use Rattle.trellis.specs.Lists.{_∈_, each}
 use Rattle.trellis.specs.Word.{Word, word}
 use Rattle.trellis.specs.Section.{Path, wordOf, packOnto}
 use Rattle.trellis.specs.Layout.{nOf, vertexCountOf, rootState, goalState, stepEdges, sectionWords}
 use Rattle.trellis.proofs.Lists.{of-run, in-each}
-use Rattle.paths.specs.Costs.{least}
-use Rattle.paths.specs.Sections.{sectionLeast, sectionTrace}
+use Rattle.paths.specs.inner.Costs.{least}
+use Rattle.paths.specs.inner.Sections.{sectionLeast, sectionTrace}
 use Rattle.paths.specs.Chain.{chainLeast, chainTrace}
 use Rattle.paths.proofs.Packed.{cost-packed}
 use Rattle.paths.proofs.Words.{whole-fits}
@@ -26,9 +27,10 @@ use Rattle.paths.proofs.Chain.{cost-table, table-le}
 use Rattle.paths.proofs.Blocks.{Uses, least-root, least-else, trace-root}
 use Rattle.paths.proofs.Ranked.{Rankable, Reads, ranked-cost, ranked-path}
 use Rattle.block.specs.Received.{symbolCost, blockDistance}
-use Rattle.passes.specs.Blocks.{top, Good, endsIn, sectionOf, wordsOf, distanceOf, leastFrom, pathFrom, Ready, Table, Pick, Filled, aheadOf}
-use Rattle.passes.specs.Loops.{Behind, rankFrom, BlockTable, RootAt}
-use Rattle.passes.proofs.OneSection.{run-ordered, bounded-by, rootOf, root-at}
+use Rattle.passes.specs.inner.Blocks.{top, Good, endsIn, sectionOf, wordsOf, distanceOf, leastFrom, pathFrom, Ready, Table, Pick, Filled, aheadOf}
+use Rattle.passes.specs.inner.Loops.{Behind, rankFrom, BlockTable, RootAt}
+use Rattle.passes.proofs.OneSection.{bounded-by, rootOf, root-at}
+use Rattle.paths.proofs.Ordered.{run-ordered}
 
 -- ---- the chain
 
@@ -84,7 +86,7 @@ module _ {sections starts indices received erased : List ℕ} (R : Ready section
 
   -- block b as the code takes it: i is its section index
   pub record BlockAt (b i : ℕ) : Type 0 where
-    pub index-lt : i < 17
+    pub index-lt : i < suc mostSections
     pub inside : getD starts i 0 ≤ length sections
     pub part-is : partAt i ≡ part b
     pub good : Good (partAt i)
@@ -101,16 +103,16 @@ module _ {sections starts indices received erased : List ℕ} (R : Ready section
       record { index-lt = omega arith; inside = omega arith; part-is = p; good = subst Good (sym p) (R .good b h) }
 
   -- what the table has is what is left to pay
-  pub ahead-is : {end b : ℕ} {costs : List ℕ} → Table sections starts indices received erased end b costs → b ≤ length indices → (s : ℕ) → s < 64
+  pub ahead-is : {end b : ℕ} {costs : List ℕ} → Table sections starts indices received erased end b costs → b ≤ length indices → (s : ℕ) → s < mostStates
       → aheadOf costs (length indices) end b s ≡ leastAhead end (length indices - b) b s
   unfolding leastFrom aheadOf chainLeast least
   ahead-is {end} {b} {costs} D h s k = go (decLt b (length indices))
     where
       go : Dec (b < length indices) → aheadOf costs (length indices) end b s ≡ leastAhead end (length indices - b) b s
-      go (yes l) = ap (λ c. cond c (getD costs (64 * b + s) 0) (cond (eqb s end) 0 top)) (lt-ltb b (length indices) l) ∙ D .at b s (omega arith) l k
+      go (yes l) = ap (λ c. cond c (getD costs (costsABlock * b + s) 0) (cond (eqb s end) 0 top)) (lt-ltb b (length indices) l) ∙ D .at b s (omega arith) l k
       go (no l) =
           let e : length indices - b ≡ 0 = omega arith in
-          ap (λ c. cond c (getD costs (64 * b + s) 0) (cond (eqb s end) 0 top)) (le-ltb b (length indices) (omega arith))
+          ap (λ c. cond c (getD costs (costsABlock * b + s) 0) (cond (eqb s end) 0 top)) (le-ltb b (length indices) (omega arith))
           ∙ sym (ap (λ j. leastAhead end j b s) e)
 
   pub behind-is : {end b : ℕ} {costs : List ℕ} → Table sections starts indices received erased end (suc b) costs → b < length indices
@@ -119,7 +121,7 @@ module _ {sections starts indices received erased : List ℕ} (R : Ready section
 
   -- ---- backward
 
-  pub fill-start : {end : ℕ} {costs picks : List ℕ} → length picks ≡ 16384 → Filled sections starts indices received erased end (length indices) costs costs picks
+  pub fill-start : {end : ℕ} {costs picks : List ℕ} → length picks ≡ (costsABlock * mostBlocks) → Filled sections starts indices received erased end (length indices) costs costs picks
   fill-start l = record {
     b-le = omega arith;
     long = refl;
@@ -134,7 +136,7 @@ module _ {sections starts indices received erased : List ℕ} (R : Ready section
       → leastAhead end (suc (length indices - suc b)) b s < top → Pick sections starts indices received erased end b s pick
   unfolding pathFrom wordOf
   pick-root {end} {b} {v} {s} {pick} h y e p o = record {
-    goalBelow = subst (λ x. x < 64) (sym goal-is) (K .goal-lt);
+    goalBelow = subst (λ x. x < mostStates) (sym goal-is) (K .goal-lt);
     path =
         ap (λ j. onward j b s) left ∙ traced ∙ ap₂ (λ w g. w ∷ onward (length indices - suc b) (suc b) g) same (sym goal-is);
   }
@@ -196,58 +198,58 @@ module _ {sections starts indices received erased : List ℕ} (R : Ready section
       D : BlockTable (part b) (getD received b 0) (getD erased b 0) (length indices) end b mid new midPicks picks
       D = subst (λ l. BlockTable l (getD received b 0) (getD erased b 0) (length indices) end b mid new midPicks picks) (A .part-is) B
 
-      at-root : (s v : ℕ) → v < vertexCountOf (part b) 0 → rootState (part b) v ≡ s → getD new (64 * b + s) 0 ≡ leastAhead end (suc left) b s
+      at-root : (s v : ℕ) → v < vertexCountOf (part b) 0 → rootState (part b) v ≡ s → getD new (costsABlock * b + s) 0 ≡ leastAhead end (suc left) b s
       at-root s v y e =
-          subst (λ x. getD new (64 * b + x) 0 ≡ leastAhead end (suc left) b x) e
+          subst (λ x. getD new (costsABlock * b + x) 0 ≡ leastAhead end (suc left) b x) e
           (D .root (leastAhead end left (suc b)) (behind-is (I .table) inside) v y
           ∙ ranked-cost (uses b inside) (rankable b inside) (leastAhead end left (suc b)) (least-top end left (suc b)) v
           ∙ sym (least-root (uses b inside) (endsIn end) top left v (root-listed b v y)))
 
-      here : (s : ℕ) → s < 64 → getD new (64 * b + s) 0 ≡ leastAhead end (suc left) b s
+      here : (s : ℕ) → s < mostStates → getD new (costsABlock * b + s) 0 ≡ leastAhead end (suc left) b s
       here s k = go (root-at (part b) s) (decLt (rootOf (part b) s) (vertexCountOf (part b) 0))
         where
           go : RootAt (part b) s (rootOf (part b) s) → Dec (rootOf (part b) s < vertexCountOf (part b) 0)
-              → getD new (64 * b + s) 0 ≡ leastAhead end (suc left) b s
+              → getD new (costsABlock * b + s) 0 ≡ leastAhead end (suc left) b s
           go F (yes y) = at-root s (rootOf (part b) s) y (F .is y)
           go F (no y) =
               D .none s k (F .none (omega arith))
               ∙ sym (least-else (uses b inside) (endsIn end) top left s (none-listed b s (F .none (omega arith))))
 
-      at : (d s : ℕ) → b ≤ d → d < length indices → s < 64 → getD new (64 * d + s) 0 ≡ leastAhead end (length indices - d) d s
+      at : (d s : ℕ) → b ≤ d → d < length indices → s < mostStates → getD new (costsABlock * d + s) 0 ≡ leastAhead end (length indices - d) d s
       at d s a f k = go (ℕ-discrete d b)
         where
-          go : Dec (d ≡ b) → getD new (64 * d + s) 0 ≡ leastAhead end (length indices - d) d s
+          go : Dec (d ≡ b) → getD new (costsABlock * d + s) 0 ≡ leastAhead end (length indices - d) d s
           go (yes e) =
               let j : suc (length indices - suc b) ≡ length indices - b = omega arith in
-              subst (λ x. getD new (64 * x + s) 0 ≡ leastAhead end (length indices - x) x s) (sym e) (here s k ∙ ap (λ n. leastAhead end n b s) j)
-          go (no e) = D .kept (64 * d + s) (inr (omega arith)) ∙ I .table .at d s (omega arith) f k
+              subst (λ x. getD new (costsABlock * x + s) 0 ≡ leastAhead end (length indices - x) x s) (sym e) (here s k ∙ ap (λ n. leastAhead end n b s) j)
+          go (no e) = D .kept (costsABlock * d + s) (inr (omega arith)) ∙ I .table .at d s (omega arith) f k
 
-      kept : (i : ℕ) → 64 * length indices ≤ i → getD new i 0 ≡ getD old i 0
+      kept : (i : ℕ) → costsABlock * length indices ≤ i → getD new i 0 ≡ getD old i 0
       kept i f = D .kept i (inr (omega (arith, inside))) ∙ I .kept i f
 
-      pick-here : (s : ℕ) → leastAhead end (suc left) b s < top → Pick sections starts indices received erased end b s (getD picks (64 * b + s) 0)
+      pick-here : (s : ℕ) → leastAhead end (suc left) b s < top → Pick sections starts indices received erased end b s (getD picks (costsABlock * b + s) 0)
       pick-here s o = go (root-at (part b) s) (decLt (rootOf (part b) s) (vertexCountOf (part b) 0))
         where
           go : RootAt (part b) s (rootOf (part b) s) → Dec (rootOf (part b) s < vertexCountOf (part b) 0)
-              → Pick sections starts indices received erased end b s (getD picks (64 * b + s) 0)
+              → Pick sections starts indices received erased end b s (getD picks (costsABlock * b + s) 0)
           go F (yes y) =
               pick-root inside y (F .is y)
-              (ap (λ x. getD picks (64 * b + x) 0) (sym (F .is y)) ∙ D .pick (leastAhead end left (suc b)) (behind-is (I .table) inside) (rootOf (part b) s) y) o
+              (ap (λ x. getD picks (costsABlock * b + x) 0) (sym (F .is y)) ∙ D .pick (leastAhead end left (suc b)) (behind-is (I .table) inside) (rootOf (part b) s) y) o
           go F (no y) =
               let e = least-else (uses b inside) (endsIn end) top left s (none-listed b s (F .none (omega arith))) in
               absurd (omega arith)
 
-      pick-at : (d s : ℕ) → b ≤ d → d < length indices → s < 64 → leastAhead end (length indices - d) d s < top
-          → Pick sections starts indices received erased end d s (getD picks (64 * d + s) 0)
+      pick-at : (d s : ℕ) → b ≤ d → d < length indices → s < mostStates → leastAhead end (length indices - d) d s < top
+          → Pick sections starts indices received erased end d s (getD picks (costsABlock * d + s) 0)
       pick-at d s a f k o = go (ℕ-discrete d b)
         where
-          go : Dec (d ≡ b) → Pick sections starts indices received erased end d s (getD picks (64 * d + s) 0)
+          go : Dec (d ≡ b) → Pick sections starts indices received erased end d s (getD picks (costsABlock * d + s) 0)
           go (yes e) =
               let j : length indices - d ≡ suc (length indices - suc b) = omega arith in
-              subst (λ x. Pick sections starts indices received erased end x s (getD picks (64 * x + s) 0)) (sym e)
+              subst (λ x. Pick sections starts indices received erased end x s (getD picks (costsABlock * x + s) 0)) (sym e)
               (pick-here s (subst (λ n. leastAhead end n b s < top) j (subst (λ x. leastAhead end (length indices - d) x s < top) e o)))
           go (no e) =
-              subst (Pick sections starts indices received erased end d s) (sym (D .keptPick (64 * d + s) (inr (omega arith))))
+              subst (Pick sections starts indices received erased end d s) (sym (D .keptPick (costsABlock * d + s) (inr (omega arith))))
               (I .picked .at d s (omega arith) f k o)
 
   pub fill-more : {end b i : ℕ} {old mid new midPicks picks : List ℕ} → Filled sections starts indices received erased end b old mid midPicks → 0 < b

@@ -10,28 +10,29 @@ use lib.Dec.{eqb, ltb}
 use lib.ListN.{length, getD, set, length-set}
 use lib.Seq.{getD-set-same, getD-set-other}
 use borrow.Author.Tests.{lt-ltb, le-ltb, eq-eqb, ne-eqb}
+use Rattle.trellis.specs.Bounds.{mostStates, mostWords, costsABlock}
 use Rattle.trellis.specs.Layout.{nOf, vertexCountOf, goalState, stepEdges}
-use Rattle.paths.specs.Sections.{sectionLeast}
+use Rattle.paths.specs.inner.Sections.{sectionLeast}
 use Rattle.paths.proofs.Sections.{least-last}
-use Rattle.paths.specs.Ranked.{ranked, topRank, rankedRest}
-use Rattle.sweep.specs.Rows.{Placed, Rows, Swept}
-use Rattle.passes.specs.Blocks.{top, Good, aheadOf}
-use Rattle.passes.specs.Loops.{Behind, InGoals, RowsOver}
+use Rattle.paths.specs.inner.Ranked.{ranked, topRank, rankedRest}
+use Rattle.sweep.specs.inner.Rows.{Placed, Rows, Swept}
+use Rattle.passes.specs.inner.Blocks.{top, Good, aheadOf}
+use Rattle.passes.specs.inner.Loops.{Behind, InGoals, RowsOver}
 
 -- ---- what is left to pay
 
 module _ (costs : List ℕ) (blocks end b s : ℕ) where
-  pub ahead-in : b < blocks → getD costs (64 * b + s) 0 ≡ aheadOf costs blocks end b s
+  pub ahead-in : b < blocks → getD costs (costsABlock * b + s) 0 ≡ aheadOf costs blocks end b s
   unfolding aheadOf
-  ahead-in h = sym (ap (λ c. cond c (getD costs (64 * b + s) 0) (cond (eqb s end) 0 top)) (lt-ltb b blocks h))
+  ahead-in h = sym (ap (λ c. cond c (getD costs (costsABlock * b + s) 0) (cond (eqb s end) 0 top)) (lt-ltb b blocks h))
 
   pub ahead-end : blocks ≤ b → s ≡ end → 0 ≡ aheadOf costs blocks end b s
   unfolding aheadOf
-  ahead-end h e = sym (ap (λ c. cond c (getD costs (64 * b + s) 0) (cond (eqb s end) 0 top)) (le-ltb b blocks h) ∙ ap (λ c. cond c 0 top) (eq-eqb s end e))
+  ahead-end h e = sym (ap (λ c. cond c (getD costs (costsABlock * b + s) 0) (cond (eqb s end) 0 top)) (le-ltb b blocks h) ∙ ap (λ c. cond c 0 top) (eq-eqb s end e))
 
   pub ahead-off : blocks ≤ b → (s ≡ end → ⊥) → top ≡ aheadOf costs blocks end b s
   unfolding aheadOf
-  ahead-off h e = sym (ap (λ c. cond c (getD costs (64 * b + s) 0) (cond (eqb s end) 0 top)) (le-ltb b blocks h) ∙ ap (λ c. cond c 0 top) (ne-eqb s end e))
+  ahead-off h e = sym (ap (λ c. cond c (getD costs (costsABlock * b + s) 0) (cond (eqb s end) 0 top)) (le-ltb b blocks h) ∙ ap (λ c. cond c 0 top) (ne-eqb s end e))
 
 -- ranked by the state
 module _ (rest : ℕ → ℕ) (s : ℕ) {cost : ℕ} (is : cost ≡ rest s) where
@@ -48,11 +49,11 @@ module _ (rest : ℕ → ℕ) (s : ℕ) {cost : ℕ} (is : cost ≡ rest s) wher
 -- goal g stands in the list, its state is small, and there is a place for it in row n
 pub record GoalAt (l : List ℕ) (goals g : ℕ) : Type 0 where
   pub below : g < vertexCountOf l (nOf l)
-  pub g-lt : g < 1024
+  pub g-lt : g < mostWords
   pub inside : goals + g < length l
   pub is : getD l (goals + g) 0 ≡ goalState l g
-  pub small : getD l (goals + g) 0 < 64
-  pub place : 1024 * nOf l + g < 9216
+  pub small : getD l (goals + g) 0 < mostStates
+  pub place : mostWords * nOf l + g < 9216
 
 pub goal-at : {l : List ℕ} {n roots goals pairs symbols edges g : ℕ} → Good l → Placed l n roots goals pairs symbols edges → g < vertexCountOf l (nOf l)
     → GoalAt l goals g
@@ -85,22 +86,22 @@ pub goals-start : {l costs rows : List ℕ} {blocks end b : ℕ} → length rows
 goals-start h = record { g-le = omega arith; long = h; at = λ u k. absurd (not-suc-le-zero k) }
 
 pub goals-more : {l costs rows : List ℕ} {blocks end b n goals g s x : ℕ} → Good l → n ≡ nOf l → InGoals l costs blocks end b rows g → GoalAt l goals g
-    → s ≡ getD l (goals + g) 0 → x ≡ rankedRest (aheadOf costs blocks end b) s → InGoals l costs blocks end b (set rows (1024 * n + g) x) (g + 1)
+    → s ≡ getD l (goals + g) 0 → x ≡ rankedRest (aheadOf costs blocks end b) s → InGoals l costs blocks end b (set rows (mostWords * n + g) x) (g + 1)
 goals-more {l} {costs} {rows} {blocks} {end} {b} {n} {goals} {g} {s} {x} G e I R p q =
     record { g-le = omega (arith, R .below); long = simp length-set (I .long); at = at }
   where
-    place : 1024 * n + g < length rows
+    place : mostWords * n + g < length rows
     place = omega (arith, I .long, R .place)
 
-    at : (h : ℕ) → h < g + 1 → getD (set rows (1024 * n + g) x) (1024 * nOf l + h) 0 ≡ rankedRest (aheadOf costs blocks end b) (goalState l h)
+    at : (h : ℕ) → h < g + 1 → getD (set rows (mostWords * n + g) x) (mostWords * nOf l + h) 0 ≡ rankedRest (aheadOf costs blocks end b) (goalState l h)
     at h k = go (ℕ-discrete h g)
       where
-        go : Dec (h ≡ g) → getD (set rows (1024 * n + g) x) (1024 * nOf l + h) 0 ≡ rankedRest (aheadOf costs blocks end b) (goalState l h)
+        go : Dec (h ≡ g) → getD (set rows (mostWords * n + g) x) (mostWords * nOf l + h) 0 ≡ rankedRest (aheadOf costs blocks end b) (goalState l h)
         go (yes z) =
-            let a : 1024 * nOf l + h ≡ 1024 * n + g = omega arith in
-            ap (λ j. getD (set rows (1024 * n + g) x) j 0) a ∙ getD-set-same rows (1024 * n + g) x 0 place ∙ q
+            let a : mostWords * nOf l + h ≡ mostWords * n + g = omega arith in
+            ap (λ j. getD (set rows (mostWords * n + g) x) j 0) a ∙ getD-set-same rows (mostWords * n + g) x 0 place ∙ q
             ∙ ap (rankedRest (aheadOf costs blocks end b)) (p ∙ R .is ∙ ap (goalState l) (sym z))
-        go (no z) = getD-set-other rows (1024 * n + g) (1024 * nOf l + h) x 0 (λ w. z (omega arith)) ∙ I .at h (omega arith)
+        go (no z) = getD-set-other rows (mostWords * n + g) (mostWords * nOf l + h) x 0 (λ w. z (omega arith)) ∙ I .at h (omega arith)
 
 pub goals-end : {l costs rows : List ℕ} {blocks end b n count g : ℕ} → InGoals l costs blocks end b rows g → n ≡ nOf l → count ≡ getD l (3 + n) 0 → count ≤ g
     → InGoals l costs blocks end b rows (vertexCountOf l (nOf l))
@@ -127,13 +128,13 @@ rows-over {l} {prices} {costs} {mid} {new} {blocks} {end} {b} I S =
     last cost rest B = record { at = at }
       where
         at : (u v : ℕ) → nOf l ≤ u → u ≤ nOf l → v < vertexCountOf l u
-            → getD mid (1024 * u + v) 0 ≡ sectionLeast (stepEdges l) cost topRank (λ g. rankedRest rest (goalState l g)) (nOf l - u) u v
+            → getD mid (mostWords * u + v) 0 ≡ sectionLeast (stepEdges l) cost topRank (λ g. rankedRest rest (goalState l g)) (nOf l - u) u v
         at u v a c h =
             let e : nOf l ≡ u = le-antisymm a c in
-            subst (λ w. v < vertexCountOf l w → getD mid (1024 * w + v) 0 ≡ sectionLeast (stepEdges l) cost topRank (λ g. rankedRest rest (goalState l g)) (nOf l - w) w v) e here h
+            subst (λ w. v < vertexCountOf l w → getD mid (mostWords * w + v) 0 ≡ sectionLeast (stepEdges l) cost topRank (λ g. rankedRest rest (goalState l g)) (nOf l - w) w v) e here h
           where
             here : v < vertexCountOf l (nOf l)
-                → getD mid (1024 * nOf l + v) 0 ≡ sectionLeast (stepEdges l) cost topRank (λ g. rankedRest rest (goalState l g)) (nOf l - nOf l) (nOf l) v
+                → getD mid (mostWords * nOf l + v) 0 ≡ sectionLeast (stepEdges l) cost topRank (λ g. rankedRest rest (goalState l g)) (nOf l - nOf l) (nOf l) v
             here k =
                 let z : nOf l - nOf l ≡ 0 = omega arith in
                 I .at v k ∙ alike rest B v k

@@ -11,12 +11,13 @@ use native.Mathlib.Omega.{arith}
 use lib.Dec.{eqb}
 use lib.ListN.{length, getD, drop, set, length-set}
 use lib.Seq.{getD-set-same, getD-set-other, getD-drop, drop-drop}
+use Rattle.trellis.specs.Bounds.{mostStates, mostSymbols, costsABlock}
 use Rattle.trellis.specs.Word.{Word, word, wordAt}
 use Rattle.trellis.specs.Layout.{nOf}
-use Rattle.paths.specs.Costs.{least}
+use Rattle.paths.specs.inner.Costs.{least}
 use Rattle.paths.specs.Chain.{chainLeast}
-use Rattle.passes.specs.Blocks.{top, sectionOf, leastFrom, pathFrom, Ready, Pick, Picked, Written}
-use Rattle.passes.specs.Loops.{InWords, Named}
+use Rattle.passes.specs.inner.Blocks.{top, sectionOf, leastFrom, pathFrom, Ready, Pick, Picked, Written}
+use Rattle.passes.specs.inner.Loops.{InWords, Named}
 use Rattle.block.specs.Received.{blockDistance}
 use Rattle.passes.proofs.Chains.{leastAhead, partAt, BlockAt}
 use Rattle.passes.proofs.Onward.{pick-drop}
@@ -25,7 +26,7 @@ module _ {sections starts indices received erased : List ℕ} (R : Ready section
   abbrev whole : ℕ → ℕ → List Word
   whole end start = pathFrom sections starts indices received erased end 0 start
 
-  pub words-start : {end start : ℕ} {labels goals : List ℕ} → start < 64 → leastFrom sections starts indices received erased end 0 start < top
+  pub words-start : {end start : ℕ} {labels goals : List ℕ} → start < mostStates → leastFrom sections starts indices received erased end 0 start < top
       → InWords sections starts indices received erased end start labels labels goals goals 0 start 0
   words-start h k = record {
     written = record {
@@ -47,8 +48,8 @@ module _ {sections starts indices received erased : List ℕ} (R : Ready section
   pub words-more : {end start b s i n total pick label goal distance t : ℕ} {picks labels newLabels goals newGoals : List ℕ}
       → Picked sections starts indices received erased end 0 picks → InWords sections starts indices received erased end start labels newLabels goals newGoals b s total
       → b < length indices → length indices ≤ length labels → length indices ≤ length goals → BlockAt R b i → n ≡ getD (partAt R i) 1 0
-      → pick ≡ getD picks (64 * b + s) 0 → label ≡ pick / 65536 → goal ≡ pick % 65536
-      → (distance ≡ blockDistance n (getD received b 0) (getD erased b 0) label) × (distance ≤ 8) → t ≡ goal
+      → pick ≡ getD picks (costsABlock * b + s) 0 → label ≡ pick / 65536 → goal ≡ pick % 65536
+      → (distance ≡ blockDistance n (getD received b 0) (getD erased b 0) label) × (distance ≤ mostSymbols) → t ≡ goal
       → InWords sections starts indices received erased end start labels (set newLabels b label) goals (set newGoals b goal) (b + 1) t (total + distance)
   words-more {end} {start} {b} {s} {i = i} {n} {total} {pick} {label} {goal} {distance} {picks = picks} {labels} {newLabels} {goals} {newGoals} C I h x y A n-is p l g d e =
       subst (λ u. InWords sections starts indices received erased end start labels (set newLabels b label) goals (set newGoals b goal) (b + 1) u (total + distance)) (sym e)
@@ -63,7 +64,7 @@ module _ {sections starts indices received erased : List ℕ} (R : Ready section
           labelsKept = λ i k. getD-set-other newLabels b i label 0 (λ j. absurd (omega arith)) ∙ Z .labelsKept i (omega arith);
           goalsKept = λ i k. getD-set-other newGoals b i goal 0 (λ j. absurd (omega arith)) ∙ Z .goalsKept i (omega arith);
         };
-        state = subst (λ u. u < 64) (sym goal-is) (K .goalBelow);
+        state = subst (λ u. u < mostStates) (sym goal-is) (K .goalBelow);
         few = let f = I .few in let w = d .1 in omega arith;
         rest = rest;
         onward = let f = drop-is in let o = I .onward in omega arith;
@@ -72,25 +73,25 @@ module _ {sections starts indices received erased : List ℕ} (R : Ready section
     where
       -- what was picked
       chosen : Word
-      chosen = word s (getD picks (64 * b + s) 0 / 65536) (getD picks (64 * b + s) 0 % 65536)
+      chosen = word s (getD picks (costsABlock * b + s) 0 / 65536) (getD picks (costsABlock * b + s) 0 % 65536)
 
-      K : Pick sections starts indices received erased end b s (getD picks (64 * b + s) 0)
+      K : Pick sections starts indices received erased end b s (getD picks (costsABlock * b + s) 0)
       K = C .at b s (omega arith) h (I .state) (I .onward)
 
-      label-is : label ≡ getD picks (64 * b + s) 0 / 65536
+      label-is : label ≡ getD picks (costsABlock * b + s) 0 / 65536
       label-is = l ∙ ap (λ k. k / 65536) p
 
-      goal-is : goal ≡ getD picks (64 * b + s) 0 % 65536
+      goal-is : goal ≡ getD picks (costsABlock * b + s) 0 % 65536
       goal-is = g ∙ ap (λ k. k % 65536) p
 
       drop-is : leastFrom sections starts indices received erased end b s ≡ distance + leastFrom sections starts indices received erased end (suc b) goal
       drop-is =
           let c = pick-drop R h (I .onward) K in
           let m : n ≡ nOf (sectionOf sections starts indices received erased b) = n-is ∙ ap (λ q. getD q 1 0) (A .part-is) in
-          let u : distance ≡ blockDistance (nOf (sectionOf sections starts indices received erased b)) (getD received b 0) (getD erased b 0) (getD picks (64 * b + s) 0 / 65536)
+          let u : distance ≡ blockDistance (nOf (sectionOf sections starts indices received erased b)) (getD received b 0) (getD erased b 0) (getD picks (costsABlock * b + s) 0 / 65536)
           = d .0 ∙ ap (λ k. blockDistance k (getD received b 0) (getD erased b 0) label) m
           ∙ ap (blockDistance (nOf (sectionOf sections starts indices received erased b)) (getD received b 0) (getD erased b 0)) label-is in
-          let w : leastFrom sections starts indices received erased end (suc b) goal ≡ leastFrom sections starts indices received erased end (suc b) (getD picks (64 * b + s) 0 % 65536)
+          let w : leastFrom sections starts indices received erased end (suc b) goal ≡ leastFrom sections starts indices received erased end (suc b) (getD picks (costsABlock * b + s) 0 % 65536)
           = ap (leastFrom sections starts indices received erased end (suc b)) goal-is in
           omega arith
 
@@ -139,5 +140,5 @@ module _ {sections starts indices received erased : List ℕ} (R : Ready section
   -- what is read from the picks
   pub pick-small : {end start b s total : ℕ} {picks labels newLabels goals newGoals : List ℕ} → Picked sections starts indices received erased end 0 picks
       → InWords sections starts indices received erased end start labels newLabels goals newGoals b s total → b < length indices
-      → getD picks (64 * b + s) 0 % 65536 < 64
+      → getD picks (costsABlock * b + s) 0 % 65536 < mostStates
   pick-small {b = b} {s} C I h = C .at b s (omega arith) h (I .state) (I .onward) .goalBelow

@@ -1,25 +1,17 @@
 -- One section as the theory of paths takes it: its edges keep the bounds, numbers in a run stand in order, and a state has at most one root.
 use mathlib.Core.Path.{_≡_, sym, subst}
 use mathlib.Core.List.{List}
-use Prim.Native.Nat.{ℕ, zero, suc, _+_, _<_}
+use Prim.Native.Nat.{ℕ, suc, _+_, _<_}
 use native.Mathlib.Omega.{arith}
 use lib.Dec.{T, eqb, eqb→eq, eqb-refl}
-use Rattle.trellis.specs.Lists.{_∈_, run, first}
+use Rattle.trellis.specs.Lists.{_∈_, first}
 use Rattle.trellis.specs.Own.{Edge}
 use Rattle.trellis.specs.Layout.{nOf, vertexCountOf, edgeCountOf, edgesBefore, rootState, edgeNumber, stepEdges}
 use Rattle.trellis.proofs.Lists.{of-run, First, first-ok}
-use Rattle.paths.proofs.Ordered.{Ordered, ended, leads}
 use Rattle.paths.proofs.Ascent.{Bounded}
-use Rattle.sweep.specs.Rows.{Fits}
-use Rattle.sweep.proofs.Edges.{before-more, before-le}
-use Rattle.passes.specs.Loops.{RootAt}
-
-pub run-ordered : {A : Type 0} {R : A → A → Type 0} (f : ℕ → A) (at count : ℕ) → ((j k : ℕ) → j < k → k < at + count → R (f j) (f k)) → Ordered R (run f at count)
-unfolding run
-run-ordered f at zero h = ended
-run-ordered {A} {R} f at (suc count) h =
-    leads (λ y m. let F = of-run f (suc at) count y m in subst (R (f at)) (sym (F .is)) (h at (suc at + F .at) (omega arith) (omega (arith, F .below))))
-    (run-ordered f (suc at) count (λ j k a b. h j k a (omega arith)))
+use Rattle.sweep.specs.inner.Rows.{Fits}
+use Rattle.trellis.proofs.Laid.{before-more, before-le}
+use Rattle.passes.specs.inner.Loops.{RootAt}
 
 pub bounded-by : {l : List ℕ} → Fits l → Bounded (stepEdges l) (nOf l) (vertexCountOf l (nOf l))
 unfolding stepEdges

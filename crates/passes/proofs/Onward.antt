@@ -10,8 +10,9 @@ use Rattle.trellis.specs.Layout.{nOf}
 use Rattle.paths.specs.Choice.{some}
 use Rattle.paths.specs.Chain.{costTable, chainTrace}
 use Rattle.paths.proofs.Chain.{cost-table, best-traced, drops}
-use Rattle.block.specs.Received.{blockDistance, Clean}
-use Rattle.passes.specs.Blocks.{top, endsIn, sectionOf, wordsOf, distanceOf, leastFrom, pathFrom, Ready, Pick}
+use Rattle.block.specs.Received.{blockDistance}
+use Rattle.block.specs.inner.Prices.{Clean}
+use Rattle.passes.specs.inner.Blocks.{top, endsIn, sectionOf, wordsOf, distanceOf, leastFrom, pathFrom, Ready, Pick}
 use Rattle.passes.proofs.Chains.{leastAhead, partAt, BlockAt}
 
 module _ {sections starts indices received erased : List ℕ} (R : Ready sections starts indices received erased) where

@@ -9,45 +9,47 @@ use native.Mathlib.Numerals.{add-one}
 use native.Mathlib.Omega.{arith}
 use lib.ListN.{length, getD, set, length-set}
 use lib.Seq.{getD-set-same, getD-set-other}
+use Rattle.trellis.specs.Bounds.{mostStates, mostWords, costsABlock}
 use Rattle.trellis.specs.Layout.{nOf, vertexCountOf, rootState, goalState, stepEdges}
-use Rattle.paths.specs.Sections.{sectionLeast}
-use Rattle.paths.specs.Ranked.{topRank, rankedCost, rankedRest}
-use Rattle.sweep.specs.Rows.{Placed, Priced}
-use Rattle.block.specs.Received.{symbolCost, Prices}
-use Rattle.passes.specs.Blocks.{top, Good}
-use Rattle.passes.specs.Loops.{Behind, RowsOver, InNone, InRoots, rankFrom, BlockTable}
+use Rattle.paths.specs.inner.Sections.{sectionLeast}
+use Rattle.paths.specs.inner.Ranked.{topRank, rankedCost, rankedRest}
+use Rattle.sweep.specs.inner.Rows.{Placed, Priced}
+use Rattle.block.specs.Received.{symbolCost}
+use Rattle.block.specs.inner.Prices.{Prices}
+use Rattle.passes.specs.inner.Blocks.{top, Good}
+use Rattle.passes.specs.inner.Loops.{Behind, RowsOver, InNone, InRoots, rankFrom, BlockTable}
 
 -- ---- no path
 
 pub none-start : {b : ℕ} {costs : List ℕ} → InNone b costs costs 0
 none-start = record { s-le = omega arith; long = refl; none = λ u h. absurd (not-suc-le-zero h); kept = λ i h. refl }
 
-pub none-more : {b s : ℕ} {old new : List ℕ} → InNone b old new s → s < 64 → 64 * b + 64 ≤ length old → InNone b old (set new (64 * b + s) top) (s + 1)
+pub none-more : {b s : ℕ} {old new : List ℕ} → InNone b old new s → s < mostStates → costsABlock * b + costsABlock ≤ length old → InNone b old (set new (costsABlock * b + s) top) (s + 1)
 none-more {b} {s} {old} {new} I h room = record { s-le = omega arith; long = simp length-set (I .long); none = none; kept = kept }
   where
-    none : (u : ℕ) → u < s + 1 → getD (set new (64 * b + s) top) (64 * b + u) 0 ≡ top
+    none : (u : ℕ) → u < s + 1 → getD (set new (costsABlock * b + s) top) (costsABlock * b + u) 0 ≡ top
     none u k = go (ℕ-discrete u s)
       where
-        go : Dec (u ≡ s) → getD (set new (64 * b + s) top) (64 * b + u) 0 ≡ top
-        go (yes e) = subst (λ w. getD (set new (64 * b + s) top) (64 * b + w) 0 ≡ top) (sym e) (getD-set-same new (64 * b + s) top 0 (omega (arith, I .long)))
-        go (no e) = getD-set-other new (64 * b + s) (64 * b + u) top 0 (λ z. e (omega arith)) ∙ I .none u (omega arith)
+        go : Dec (u ≡ s) → getD (set new (costsABlock * b + s) top) (costsABlock * b + u) 0 ≡ top
+        go (yes e) = subst (λ w. getD (set new (costsABlock * b + s) top) (costsABlock * b + w) 0 ≡ top) (sym e) (getD-set-same new (costsABlock * b + s) top 0 (omega (arith, I .long)))
+        go (no e) = getD-set-other new (costsABlock * b + s) (costsABlock * b + u) top 0 (λ z. e (omega arith)) ∙ I .none u (omega arith)
 
-    kept : (i : ℕ) → (i < 64 * b) ⊎ (64 * b + 64 ≤ i) → getD (set new (64 * b + s) top) i 0 ≡ getD old i 0
-    kept i (inl k) = getD-set-other new (64 * b + s) i top 0 (λ z. absurd (omega arith)) ∙ I .kept i (inl k)
-    kept i (inr k) = getD-set-other new (64 * b + s) i top 0 (λ z. absurd (omega arith)) ∙ I .kept i (inr k)
+    kept : (i : ℕ) → (i < costsABlock * b) ⊎ (costsABlock * b + costsABlock ≤ i) → getD (set new (costsABlock * b + s) top) i 0 ≡ getD old i 0
+    kept i (inl k) = getD-set-other new (costsABlock * b + s) i top 0 (λ z. absurd (omega arith)) ∙ I .kept i (inl k)
+    kept i (inr k) = getD-set-other new (costsABlock * b + s) i top 0 (λ z. absurd (omega arith)) ∙ I .kept i (inr k)
 
-pub none-end : {b s : ℕ} {old new : List ℕ} → InNone b old new s → 64 ≤ s → InNone b old new 64
-none-end {b} {s} {old} {new} I h = let e : s ≡ 64 = le-antisymm (I .s-le) h in subst (InNone b old new) e I
+pub none-end : {b s : ℕ} {old new : List ℕ} → InNone b old new s → mostStates ≤ s → InNone b old new mostStates
+none-end {b} {s} {old} {new} I h = let e : s ≡ mostStates = le-antisymm (I .s-le) h in subst (InNone b old new) e I
 
 -- ---- roots
 
 -- root v stands in the list, and its state is small
 pub record RootIn (l : List ℕ) (roots v : ℕ) : Type 0 where
   pub below : v < vertexCountOf l 0
-  pub v-lt : v < 1024
+  pub v-lt : v < mostWords
   pub inside : roots + v < length l
   pub is : getD l (roots + v) 0 ≡ rootState l v
-  pub small : getD l (roots + v) 0 < 64
+  pub small : getD l (roots + v) 0 < mostStates
 
 -- a root below their number, as the number is read
 pub root-read : {l : List ℕ} {n roots goals pairs symbols edges count v : ℕ} → Good l → Placed l n roots goals pairs symbols edges
@@ -74,26 +76,26 @@ roots-start = record {
 
 -- one more place written by a root's state: the roots passed keep theirs, since no two roots are in one state
 module _ {l : List ℕ} (b : ℕ) {v s x : ℕ} (G : Good l) (is : s ≡ rootState l v) (below : v < vertexCountOf l 0) (f : ℕ → ℕ) (x-is : x ≡ f v) where
-  written : (new : List ℕ) → 64 * b + s < length new → ((u : ℕ) → u < v → getD new (64 * b + rootState l u) 0 ≡ f u)
-      → (u : ℕ) → u < v + 1 → getD (set new (64 * b + s) x) (64 * b + rootState l u) 0 ≡ f u
+  written : (new : List ℕ) → costsABlock * b + s < length new → ((u : ℕ) → u < v → getD new (costsABlock * b + rootState l u) 0 ≡ f u)
+      → (u : ℕ) → u < v + 1 → getD (set new (costsABlock * b + s) x) (costsABlock * b + rootState l u) 0 ≡ f u
   written new room before u k = go (ℕ-discrete u v)
     where
-      go : Dec (u ≡ v) → getD (set new (64 * b + s) x) (64 * b + rootState l u) 0 ≡ f u
+      go : Dec (u ≡ v) → getD (set new (costsABlock * b + s) x) (costsABlock * b + rootState l u) 0 ≡ f u
       go (yes e) =
           let a : rootState l u ≡ s = ap (rootState l) e ∙ sym is in
-          ap (λ j. getD (set new (64 * b + s) x) (64 * b + j) 0) a ∙ getD-set-same new (64 * b + s) x 0 room ∙ x-is ∙ ap f (sym e)
+          ap (λ j. getD (set new (costsABlock * b + s) x) (costsABlock * b + j) 0) a ∙ getD-set-same new (costsABlock * b + s) x 0 room ∙ x-is ∙ ap f (sym e)
       go (no e) =
           let a = G .rootsAscend u v (omega arith) below in
-          getD-set-other new (64 * b + s) (64 * b + rootState l u) x 0 (λ z. absurd (omega (arith, is))) ∙ before u (omega arith)
+          getD-set-other new (costsABlock * b + s) (costsABlock * b + rootState l u) x 0 (λ z. absurd (omega (arith, is))) ∙ before u (omega arith)
 
-  elsewhere : (old new : List ℕ) → ((i : ℕ) → ((u : ℕ) → u < v → 64 * b + rootState l u ≡ i → ⊥) → getD new i 0 ≡ getD old i 0)
-      → (i : ℕ) → ((u : ℕ) → u < v + 1 → 64 * b + rootState l u ≡ i → ⊥) → getD (set new (64 * b + s) x) i 0 ≡ getD old i 0
+  elsewhere : (old new : List ℕ) → ((i : ℕ) → ((u : ℕ) → u < v → costsABlock * b + rootState l u ≡ i → ⊥) → getD new i 0 ≡ getD old i 0)
+      → (i : ℕ) → ((u : ℕ) → u < v + 1 → costsABlock * b + rootState l u ≡ i → ⊥) → getD (set new (costsABlock * b + s) x) i 0 ≡ getD old i 0
   elsewhere old new before i h =
-      getD-set-other new (64 * b + s) i x 0 (λ z. h v (omega arith) (sym (z ∙ ap (λ w. 64 * b + w) is))) ∙ before i (λ u k. h u (omega arith))
+      getD-set-other new (costsABlock * b + s) i x 0 (λ z. h v (omega arith) (sym (z ∙ ap (λ w. costsABlock * b + w) is))) ∙ before i (λ u k. h u (omega arith))
 
 pub roots-more : {l rows old new oldPicks picks : List ℕ} {roots b v s rank x y : ℕ} → Good l → InRoots l rows b old new oldPicks picks v → RootIn l roots v
-    → s ≡ getD l (roots + v) 0 → rank ≡ getD rows v 0 → x ≡ rank / 4294967296 → y ≡ rank % 4294967296 → 64 * b + 64 ≤ length old → 64 * b + 64 ≤ length oldPicks
-    → InRoots l rows b old (set new (64 * b + s) x) oldPicks (set picks (64 * b + s) y) (v + 1)
+    → s ≡ getD l (roots + v) 0 → rank ≡ getD rows v 0 → x ≡ rank / 4294967296 → y ≡ rank % 4294967296 → costsABlock * b + costsABlock ≤ length old → costsABlock * b + costsABlock ≤ length oldPicks
+    → InRoots l rows b old (set new (costsABlock * b + s) x) oldPicks (set picks (costsABlock * b + s) y) (v + 1)
 roots-more {l} {rows} {old} {new} {oldPicks} {picks} {b = b} {v} {s} {rank} {x} {y} G I R p r x-is y-is room roomPicks = record {
   v-le = omega (arith, R .below);
   long = simp length-set (I .long);
@@ -124,14 +126,14 @@ priced-by {l} {prices} {n} {received} {mask} e P =
     (λ f. record { at = f }) (λ t a h. P .at t a (omega arith))
 
 pub block-table : {l prices old mid new oldPicks picks rows : List ℕ} {n received mask blocks end b : ℕ} → Good l → n ≡ nOf l → Prices n received mask prices
-    → RowsOver l prices old blocks end (b + 1) rows → InNone b old mid 64 → InRoots l rows b mid new oldPicks picks (vertexCountOf l 0)
+    → RowsOver l prices old blocks end (b + 1) rows → InNone b old mid mostStates → InRoots l rows b mid new oldPicks picks (vertexCountOf l 0)
     → BlockTable l received mask blocks end b old new oldPicks picks
 block-table {l} {prices} {old} {mid} {new} {oldPicks} {picks} {rows} {n} {received} {mask} {blocks} {end} {b} G e P R N I = record {
   long = I .long ∙ N .long;
   picksLong = I .picksLong;
   root = λ rest B v h. I .root v h ∙ ap (λ k. k / 4294967296) (rank rest B v h);
   pick = λ rest B v h. I .pick v h ∙ ap (λ k. k % 4294967296) (rank rest B v h);
-  none = λ s k h. I .other (64 * b + s) (λ u c z. h u c (omega arith)) ∙ N .none s k;
+  none = λ s k h. I .other (costsABlock * b + s) (λ u c z. h u c (omega arith)) ∙ N .none s k;
   kept = λ i k. I .other i (λ u c z. out i k u c z (G .rootsBelow u c)) ∙ N .kept i k;
   keptPick = λ i k. I .otherPick i (λ u c z. out i k u c z (G .rootsBelow u c));
 }
@@ -139,10 +141,10 @@ block-table {l} {prices} {old} {mid} {new} {oldPicks} {picks} {rows} {n} {receiv
     rank : (rest : ℕ → ℕ) → Behind l old blocks end (suc b) rest → (v : ℕ) → v < vertexCountOf l 0 → getD rows v 0 ≡ rankFrom l received mask rest v
     rank rest B v h =
         let D = R .done (rankedCost (nOf l) (symbolCost (nOf l) received mask)) rest (priced-by e P) (rw (add-one b) B) in
-        let a : v ≡ 1024 * 0 + v = omega arith in
+        let a : v ≡ mostWords * 0 + v = omega arith in
         ap (λ j. getD rows j 0) a ∙ D .at 0 v (omega arith) (omega arith) h
         ∙ ap (λ k. sectionLeast (stepEdges l) (rankedCost (nOf l) (symbolCost (nOf l) received mask)) topRank (λ g. rankedRest rest (goalState l g)) k 0 v) (sub-zero (nOf l))
 
-    out : (i : ℕ) → (i < 64 * b) ⊎ (64 * b + 64 ≤ i) → (u : ℕ) → u < vertexCountOf l 0 → 64 * b + rootState l u ≡ i → rootState l u < 64 → ⊥
+    out : (i : ℕ) → (i < costsABlock * b) ⊎ (costsABlock * b + costsABlock ≤ i) → (u : ℕ) → u < vertexCountOf l 0 → costsABlock * b + rootState l u ≡ i → rootState l u < mostStates → ⊥
     out i (inl x) u c z w = omega arith
     out i (inr x) u c z w = omega arith

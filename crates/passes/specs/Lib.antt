@@ -1,3 +1,2 @@
 -- The two passes over the blocks of a chain, and what their loops keep.
-pub mod Blocks
-pub mod Loops
+pub mod inner

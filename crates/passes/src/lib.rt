@@ -3,11 +3,12 @@
 ghost use mathlib.Core.Path.{_≡_};
 ghost use Prim.Native.Nat.{_+_, _*_, _/_, _%_, _<_, _≤_};
 ghost use lib.ListN.{length};
+ghost use Rattle.trellis.specs.Bounds.{mostStates, mostBlocks, costsABlock};
 ghost use Rattle.trellis.specs.Layout.{nOf, vertexCountOf};
-ghost use Rattle.paths.specs.Ranked.{rankedRest};
-ghost use Rattle.sweep.specs.Rows.{Placed};
-ghost use Rattle.passes.specs.Blocks.{top, Good, Ready, Picked, Filled, aheadOf, leastFrom};
-ghost use Rattle.passes.specs.Loops.{InGoals, RowsOver, InNone, InRoots, BlockTable, Named};
+ghost use Rattle.paths.specs.inner.Ranked.{rankedRest};
+ghost use Rattle.sweep.specs.inner.Rows.{Placed};
+ghost use Rattle.passes.specs.inner.Blocks.{top, Good, Ready, Picked, Filled, aheadOf, leastFrom};
+ghost use Rattle.passes.specs.inner.Loops.{InGoals, RowsOver, InNone, InRoots, BlockTable, Named};
 use numbers::wide;
 use numbers::widened;
 use sweep::Places;
@@ -18,7 +19,7 @@ pub const NO_PATH: u32 = 4294967295;
 
 // What is left to pay from state s before block b; behind the last block, nothing in the end state.
 fn ahead(costs: &[u32], blocks: usize, end: usize, b: usize, s: usize) -> u32
-    requires { ⌜ (64 * blocks ≤ length (now costs)) × (blocks ≤ 256) × (s < 64) ⌝ }
+    requires { ⌜ (costsABlock * blocks ≤ length (now costs)) × (blocks ≤ mostBlocks) × (s < mostStates) ⌝ }
     ensures { λ r. ⌜ r ≡ aheadOf (now (costs .entry)) blocks end b s ⌝ }
 {
     if b < blocks {
@@ -29,7 +30,7 @@ fn ahead(costs: &[u32], blocks: usize, end: usize, b: usize, s: usize) -> u32
 
 // The same, ranked by the state.
 fn ranked_ahead(costs: &[u32], blocks: usize, end: usize, b: usize, s: usize) -> u64
-    requires { ⌜ (64 * blocks ≤ length (now costs)) × (blocks ≤ 256) × (s < 64) ⌝ }
+    requires { ⌜ (costsABlock * blocks ≤ length (now costs)) × (blocks ≤ mostBlocks) × (s < mostStates) ⌝ }
     ensures { λ r. ⌜ r ≡ rankedRest (aheadOf (now (costs .entry)) blocks end b) s ⌝ }
 {
     let cost = ahead(costs, blocks, end, b, s);
@@ -50,7 +51,7 @@ fn put_goals(
     rows: &mut [u64; 9216],
 )
     requires { ⌜ Good (now l) × Placed (now l) (at .n) (at .roots) (at .goals) (at .pairs) (at .symbols) (at .edges)
-        × (64 * blocks ≤ length (now costs)) × (blocks ≤ 256) × (length (now rows) ≡ 9216) ⌝ }
+        × (costsABlock * blocks ≤ length (now costs)) × (blocks ≤ mostBlocks) × (length (now rows) ≡ 9216) ⌝ }
     ensures { λ _. ⌜ InGoals (now (l .entry)) (now (costs .entry)) blocks end b (now (rows .exit)) (vertexCountOf (now (l .entry)) (nOf (now (l .entry)))) ⌝ }
 {
     let n = at.n;
@@ -75,7 +76,7 @@ fn fill_rows(
     rows: &mut [u64; 9216],
 )
     requires { ⌜ Good (now l) × Placed (now l) (at .n) (at .roots) (at .goals) (at .pairs) (at .symbols) (at .edges)
-        × (64 * blocks ≤ length (now costs)) × (blocks ≤ 256) × (length (now rows) ≡ 9216) ⌝ }
+        × (costsABlock * blocks ≤ length (now costs)) × (blocks ≤ mostBlocks) × (length (now rows) ≡ 9216) ⌝ }
     ensures { λ _. ⌜ RowsOver (now (l .entry)) (now (prices .entry)) (now (costs .entry)) blocks end b (now (rows .exit)) ⌝ }
 {
     put_goals(l, at, costs, blocks, end, b, rows);
@@ -84,8 +85,8 @@ fn fill_rows(
 
 // No path so far from any state before block b.
 fn put_none(b: usize, costs: &mut [u32])
-    requires { ⌜ (64 * b + 64 ≤ length (now costs)) × (b ≤ 256) ⌝ }
-    ensures { λ _. ⌜ InNone b (now (costs .entry)) (now (costs .exit)) 64 ⌝ }
+    requires { ⌜ (costsABlock * b + costsABlock ≤ length (now costs)) × (b ≤ mostBlocks) ⌝ }
+    ensures { λ _. ⌜ InNone b (now (costs .entry)) (now (costs .exit)) mostStates ⌝ }
 {
     let mut s: usize = 0;
     while s < 64 {
@@ -116,7 +117,7 @@ fn put_roots(
     picks: &mut [u32; 16384],
 )
     requires { ⌜ Good (now l) × Placed (now l) (at .n) (at .roots) (at .goals) (at .pairs) (at .symbols) (at .edges)
-        × (64 * b + 64 ≤ length (now costs)) × (b < 256) × (length (now picks) ≡ 16384) ⌝ }
+        × (costsABlock * b + costsABlock ≤ length (now costs)) × (b < mostBlocks) × (length (now picks) ≡ (costsABlock * mostBlocks)) ⌝ }
     ensures { λ _. ⌜ InRoots (now (l .entry)) (now (rows .entry)) b (now (costs .entry)) (now (costs .exit)) (now (picks .entry)) (now (picks .exit)) (vertexCountOf (now (l .entry)) 0) ⌝ }
 {
     let roots = at.roots;
@@ -143,7 +144,7 @@ fn table_block(
     costs: &mut [u32],
     picks: &mut [u32; 16384],
 )
-    requires { ⌜ Good (now l) × (64 * blocks ≤ length (now costs)) × (blocks ≤ 256) × (b < blocks) × (length (now rows) ≡ 9216) × (length (now picks) ≡ 16384) ⌝ }
+    requires { ⌜ Good (now l) × (costsABlock * blocks ≤ length (now costs)) × (blocks ≤ mostBlocks) × (b < blocks) × (length (now rows) ≡ 9216) × (length (now picks) ≡ (costsABlock * mostBlocks)) ⌝ }
     ensures { λ _. ⌜ BlockTable (now (l .entry)) received mask blocks end b (now (costs .entry)) (now (costs .exit)) (now (picks .entry)) (now (picks .exit))
         × (length (now (rows .exit)) ≡ 9216) ⌝ }
 {
@@ -164,7 +165,7 @@ pub fn fill_table(
     end: usize,
     costs: &mut [u32],
 ) -> [u32; 16384]
-    requires { ⌜ Ready (now sections) (now starts) (now indices) (now received) (now erased) × (64 * length (now indices) ≤ length (now costs)) ⌝ }
+    requires { ⌜ Ready (now sections) (now starts) (now indices) (now received) (now erased) × (costsABlock * length (now indices) ≤ length (now costs)) ⌝ }
     ensures { λ r. ⌜ Filled (now (sections .entry)) (now (starts .entry)) (now (indices .entry)) (now (received .entry)) (now (erased .entry)) end 0
         (now (costs .entry)) (now (costs .exit)) r ⌝ }
 {
@@ -199,7 +200,7 @@ fn label_of(pick: u32) -> u16
 }
 
 fn goal_of(pick: u32) -> u8
-    requires { ⌜ pick % 65536 < 64 ⌝ }
+    requires { ⌜ pick % 65536 < mostStates ⌝ }
     ensures { λ r. ⌜ r ≡ pick % 65536 ⌝ }
 {
     (pick % 65536) as u8
@@ -220,7 +221,7 @@ pub fn name_words(
 ) -> u32
     requires { ⌜ Ready (now sections) (now starts) (now indices) (now received) (now erased)
         × Picked (now sections) (now starts) (now indices) (now received) (now erased) end 0 (now picks)
-        × (length (now indices) ≤ length (now labels)) × (length (now indices) ≤ length (now goals)) × (start < 64)
+        × (length (now indices) ≤ length (now labels)) × (length (now indices) ≤ length (now goals)) × (start < mostStates)
         × (leastFrom (now sections) (now starts) (now indices) (now received) (now erased) end 0 start < top) ⌝ }
     ensures { λ r. ⌜ Named (now (sections .entry)) (now (starts .entry)) (now (indices .entry)) (now (received .entry)) (now (erased .entry)) end start
         (now (labels .entry)) (now (labels .exit)) (now (goals .entry)) (now (goals .exit)) r ⌝ }

@@ -11,7 +11,8 @@ use Rattle.trellis.specs.Own.{Edge, edgeLess}
 use Rattle.trellis.specs.Section.{Path, stop, along, leaving, pathsFrom, packOnto}
 use Rattle.trellis.proofs.Ascending.{Ascends}
 use Rattle.trellis.proofs.ThreeNumbers.{lower-yes}
-use Rattle.paths.proofs.Ordered.{Ordered, ended, leads, ordered-of, ordered-keep, ordered-as, ordered-map, ordered-flatMap, of-flatMap}
+use Rattle.paths.proofs.Ordered.{ordered-of, ordered-keep, ordered-as, ordered-map, ordered-flatMap, of-flatMap}
+use Rattle.paths.specs.inner.Ordered.{Ordered, ended, leads}
 use Rattle.paths.proofs.Sections.{from-of, listed-of}
 
 -- symbols compared from the first on, then the ends

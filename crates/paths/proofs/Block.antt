@@ -12,8 +12,8 @@ use Rattle.trellis.specs.Word.{Word}
 use Rattle.trellis.specs.Own.{Edge}
 use Rattle.trellis.specs.Section.{Path, pathsFrom}
 use Rattle.paths.specs.Choice.{Choice, none, some, chooseAll}
-use Rattle.paths.specs.Costs.{capped, plus, minAll, least, firstWith, next, orStop, trace}
-use Rattle.paths.specs.Sections.{costFrom, sectionLeast, sectionTrace}
+use Rattle.paths.specs.inner.Costs.{capped, plus, minAll, least, firstWith, next, orStop, trace}
+use Rattle.paths.specs.inner.Sections.{costFrom, sectionLeast, sectionTrace}
 use Rattle.paths.specs.Chain.{rootedAt, chainGraph, atEnd, chainLeast, chainTrace}
 use Rattle.paths.proofs.First.{all-chosen}
 use Rattle.paths.proofs.Capped.{capped-extend, capped-all, capped-had, min-same-in}

@@ -8,10 +8,10 @@ use Rattle.trellis.specs.Lists.{_∈_}
 use Rattle.trellis.specs.Word.{Word}
 use Rattle.trellis.specs.Own.{Edge}
 use Rattle.trellis.specs.Section.{Path, pathsFrom, wordOf, wordsOf}
-use Rattle.paths.specs.Costs.{plus, minAll, least}
-use Rattle.paths.specs.Sections.{costFrom, sectionLeast, sectionTrace}
+use Rattle.paths.specs.inner.Costs.{plus, minAll, least}
+use Rattle.paths.specs.inner.Sections.{costFrom, sectionLeast, sectionTrace}
 use Rattle.paths.specs.Chain.{rootedAt, chainLeast, chainTrace}
-use Rattle.paths.proofs.Ordered.{Ordered}
+use Rattle.paths.specs.inner.Ordered.{Ordered}
 use Rattle.paths.proofs.Words.{rooted-words, rooted-none}
 use Rattle.paths.proofs.Block.{Spells, least-block, trace-block}
 

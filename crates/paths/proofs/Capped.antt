@@ -8,8 +8,8 @@ use native.Mathlib.Omega.{arith}
 use native.Mathlib.Decide.{decLe}
 use Rattle.trellis.specs.Lists.{_∈_}
 use Rattle.paths.specs.Choice.{Choice, none, some, choose, extend, chooseAll}
-use Rattle.paths.specs.Graph.{Graph}
-use Rattle.paths.specs.Costs.{capped, plus, minAll, least}
+use Rattle.paths.specs.inner.Graph.{Graph}
+use Rattle.paths.specs.inner.Costs.{capped, plus, minAll, least}
 use Rattle.paths.proofs.Choose.{choose-left, choose-right}
 use Rattle.paths.proofs.First.{all-chosen}
 use Rattle.paths.proofs.Walk.{Prices, ahead}

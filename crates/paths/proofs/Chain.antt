@@ -7,8 +7,8 @@ use Prim.Native.Nat.{ℕ, zero, suc, _+_, _*_, _≤_, _<_}
 use native.Mathlib.Omega.{arith}
 use Rattle.trellis.specs.Word.{Word}
 use Rattle.paths.specs.Choice.{Choice, none, some, choose, extend, chooseAll, best}
-use Rattle.paths.specs.Graph.{paths}
-use Rattle.paths.specs.Costs.{capped}
+use Rattle.paths.specs.inner.Graph.{paths}
+use Rattle.paths.specs.inner.Costs.{capped}
 use Rattle.paths.specs.Chain.{chainGraph, chainPaths, pathDistance, bestPath, costTable, atEnd, chainLeast, chainTrace}
 use Rattle.paths.proofs.First.{best-none}
 use Rattle.paths.proofs.Walk.{Prices, ahead, ahead-best}

@@ -4,18 +4,15 @@ use mathlib.Core.Path.{_≡_, refl, sym, ap, subst, _∙_}
 use mathlib.Core.Bool.{Bool, true, false, cond}
 use mathlib.Core.Logic.{_⊎_, inl, inr, ⊎-elim}
 use mathlib.Core.List.{List, [], _∷_, _++_, map, flatMap, List·Memᴰ, List·Memᴰ·head, List·Memᴰ·tail, List·Memᴰ·not-nil, List·Memᴰ·cases-cons, List·Memᴰ·append-cases, Memᴰ·append-left, Memᴰ·append-right, Memᴰ·of-map}
-use Prim.Native.Nat.{ℕ, _≤_}
+use Prim.Native.Nat.{ℕ, zero, suc, _+_, _≤_, _<_}
 use native.Mathlib.Omega.{arith}
 use lib.Dec.{T}
-use Rattle.trellis.specs.Lists.{_∈_, keep}
+use Rattle.trellis.specs.Lists.{_∈_, keep, run}
 use Rattle.trellis.proofs.Ascending.{Ascends}
+use Rattle.trellis.proofs.Lists.{of-run}
+use Rattle.paths.specs.inner.Ordered.{Ordered, ended, leads}
 use Rattle.paths.specs.Choice.{Choice, some}
 use Rattle.paths.proofs.First.{Chosen, First, first-chosen}
-
--- each member is before every later one
-pub data Ordered {A : Type 0} (R : A → A → Type 0) : List A → Type 0 where
-  ended : Ordered R []
-  leads : {x : A} {xs : List A} → ((y : A) → y ∈ xs → R x y) → Ordered R xs → Ordered R (x ∷ xs)
 
 -- a member of flatMap g xs is one of some g x
 pub record Within {A B : Type 0} (g : A → List B) (xs : List A) (b : B) : Type 0 where
@@ -140,3 +137,11 @@ module _ {A B : Type 0} {R : A → A → Type 0} {S : B → B → Type 0} where
   ordered-flatMap g (leads {x = x} {xs = xs} f a) each across =
       ordered-append (each x (List·Memᴰ·head refl)) (ordered-flatMap g a (λ y m. each y (List·Memᴰ·tail m)) across)
       (λ u v p q. let w = of-flatMap g xs v q in across x (w .source) (f (w .source) (w .listed)) u v p (w .holds))
+
+pub run-ordered : {A : Type 0} {R : A → A → Type 0} (f : ℕ → A) (at count : ℕ) → ((j k : ℕ) → j < k → k < at + count → R (f j) (f k))
+    → Ordered R (run f at count)
+unfolding run
+run-ordered f at zero h = ended
+run-ordered {A} {R} f at (suc count) h =
+    leads (λ y m. let F = of-run f (suc at) count y m in subst (R (f at)) (sym (F .is)) (h at (suc at + F .at) (omega arith) (omega (arith, F .below))))
+    (run-ordered f (suc at) count (λ j k a b. h j k a (omega arith)))

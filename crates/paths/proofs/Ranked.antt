@@ -13,15 +13,17 @@ use native.Mathlib.Omega.{arith}
 use native.Mathlib.Decide.{decLe}
 use lib.Dec.{eqb, ltb, lit<}
 use borrow.Author.Tests.{ltb-true, ltb-false, eqb-true, eqb-false}
+use Rattle.trellis.specs.Bounds.{mostStates, mostSymbols}
 use Rattle.trellis.specs.Lists.{_∈_, byFirst, bySecond, byThird}
 use Rattle.trellis.specs.Word.{Word, Before}
 use Rattle.trellis.specs.Own.{Edge}
 use Rattle.trellis.specs.Section.{Path, leaving, pathsFrom, packOnto, wordOf, wordsOf}
-use Rattle.paths.specs.Costs.{plus, minAll, least, firstWith}
-use Rattle.paths.specs.Sections.{costFrom, sectionLeast, sectionTrace}
-use Rattle.paths.specs.Ranked.{ranked, topRank, rankedCost, rankedRest}
+use Rattle.paths.specs.inner.Costs.{plus, minAll, least, firstWith}
+use Rattle.paths.specs.inner.Sections.{costFrom, sectionLeast, sectionTrace}
+use Rattle.paths.specs.inner.Ranked.{ranked, topRank, rankedCost, rankedRest}
 use Rattle.paths.specs.Chain.{rootedAt}
-use Rattle.paths.proofs.Ordered.{Ordered, leads, ended, ordered-keep, ordered-as}
+use Rattle.paths.proofs.Ordered.{ordered-keep, ordered-as}
+use Rattle.paths.specs.inner.Ordered.{Ordered, leads, ended}
 use Rattle.paths.proofs.Ascent.{Symbols, no-more, one-more, Bounded}
 use Rattle.paths.proofs.Capped.{min-same}
 use Rattle.paths.proofs.Trace.{of-first}
@@ -156,9 +158,9 @@ least-capped edges cost top number (suc k) t v =
 -- what is asked of the section: at least one symbol and 8 at most, each below 4; goal states of 16 bits; words in word order
 pub record Rankable (edges : ℕ → List Edge) (n goals : ℕ) (roots : List ℕ) (rootOf goalOf : ℕ → ℕ) : Type 0 where
   pub some : 0 < n
-  pub short : n ≤ 8
+  pub short : n ≤ mostSymbols
   pub fits : Bounded edges n goals
-  pub small : (g : ℕ) → g < goals → goalOf g < 64
+  pub small : (g : ℕ) → g < goals → goalOf g < mostStates
   pub ordered : Ordered Before (wordsOf n edges roots rootOf goalOf)
 
 -- the number of a distance, a label and a goal, and what can be read off it
@@ -168,9 +170,9 @@ pub record Reads (rank d label goal : ℕ) : Type 0 where
   pub label-is : rank % 4294967296 / 65536 ≡ label
   pub goal-is : rank % 4294967296 % 65536 ≡ goal
   pub label-lt : label < 65536
-  pub goal-lt : goal < 64
+  pub goal-lt : goal < mostStates
 
-reads : {rank : ℕ} (d label goal : ℕ) → rank ≡ d * 4294967296 + (label * 65536 + goal) → label < 65536 → goal < 64 → Reads rank d label goal
+reads : {rank : ℕ} (d label goal : ℕ) → rank ≡ d * 4294967296 + (label * 65536 + goal) → label < 65536 → goal < mostStates → Reads rank d label goal
 unfolding ranked
 reads d label goal e l g = record { is = e; below = omega arith; label-is = omega arith; goal-is = omega arith; label-lt = l; goal-lt = g }
 
@@ -207,7 +209,7 @@ module _ {words : ℕ → List Word} {dist : ℕ → Word → ℕ} {b : ℕ} {ed
   record Mine (v : ℕ) (w : Word) : Type 0 where
     root-is : w .root ≡ rootOf v
     label-lt : w .label < 65536
-    goal-lt : w .goal < 64
+    goal-lt : w .goal < mostStates
 
   mine-is : (v : ℕ) (w : Word) → w ∈ mine v → Mine v w
   unfolding wordOf

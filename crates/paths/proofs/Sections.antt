@@ -9,9 +9,9 @@ use Rattle.trellis.specs.Lists.{_∈_}
 use Rattle.trellis.specs.Own.{Edge}
 use Rattle.trellis.specs.Section.{Path, stop, along, leaving, pathsFrom}
 use Rattle.paths.specs.Choice.{Choice, some, extend, chooseAll}
-use Rattle.paths.specs.Graph.{paths}
-use Rattle.paths.specs.Costs.{capped, plus, minAll, least, firstWith, next, orStop, trace}
-use Rattle.paths.specs.Sections.{sectionGraph, edgeCost, costFrom, sectionLeast, sectionTrace}
+use Rattle.paths.specs.inner.Graph.{paths}
+use Rattle.paths.specs.inner.Costs.{capped, plus, minAll, least, firstWith, next, orStop, trace}
+use Rattle.paths.specs.inner.Sections.{sectionGraph, edgeCost, costFrom, sectionLeast, sectionTrace}
 use Rattle.paths.proofs.Choose.{choose-none, extend-extend}
 use Rattle.paths.proofs.Ordered.{of-keep}
 use Rattle.paths.proofs.Walk.{Prices, ahead, ahead-best}

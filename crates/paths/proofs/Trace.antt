@@ -11,8 +11,8 @@ use borrow.Author.Tests.{eq-eqb, ne-eqb, eqb-true}
 use native.Mathlib.Decide.{decLe}
 use Rattle.trellis.specs.Lists.{_∈_}
 use Rattle.paths.specs.Choice.{Choice, none, some, extend}
-use Rattle.paths.specs.Graph.{Graph}
-use Rattle.paths.specs.Costs.{capped, plus, minAll, least, firstWith, next, orStop, trace}
+use Rattle.paths.specs.inner.Graph.{Graph}
+use Rattle.paths.specs.inner.Costs.{capped, plus, minAll, least, firstWith, next, orStop, trace}
 use Rattle.paths.proofs.First.{Chosen, all-chosen, chosen-in}
 use Rattle.paths.proofs.Walk.{Prices, ahead}
 use Rattle.paths.proofs.Capped.{least-ahead, capped-extend, capped-is, capped-above}

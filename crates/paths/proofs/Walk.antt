@@ -4,7 +4,7 @@ use mathlib.Core.Path.{_≡_, refl, sym, ap, _∙_}
 use mathlib.Core.List.{List, map}
 use Prim.Native.Nat.{ℕ, zero, suc}
 use Rattle.paths.specs.Choice.{Choice, extend, chooseAll}
-use Rattle.paths.specs.Graph.{Graph, paths}
+use Rattle.paths.specs.inner.Graph.{Graph, paths}
 use Rattle.paths.proofs.Choose.{all-map, all-flatMap, all-extend, all-same}
 
 -- `cost t e` is what the edge e costs at step t. `offer t p` is what a path costs from step t on, or that it is not allowed:

@@ -13,10 +13,11 @@ use borrow.Author.Tests.{eq-eqb}
 use Rattle.trellis.specs.Lists.{_∈_}
 use Rattle.trellis.specs.Word.{Word, Before, wordAt}
 use Rattle.paths.specs.Choice.{some}
-use Rattle.paths.specs.Graph.{paths}
+use Rattle.paths.specs.inner.Graph.{paths}
 use Rattle.paths.specs.Chain.{rootedAt, chainGraph, chainPaths, pathDistance, bestPath, Linked, IsPath, ChainBefore, Winner}
 use Rattle.paths.proofs.First.{best-first, first-in, first-least}
-use Rattle.paths.proofs.Ordered.{Ordered, ended, leads, of-keep, in-keep, of-flatMap, in-flatMap, ordered-keep, ordered-map, ordered-flatMap, first-in-order}
+use Rattle.paths.proofs.Ordered.{of-keep, in-keep, of-flatMap, in-flatMap, ordered-keep, ordered-map, ordered-flatMap, first-in-order}
+use Rattle.paths.specs.inner.Ordered.{Ordered, ended, leads}
 
 module _ (words : ℕ → List Word) (ends : ℕ → Bool) where
   -- ---- the paths are the linked lists of words

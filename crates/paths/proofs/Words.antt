@@ -13,7 +13,8 @@ use Rattle.trellis.specs.Word.{Word, Before}
 use Rattle.trellis.specs.Own.{Edge}
 use Rattle.trellis.specs.Section.{Path, pathsFrom, wordOf, wordsOf}
 use Rattle.paths.specs.Chain.{rootedAt}
-use Rattle.paths.proofs.Ordered.{Ordered, leads, of-flatMap, keep-append, keep-every, keep-no, ordered-as, ordered-map, ordered-flatMap}
+use Rattle.paths.proofs.Ordered.{of-flatMap, keep-append, keep-every, keep-no, ordered-as, ordered-map, ordered-flatMap}
+use Rattle.paths.specs.inner.Ordered.{Ordered, leads}
 use Rattle.paths.proofs.Ascent.{PathBefore, Orderly, paths-ordered, pack-before, Bounded, PathFits, paths-fit}
 
 module _ (edges : ℕ → List Edge) (n : ℕ) (rootOf goalOf : ℕ → ℕ) where

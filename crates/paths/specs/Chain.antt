@@ -11,8 +11,8 @@ use lib.ListN.{length}
 use Rattle.trellis.specs.Lists.{_∈_, keep}
 use Rattle.trellis.specs.Word.{Word, Before}
 use Rattle.paths.specs.Choice.{Choice, best}
-use Rattle.paths.specs.Graph.{Graph, paths}
-use Rattle.paths.specs.Costs.{capped, least, trace}
+use Rattle.paths.specs.inner.Graph.{Graph, paths}
+use Rattle.paths.specs.inner.Costs.{capped, least, trace}
 
 -- the words that start in state s
 unfoldable pub rootedAt : ℕ → List Word → List Word

@@ -10,7 +10,8 @@ use lib.ListN.{length, getD, drop}
 use lib.Seq.{ext-getD}
 use lib.Dec.{ltb}
 use borrow.Author.Tests.{le-ltb, eq-eqb}
-use Rattle.trellis.specs.Lists.{run}
+use Rattle.trellis.specs.Bounds.{mostWords}
+use Rattle.trellis.specs.Lists.{run, over}
 use Rattle.trellis.specs.Word.{Word, Rectangular}
 use Rattle.trellis.specs.Outcome.{success, shortBuffer}
 use Rattle.trellis.specs.Layout.{sectionLength, sectionOf}
@@ -18,7 +19,7 @@ use Rattle.trellis.proofs.Lists.{length-run, run-at}
 use Rattle.trellis.proofs.OwnLaid.{own-q, own-n, own-states, own-length}
 use Rattle.label.proofs.Packing.{label-packed}
 use Rattle.table.specs.File.{byteAt, twoBytes, wordCount, fileWord, fileWords, accepted, tableFile}
-use Rattle.table.specs.Good.{Good}
+use Rattle.table.specs.inner.Good.{Good}
 use Rattle.table.proofs.Accepted.{accepted-good}
 use Rattle.section_file.proofs.Own.{Fitting, own-usable}
 use Rattle.section_file.proofs.OwnWords.{own-section-words}
@@ -127,12 +128,12 @@ module _ (q n S : ℕ) (words : List Word) (A : Fitting q n S words) where
   pub own-read-back : (buffer : List ℕ)
       → readingBack (sectionOf q n S words) buffer
       ≡ cond (ltb (length buffer) (5 + 4 * length words)) (leaves (shortBuffer (5 + 4 * length words)) buffer)
-      (leaves (success (5 + 4 * length words)) (tableBytes q n S words ++ drop (5 + 4 * length words) buffer))
+      (leaves (success (5 + 4 * length words)) (over (tableBytes q n S words) buffer))
   unfolding readingBack
   own-read-back buffer =
       let e = own-is-section in
       let w = own-section-words q n S words A in
-      let d = le-ltb 1024 (length words) (A .few) in
+      let d = le-ltb mostWords (length words) (A .few) in
       let x = own-q q n S words in
       let y = own-n q n S words in
       let z = own-states q n S words in
@@ -141,10 +142,10 @@ module _ (q n S : ℕ) (words : List Word) (A : Fitting q n S words) where
 -- of a file that is accepted as a rectangular table
 pub read-back-again : (file : List ℕ) → ((i : ℕ) → getD file i 0 < 256) → {q n S : ℕ} {words : List Word} → tableFile file ≡ accepted q n S words → Rectangular n words → (buffer : List ℕ)
     → readingBack (sectionOf q n S words) buffer
-    ≡ cond (ltb (length buffer) (length file)) (leaves (shortBuffer (length file)) buffer) (leaves (success (length file)) (file ++ drop (length file) buffer))
+    ≡ cond (ltb (length buffer) (length file)) (leaves (shortBuffer (length file)) buffer) (leaves (success (length file)) (over file buffer))
 read-back-again file bytes {q} {n} {S} {words} a R buffer =
     let G = accepted-good file a in
     let l = G .lengthIs in
     let b = bytes-again file bytes G in
     own-read-back q n S words (good-fits G R) buffer
-    ∙ ap₂ (λ k f. cond (ltb (length buffer) k) (leaves (shortBuffer k) buffer) (leaves (success k) (f ++ drop k buffer))) (sym l) b
+    ∙ ap₂ (λ k f. cond (ltb (length buffer) k) (leaves (shortBuffer k) buffer) (leaves (success k) (over f buffer))) (sym l) b

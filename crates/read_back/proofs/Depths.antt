@@ -7,15 +7,17 @@ use native.Mathlib.Omega.{arith}
 use native.Mathlib.Nat.{zero-add}
 use native.Mathlib.Numerals.{add-one}
 use lib.ListN.{length, getD, take, length-map}
+use Rattle.trellis.specs.Bounds.{mostWords, mostSymbols}
 use Rattle.trellis.specs.Lists.{sum, run, each}
 use Rattle.trellis.specs.Layout.{nOf, vertexCountOf, edgeCountOf, edgesBefore, rootsPlace, pairsPlace, symbolsPlace, rootState}
 use Rattle.trellis.proofs.Lists.{length-run, sum-last}
-use Rattle.section_file.specs.Sound.{Sound}
-use Rattle.section_file.specs.Answer.{edgeAt}
-use Rattle.read_back.specs.Levels.{begun, level, code, coded, grownCodes}
-use Rattle.read_back.specs.Growing.{Made, StepIn, Gathered, FirstLevel, RootCodes}
+use Rattle.trellis.proofs.Laid.{before-few}
+use Rattle.section_file.specs.inner.Sound.{Sound}
+use Rattle.section_file.specs.inner.Answer.{edgeAt}
+use Rattle.read_back.specs.inner.Levels.{begun, level, code, coded, grownCodes}
+use Rattle.read_back.specs.inner.Growing.{Made, StepIn, Gathered, FirstLevel, RootCodes}
 use Rattle.read_back.proofs.Levels.{levels-rise, level-coded}
-use Rattle.read_back.proofs.Sections.{edges-few, step-edges, step-in}
+use Rattle.read_back.proofs.Sections.{step-edges, step-in}
 
 map-run : {A B : Type 0} (f : A → B) (g : ℕ → A) (at count : ℕ) → map f (run g at count) ≡ run (λ k. f (g k)) at count
 unfolding run
@@ -25,13 +27,13 @@ map-run f g at (suc count) = ap (λ l. f (g at) ∷ l) (map-run f g (suc at) cou
 -- the beginnings up to depth t stand in the array
 pub record Depth (s : List ℕ) (n : ℕ) (codes : List ℕ) (have before t : ℕ) : Type 0 where
   pub inside : t ≤ n
-  pub room : have ≤ 1024
-  pub long : length codes ≡ 1024
+  pub room : have ≤ mostWords
+  pub long : length codes ≡ mostWords
   pub filled : take have codes ≡ map coded (level s t)
   pub count : have ≡ length (level s t)
   pub beforeIs : before ≡ edgesBefore s t
-  pub small : before ≤ 1024 * t
-  pub few : n ≤ 8
+  pub small : before ≤ mostWords * t
+  pub few : n ≤ mostSymbols
 
 module _ {s : List ℕ} (g : Sound s) {n : ℕ} (n-is : n ≡ nOf s) where
   module _ {x have : ℕ} (x-is : x ≡ getD s 3 0) (have-is : (have ≡ x) × (have < 65536)) where
@@ -73,7 +75,7 @@ module _ {s : List ℕ} (g : Sound s) {n : ℕ} (n-is : n ≡ nOf s) where
 
     pub depth-step : pairs ≤ 10000 → symbols ≤ 50000 → StepIn s (pairs + 2 * before) (symbols + before) count
     depth-step a b =
-        let few = edges-few g t (omega arith) in
+        let few = before-few s (g .edgesTo) t (omega arith) in
         step-in s t (omega (arith, d .beforeIs)) (omega (arith, d .beforeIs)) edges-count g deep (omega (arith, d .beforeIs, g .nTo)) (omega (arith, d .beforeIs, g .nTo))
 
     next-codes : flatMap (grownCodes (run (edgeAt s (pairs + 2 * before) (symbols + before)) 0 count)) (take have codes) ≡ map coded (level s (suc t))
@@ -86,7 +88,7 @@ module _ {s : List ℕ} (g : Sound s) {n : ℕ} (n-is : n ≡ nOf s) where
     next-count = ap length next-codes ∙ length-map (level s (suc t)) coded
 
     module _ {start new : List ℕ} {r : ℕ} (m : Made (flatMap (grownCodes (run (edgeAt s (pairs + 2 * before) (symbols + before)) 0 count)) (take have codes)) start 0 new r) where
-      pub depth-next : r ≤ 1024 → Depth s n new r (before + count) (t + 1)
+      pub depth-next : r ≤ mostWords → Depth s n new r (before + count) (t + 1)
       unfolding edgesBefore
       depth-next b = record {
         inside = omega arith;
@@ -101,7 +103,7 @@ module _ {s : List ℕ} (g : Sound s) {n : ℕ} (n-is : n ≡ nOf s) where
         few = d .few;
       }
 
-      pub depth-over : 1024 < r → Gathered s n new r
+      pub depth-over : mostWords < r → Gathered s n new r
       depth-over b = record {
         long = m .long;
         filled = λ c. absurd (omega arith);

@@ -11,13 +11,14 @@ use native.Mathlib.Decide.{ℕ-discrete}
 use lib.ListN.{length, getD, set, take, replicate, length-append, length-set, length-replicate, getD-replicate, length-map}
 use lib.Seq.{getD-set-same, getD-set-other, take-suc, take-suc-set}
 use borrow.Author.Tests.{eq-eqb, ne-eqb}
+use Rattle.trellis.specs.Bounds.{mostWords}
 use Rattle.trellis.specs.Lists.{run, each}
 use Rattle.trellis.specs.Own.{Edge, edge}
 use Rattle.trellis.specs.Section.{leaving}
 use Rattle.trellis.proofs.Lists.{run-snoc, flatMap-append}
-use Rattle.label.specs.Labels.{appended}
-use Rattle.read_back.specs.Levels.{code, vertexOf, labelOf, furtherCode}
-use Rattle.read_back.specs.Growing.{Made, BeginsAt, Starts, FirstLevel, RootCodes}
+use Rattle.label.specs.inner.Labels.{appended}
+use Rattle.read_back.specs.inner.Levels.{code, vertexOf, labelOf, furtherCode}
+use Rattle.read_back.specs.inner.Growing.{Made, BeginsAt, Starts, FirstLevel, RootCodes}
 use Rattle.read_back.proofs.Lists.{run-cons, run-none, leaving-yes, leaving-no, leaving-none}
 
 -- ---- one beginning further along one edge
@@ -34,26 +35,26 @@ further-at c p q t = p ∙ ap₂ (λ a b. furtherCode c (edge 0 a b)) q t
 -- the edges from k on are noted
 pub record Noted (e : ℕ → Edge) (count : ℕ) (starts : List ℕ) (k : ℕ) : Type 0 where
   pub inside : k ≤ count
-  pub long : length starts ≡ 1024
-  pub from : (v : ℕ) → v < 1024 → k ≤ getD starts v 0
-  pub to : (v : ℕ) → v < 1024 → getD starts v 0 ≤ count
-  pub same : (v : ℕ) → v < 1024 → leaving v (run e k (count - k)) ≡ leaving v (run e (getD starts v 0) (count - getD starts v 0))
-  pub hit : (v : ℕ) → v < 1024 → getD starts v 0 < count → e (getD starts v 0) .from ≡ v
+  pub long : length starts ≡ mostWords
+  pub from : (v : ℕ) → v < mostWords → k ≤ getD starts v 0
+  pub to : (v : ℕ) → v < mostWords → getD starts v 0 ≤ count
+  pub same : (v : ℕ) → v < mostWords → leaving v (run e k (count - k)) ≡ leaving v (run e (getD starts v 0) (count - getD starts v 0))
+  pub hit : (v : ℕ) → v < mostWords → getD starts v 0 < count → e (getD starts v 0) .from ≡ v
 
-pub noted-start : (e : ℕ → Edge) (count : ℕ) {starts : List ℕ} → starts ≡ replicate 1024 count → Noted e count starts count
+pub noted-start : (e : ℕ → Edge) (count : ℕ) {starts : List ℕ} → starts ≡ replicate mostWords count → Noted e count starts count
 noted-start e count {starts} q = record {
   inside = omega arith;
-  long = ap length q ∙ length-replicate {A = ℕ} 1024 count;
+  long = ap length q ∙ length-replicate {A = ℕ} mostWords count;
   from = λ v h. le-of-eq (sym (is v h));
   to = λ v h. le-of-eq (is v h);
   same = λ v h. ap (λ a. leaving v (run e a (count - a))) (sym (is v h));
   hit = λ v h b. absurd (omega (arith, is v h));
 }
   where
-    is : (v : ℕ) → v < 1024 → getD starts v 0 ≡ count
-    is v h = ap (λ s. getD s v 0) q ∙ getD-replicate {A = ℕ} 1024 v count 0 h
+    is : (v : ℕ) → v < mostWords → getD starts v 0 ≡ count
+    is v h = ap (λ s. getD s v 0) q ∙ getD-replicate {A = ℕ} mostWords v count 0 h
 
-pub noted-next : {e : ℕ → Edge} {count : ℕ} {starts : List ℕ} {k x v : ℕ} → Noted e count starts k → 0 < k → x ≡ e (k - 1) .from → (v ≡ x) × (v < 65536) → e (k - 1) .from < 1024
+pub noted-next : {e : ℕ → Edge} {count : ℕ} {starts : List ℕ} {k x v : ℕ} → Noted e count starts k → 0 < k → x ≡ e (k - 1) .from → (v ≡ x) × (v < 65536) → e (k - 1) .from < mostWords
     → Noted e count (set starts v (k - 1)) (k - 1)
 noted-next {e} {count} {starts} {k} {x} {v} n pos p g small = record {
   inside = omega (arith, n .inside);
@@ -76,15 +77,15 @@ noted-next {e} {count} {starts} {k} {x} {v} n pos p g small = record {
     old : (u : ℕ) → (u ≡ v → ⊥) → getD (set starts v (k - 1)) u 0 ≡ getD starts u 0
     old u q = getD-set-other starts v u (k - 1) 0 q
 
-    go-from : (u : ℕ) → u < 1024 → Dec (u ≡ v) → k - 1 ≤ getD (set starts v (k - 1)) u 0
+    go-from : (u : ℕ) → u < mostWords → Dec (u ≡ v) → k - 1 ≤ getD (set starts v (k - 1)) u 0
     go-from u h (yes q) = le-of-eq (sym (put u q))
     go-from u h (no q) = omega (arith, old u q, n .from u h)
 
-    go-to : (u : ℕ) → u < 1024 → Dec (u ≡ v) → getD (set starts v (k - 1)) u 0 ≤ count
+    go-to : (u : ℕ) → u < mostWords → Dec (u ≡ v) → getD (set starts v (k - 1)) u 0 ≤ count
     go-to u h (yes q) = omega (arith, put u q, n .inside)
     go-to u h (no q) = omega (arith, old u q, n .to u h)
 
-    go-same : (u : ℕ) → u < 1024 → Dec (u ≡ v)
+    go-same : (u : ℕ) → u < mostWords → Dec (u ≡ v)
         → leaving u (run e (k - 1) (count - (k - 1))) ≡ leaving u (run e (getD (set starts v (k - 1)) u 0) (count - getD (set starts v (k - 1)) u 0))
     go-same u h (yes q) = ap (λ a. leaving u (run e a (count - a))) (sym (put u q))
     go-same u h (no q) =
@@ -93,7 +94,7 @@ noted-next {e} {count} {starts} {k} {x} {v} n pos p g small = record {
         ap (leaving u) c ∙ leaving-no u (e (k - 1)) (run e (suc (k - 1)) (count - suc (k - 1))) (ne-eqb (e (k - 1) .from) u (λ r. q (sym r ∙ sym v-is)))
         ∙ ap (λ a. leaving u (run e a (count - a))) d ∙ n .same u h ∙ ap (λ a. leaving u (run e a (count - a))) (sym (old u q))
 
-    go-hit : (u : ℕ) → u < 1024 → Dec (u ≡ v) → getD (set starts v (k - 1)) u 0 < count → e (getD (set starts v (k - 1)) u 0) .from ≡ u
+    go-hit : (u : ℕ) → u < mostWords → Dec (u ≡ v) → getD (set starts v (k - 1)) u 0 < count → e (getD (set starts v (k - 1)) u 0) .from ≡ u
     go-hit u h (yes q) b = ap (λ a. e a .from) (put u q) ∙ sym v-is ∙ sym q
     go-hit u h (no q) b = ap (λ a. e a .from) (old u q) ∙ n .hit u h (omega (arith, old u q))
 
@@ -116,8 +117,8 @@ begins-of {e} {count} {starts} c {v} {r} s q w =
 -- what is left of the edges that leave v still has to be put behind what is filled
 pub record Putting (f : Edge → ℕ) (e : ℕ → Edge) (count v : ℕ) (old : List ℕ) (made : ℕ) (new : List ℕ) (filled k : ℕ) : Type 0 where
   pub inside : k ≤ count
-  pub room : filled ≤ 1024
-  pub long : length new ≡ 1024
+  pub room : filled ≤ mostWords
+  pub long : length new ≡ mostWords
   pub left : take filled new ++ map f (leaving v (run e k (count - k))) ≡ take made old ++ map f (leaving v (run e 0 count))
   pub size : filled + length (leaving v (run e k (count - k))) ≡ made + length (leaving v (run e 0 count))
   pub above : k < count → v ≤ e k .from
@@ -129,7 +130,7 @@ module _ (e : ℕ → Edge) (v : ℕ) where
   none-later k (suc m) g = leaving-no v (e k) (run e (suc k) m) (ne-eqb (e k .from) v (g k (omega arith) (omega arith))) ∙ none-later (suc k) m (λ j a b. g j (omega arith) (omega arith))
 
 module _ {f : Edge → ℕ} {e : ℕ → Edge} {count v : ℕ} {old : List ℕ} {made : ℕ} where
-  pub putting-start : {start : ℕ} → BeginsAt e count v start → made ≤ 1024 → length old ≡ 1024 → Putting f e count v old made old made start
+  pub putting-start : {start : ℕ} → BeginsAt e count v start → made ≤ mostWords → length old ≡ mostWords → Putting f e count v old made old made start
   putting-start {start} b h l = record {
     inside = b .inside;
     room = h;
@@ -143,7 +144,7 @@ module _ {f : Edge → ℕ} {e : ℕ → Edge} {count v : ℕ} {old : List ℕ} 
     leaving-here : e k .from ≡ v → leaving v (run e k (count - k)) ≡ e k ∷ leaving v (run e (suc k) (count - suc k))
     leaving-here q = ap (leaving v) (run-cons e k count h) ∙ leaving-yes v (e k) (run e (suc k) (count - suc k)) (eq-eqb (e k .from) v q)
 
-    pub putting-next : {r : ℕ} → e k .from ≡ v → filled < 1024 → r ≡ f (e k) → ((j k : ℕ) → j ≤ k → k < count → e j .from ≤ e k .from) → Putting f e count v old made (set new filled r) (filled + 1) (k + 1)
+    pub putting-next : {r : ℕ} → e k .from ≡ v → filled < mostWords → r ≡ f (e k) → ((j k : ℕ) → j ≤ k → k < count → e j .from ≤ e k .from) → Putting f e count v old made (set new filled r) (filled + 1) (k + 1)
     putting-next {r} q low is rise = subst (λ x. Putting f e count v old made (set new filled x) (filled + 1) (k + 1)) (sym is) (record {
       inside = omega arith;
       room = omega arith;
@@ -158,7 +159,7 @@ module _ {f : Edge → ℕ} {e : ℕ → Edge} {count v : ℕ} {old : List ℕ} 
       above = λ g. omega (arith, rise k (k + 1) (omega arith) g);
     })
 
-    pub putting-over : e k .from ≡ v → 1024 ≤ filled → Made (map f (leaving v (run e 0 count))) old made new 1025
+    pub putting-over : e k .from ≡ v → mostWords ≤ filled → Made (map f (leaving v (run e 0 count))) old made new 1025
     putting-over q r = record {
       long = p .long;
       filled = λ b. absurd (omega arith);
@@ -189,13 +190,13 @@ module _ {f : Edge → ℕ} {e : ℕ → Edge} {count v : ℕ} {old : List ℕ} 
 -- the beginnings before i are put, and none was too many
 pub record Growing (f : ℕ → List ℕ) (old : List ℕ) (have : ℕ) (new : List ℕ) (made i : ℕ) : Type 0 where
   pub inside : i ≤ have
-  pub room : made ≤ 1024
-  pub long : length new ≡ 1024
+  pub room : made ≤ mostWords
+  pub long : length new ≡ mostWords
   pub filled : take made new ≡ flatMap f (take i old)
   pub count : made ≡ length (flatMap f (take i old))
 
 module _ {f : ℕ → List ℕ} {old : List ℕ} {have : ℕ} where
-  pub growing-start : {new : List ℕ} → length new ≡ 1024 → Growing f old have new 0 0
+  pub growing-start : {new : List ℕ} → length new ≡ mostWords → Growing f old have new 0 0
   unfolding flatMap
   growing-start l = record { inside = omega arith; room = omega arith; long = l; filled = refl; count = refl }
 
@@ -209,7 +210,7 @@ module _ {f : ℕ → List ℕ} {old : List ℕ} {have : ℕ} where
     more-count : length (flatMap f (take (i + 1) old)) ≡ length (flatMap f (take i old)) + length (f (getD old i 0))
     more-count = ap length one-more ∙ length-append (flatMap f (take i old)) (f (getD old i 0))
 
-    pub growing-next : r ≤ 1024 → Growing f old have newer r (i + 1)
+    pub growing-next : r ≤ mostWords → Growing f old have newer r (i + 1)
     growing-next b = record {
       inside = omega arith;
       room = b;
@@ -218,7 +219,7 @@ module _ {f : ℕ → List ℕ} {old : List ℕ} {have : ℕ} where
       count = m .count b ∙ ap (λ k. k + length (f (getD old i 0))) (g .count) ∙ sym more-count;
     }
 
-    pub growing-over : {start : List ℕ} → 1024 < r → Made (flatMap f (take have old)) start 0 newer r
+    pub growing-over : {start : List ℕ} → mostWords < r → Made (flatMap f (take have old)) start 0 newer r
     growing-over b = record {
       long = m .long;
       filled = λ c. absurd (omega arith);
@@ -247,10 +248,10 @@ module _ {f : ℕ → List ℕ} {old : List ℕ} {have : ℕ} where
 
 pub record Rooted (s : List ℕ) (roots count : ℕ) (codes : List ℕ) (v : ℕ) : Type 0 where
   pub inside : v ≤ count
-  pub long : length codes ≡ 1024
+  pub long : length codes ≡ mostWords
   pub filled : take v codes ≡ each (λ u. code (getD s (roots + u) 0) u 0) v
 
-pub rooted-start : (s : List ℕ) (roots count : ℕ) {codes : List ℕ} → length codes ≡ 1024 → Rooted s roots count codes 0
+pub rooted-start : (s : List ℕ) (roots count : ℕ) {codes : List ℕ} → length codes ≡ mostWords → Rooted s roots count codes 0
 unfolding run
 rooted-start s roots count l = record { inside = omega arith; long = l; filled = refl }
 

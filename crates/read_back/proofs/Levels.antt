@@ -9,21 +9,22 @@ use native.Mathlib.Nat.{add-zero, pow-suc, pow-le-pow-right}
 use lib.Dec.{lit<, eqb}
 use lib.ListN.{length, length-map}
 use borrow.Author.Tests.{eq-eqb}
+use Rattle.trellis.specs.Bounds.{mostStates, mostWords, mostSymbols}
 use Rattle.trellis.specs.Lists.{_∈_, each}
 use Rattle.trellis.specs.Word.{Word, word}
 use Rattle.trellis.specs.Own.{Edge}
 use Rattle.trellis.specs.Section.{along, leaving, pathsFrom, packOnto, wordOf, wordsOf}
 use Rattle.trellis.specs.Layout.{nOf, vertexCountOf, edgeCountOf, edgesBefore, rootState, goalState, edgeNumber, stepEdges, sectionWords}
-use Rattle.trellis.proofs.Lists.{of-each, in-run}
-use Rattle.label.specs.Labels.{appended}
+use Rattle.trellis.proofs.Lists.{of-each, in-run, flatMap-map}
+use Rattle.label.specs.inner.Labels.{appended}
 use Rattle.label.proofs.Appending.{appended-is}
 use Rattle.paths.proofs.Ordered.{of-flatMap, in-keep}
 use Rattle.paths.proofs.Sections.{listed-of}
 use Rattle.section_file.specs.Usable.{stepEdge}
-use Rattle.section_file.specs.Sound.{Sound}
+use Rattle.section_file.specs.inner.Sound.{Sound}
 use Rattle.section_file.proofs.Words.{edge-from}
-use Rattle.read_back.specs.Levels.{Begun, begun, further, grown, finished, level, code, coded, rootOf, vertexOf, labelOf, furtherCode, grownCodes}
-use Rattle.read_back.proofs.Lists.{map-same, flatMap-same, flatMap-one, flatMap-more, flatMap-map, map-flatMap, flatMap-flatMap}
+use Rattle.read_back.specs.inner.Levels.{Begun, begun, further, grown, finished, level, code, coded, rootOf, vertexOf, labelOf, furtherCode, grownCodes}
+use Rattle.read_back.proofs.Lists.{map-same, flatMap-same, flatMap-one, flatMap-more, map-flatMap, flatMap-flatMap}
 
 -- ---- words
 
@@ -60,7 +61,7 @@ module _ (l : List ℕ) where
 -- ---- bounds
 
 pub record Fit (l : List ℕ) (t : ℕ) (b : Begun) : Type 0 where
-  pub rootSmall : b .root < 64
+  pub rootSmall : b .root < mostStates
   pub labelShort : b .label < 4 ^ t
   pub vertexBelow : b .vertex < vertexCountOf l t
 
@@ -109,7 +110,7 @@ module _ {l : List ℕ} (s : Sound l) where
 
 -- ---- numbers
 
-module _ (b : Begun) (v : b .vertex < 1024) (x : b .label < 65536) where
+module _ (b : Begun) (v : b .vertex < mostWords) (x : b .label < 65536) where
   pub root-coded : rootOf (coded b) ≡ b .root
   root-coded = omega arith
 
@@ -119,11 +120,11 @@ module _ (b : Begun) (v : b .vertex < 1024) (x : b .label < 65536) where
   pub label-coded : labelOf (coded b) ≡ b .label
   label-coded = omega arith
 
-label-small : (t : ℕ) {x : ℕ} → t ≤ 8 → x < 4 ^ t → x < 65536
+label-small : (t : ℕ) {x : ℕ} → t ≤ mostSymbols → x < 4 ^ t → x < 65536
 label-small t h k = let e : 4 ^ t ≤ 4 ^ 8 = pow-le-pow-right (lit< tt) h in omega arith
 
 module _ {l : List ℕ} (s : Sound l) (t : ℕ) where
-  pub fit-vertex : {b : Begun} → t ≤ nOf l → Fit l t b → b .vertex < 1024
+  pub fit-vertex : {b : Begun} → t ≤ nOf l → Fit l t b → b .vertex < mostWords
   fit-vertex h F = omega (arith, F .vertexBelow, s .verticesTo t h)
 
   pub fit-label : {b : Begun} → t ≤ nOf l → Fit l t b → b .label < 65536

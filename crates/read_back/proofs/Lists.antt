@@ -42,11 +42,6 @@ module _ {A B : Type 0} where
       rw (length-append (f x) (flatMap f xs)) (omega arith)
 
 module _ {A B C : Type 0} where
-  pub flatMap-map : (f : B → List C) (g : A → B) (xs : List A) → flatMap f (map g xs) ≡ flatMap (λ x. f (g x)) xs
-  unfolding flatMap
-  flatMap-map f g [] = refl
-  flatMap-map f g (x ∷ xs) = ap (λ l. f (g x) ++ l) (flatMap-map f g xs)
-
   pub map-flatMap : (f : B → C) (g : A → List B) (xs : List A) → map f (flatMap g xs) ≡ flatMap (λ x. map f (g x)) xs
   unfolding flatMap
   map-flatMap f g [] = refl

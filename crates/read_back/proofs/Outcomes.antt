@@ -8,16 +8,19 @@ use native.Mathlib.Omega.{arith}
 use native.Mathlib.Nat.{mod-eq-of-lt}
 use lib.ListN.{length, getD, take, drop}
 use borrow.Author.Tests.{lt-ltb, le-ltb, not-true, not-false}
-use Rattle.trellis.specs.Lists.{_∈_}
+use Rattle.trellis.specs.Bounds.{mostWords}
+use Rattle.trellis.specs.Lists.{_∈_, over}
 use Rattle.trellis.specs.Outcome.{success, badSection, shortBuffer, tooManyWords}
 use Rattle.trellis.specs.Layout.{qOf, nOf, statesOf, goalsPlace, goalState, sectionWords}
-use Rattle.section_file.specs.Sound.{Sound}
+use Rattle.section_file.specs.inner.Sound.{Sound}
 use Rattle.section_file.proofs.Usable.{usable-sound}
 use Rattle.read_back.specs.TableBytes.{bytesOf, pairBytes, labelBytes, tableBytes}
 use Rattle.read_back.specs.ReadingBack.{leaves, isSection, readingBack}
-use Rattle.read_back.specs.Levels.{Begun, finished, level, coded, rootOf, vertexOf}
-use Rattle.read_back.specs.Growing.{PlacesOf, Gathered, byteOf, pairOfCode, labelOfCode, fileOfCodes}
-use Rattle.read_back.proofs.Lists.{flatMap-same, flatMap-map}
+use Rattle.read_back.specs.inner.Levels.{Begun, finished, level, coded, rootOf, vertexOf}
+use Rattle.read_back.specs.inner.Growing.{PlacesOf, Gathered, byteOf, pairOfCode, labelOfCode, fileOfCodes}
+use Rattle.read_back.proofs.Lists.{flatMap-same}
+use Rattle.trellis.proofs.Lists.{flatMap-map}
+use Rattle.read_back.proofs.Writing.{table-length}
 use Rattle.read_back.proofs.Levels.{words-are, words-count, Fit, level-fits, fit-vertex, fit-label, root-coded, vertex-coded, label-coded}
 use Rattle.read_back.proofs.Sections.{section-sound}
 
@@ -43,7 +46,7 @@ module _ {s : List ℕ} (g : Sound s) where
       let F = fits b m in
       ap bytesOf (label-coded b (fit-vertex g (nOf s) (omega arith) F) (fit-label g (nOf s) (omega arith) F))
 
-  pub file-is : {goals n count : ℕ} {codes : List ℕ} → goals ≡ goalsPlace s → n ≡ nOf s → Gathered s n codes count → count ≤ 1024
+  pub file-is : {goals n count : ℕ} {codes : List ℕ} → goals ≡ goalsPlace s → n ≡ nOf s → Gathered s n codes count → count ≤ mostWords
       → fileOfCodes s goals codes count ≡ tableBytes (qOf s) (nOf s) (statesOf s) (sectionWords s)
   unfolding fileOfCodes tableBytes
   file-is {goals} {n} {count} {codes} e n-is G h =
@@ -78,14 +81,14 @@ module _ (s f : List ℕ) {b : Bool} (b-is : b ≡ isSection s) where
     same-count : length (level s n) ≡ length (sectionWords s)
     same-count = ap (λ k. length (level s k)) n-is ∙ sym (words-count s)
 
-    pub ends-many : 1024 < count → leaves tooManyWords f ≡ readingBack s f
+    pub ends-many : mostWords < count → leaves tooManyWords f ≡ readingBack s f
     unfolding readingBack
     ends-many h =
         let e = section-yes in
-        let d = lt-ltb 1024 (length (sectionWords s)) (omega (arith, G .over h, same-count)) in
+        let d = lt-ltb mostWords (length (sectionWords s)) (omega (arith, G .over h, same-count)) in
         rw (e, d)
 
-    module _ (h : count ≤ 1024) where
+    module _ (h : count ≤ mostWords) where
       count-words : count ≡ length (sectionWords s)
       count-words = G .count-is h ∙ same-count
 
@@ -93,7 +96,7 @@ module _ (s f : List ℕ) {b : Bool} (b-is : b ≡ isSection s) where
       unfolding readingBack
       ends-short k =
           let e = section-yes in
-          let d = le-ltb 1024 (length (sectionWords s)) (omega (arith, count-words)) in
+          let d = le-ltb mostWords (length (sectionWords s)) (omega (arith, count-words)) in
           let m = lt-ltb (length f) (5 + 4 * length (sectionWords s)) (omega (arith, count-words)) in
           rw (e, d, m, count-words)
 
@@ -102,7 +105,9 @@ module _ (s f : List ℕ) {b : Bool} (b-is : b ≡ isSection s) where
       unfolding readingBack
       ends-file k p q =
           let e = section-yes in
-          let d = le-ltb 1024 (length (sectionWords s)) (omega (arith, count-words)) in
+          let d = le-ltb mostWords (length (sectionWords s)) (omega (arith, count-words)) in
           let m = le-ltb (length f) (5 + 4 * length (sectionWords s)) (omega (arith, count-words)) in
           let z = file-is sound (p .goalsIs) n-is G h in
-          rw (e, d, m, q, z, count-words)
+          let o : over (tableBytes (qOf s) (nOf s) (statesOf s) (sectionWords s)) f ≡ tableBytes (qOf s) (nOf s) (statesOf s) (sectionWords s) ++ drop (5 + 4 * length (sectionWords s)) f
+          = ap (λ k. tableBytes (qOf s) (nOf s) (statesOf s) (sectionWords s) ++ drop k f) (table-length (qOf s) (nOf s) (statesOf s) (sectionWords s)) in
+          rw (e, d, m, o, q, z, count-words)

@@ -3,37 +3,30 @@
 use mathlib.Core.Path.{_≡_, refl, sym, ap, _∙_}
 use mathlib.Core.Bool.{Bool, true, false, not, cond, _&&_}
 use mathlib.Core.List.{List}
-use Prim.Native.Nat.{ℕ, zero, suc, _+_, _-_, _*_, _/_, _≤_, _<_}
+use Prim.Native.Nat.{ℕ, suc, _+_, _-_, _*_, _/_, _≤_, _<_}
 use native.Mathlib.Omega.{arith}
-use native.Mathlib.Nat.{zero-add, add-zero, le-of-eq}
+use native.Mathlib.Nat.{add-zero, le-of-eq}
 use native.Mathlib.Decide.{ℕ-discrete}
 use lib.ListN.{length, getD, drop}
 use lib.Dec.{eqb}
 use borrow.Author.Tests.{eqb-true, not-false}
-use Rattle.trellis.specs.Lists.{sum, run, byFirst, bySecond, byThird}
+use Rattle.trellis.specs.Lists.{run, byFirst, bySecond, byThird}
 use Rattle.trellis.specs.Own as own
 use Rattle.trellis.specs.Layout.{nOf, vertexCountOf, edgeCountOf, edgesBefore, rootsPlace, goalsPlace, pairsPlace, symbolsPlace, sectionLength, edgeNumber, stepEdges}
-use Rattle.trellis.proofs.Lists.{sum-last}
 use Rattle.section_file.specs.Usable.{stepEdge, usable}
-use Rattle.section_file.specs.Sound.{EdgeBefore, Sound}
-use Rattle.section_file.specs.Answer.{edgeAt, partOf}
+use Rattle.section_file.specs.inner.Sound.{EdgeBefore, Sound}
+use Rattle.section_file.specs.inner.Answer.{edgeAt, partOf}
 use Rattle.section_file.specs.declared.Part.the-variants.{Usable, Unusable}
-use Rattle.section_file.proofs.Tests.{left-of, right-of}
+use Rattle.trellis.proofs.Bools.{left-true, right-true}
+use Rattle.trellis.proofs.Laid.{before-few}
 use Rattle.section_file.proofs.Steps.{edges-at}
 use Rattle.read_back.specs.ReadingBack.{isSection}
-use Rattle.read_back.specs.Growing.{StepIn, PlacesOf}
+use Rattle.read_back.specs.inner.Growing.{StepIn, PlacesOf}
 use Rattle.read_back.proofs.Lists.{run-shift}
 
 -- ---- places
 
 module _ {s : List ℕ} (g : Sound s) where
-  pub edges-few : (t : ℕ) → t ≤ nOf s → edgesBefore s t ≤ 1024 * t
-  unfolding edgesBefore sum
-  edges-few zero h = omega arith
-  edges-few (suc t) h =
-      let e : edgesBefore s (suc t) ≡ edgesBefore s t + edgeCountOf s t = sum-last (edgeCountOf s) 0 t ∙ rw (zero-add t) in
-      omega (arith, edges-few t (omega arith), g .edgesTo t h)
-
   module _ (whole : sectionLength s ≡ length s) {n x v y w : ℕ} (n-is : n ≡ nOf s) (x-is : x ≡ getD s 3 0) (v-is : (v ≡ x) × (v < 65536)) (y-is : y ≡ getD s (3 + n) 0) (w-is : (w ≡ y) × (w < 65536)) where
     goals-are : 4 + 2 * n + v ≡ goalsPlace s
     unfolding goalsPlace rootsPlace vertexCountOf
@@ -50,7 +43,7 @@ module _ {s : List ℕ} (g : Sound s) where
     pub places-are : PlacesOf s (4 + 2 * n + v) (4 + 2 * n + v + w) (4 + 2 * n + v + w + 2 * ((length s - (4 + 2 * n + v + w)) / 3))
     unfolding sectionLength symbolsPlace vertexCountOf
     places-are =
-        let few = edges-few (nOf s) (omega arith) in
+        let few = before-few s (g .edgesTo) (nOf s) (omega arith) in
         let a = g .verticesTo 0 (omega arith) in
         let b = g .verticesTo (nOf s) (omega arith) in
         let f : w ≡ getD s (3 + nOf s) 0 = w-is .0 ∙ y-is ∙ rw n-is in
@@ -105,7 +98,7 @@ module _ (s : List ℕ) (t : ℕ) {pairs symbols count : ℕ} (p : pairs ≡ pai
 
 pub section-sound : (s : List ℕ) {b : Bool} → b ≡ isSection s → not b ≡ false → (usable s ≡ true) × (sectionLength s ≡ length s)
 unfolding isSection
-section-sound s {b} e f = let u = sym e ∙ not-false b f in (left-of _ _ u, eqb-true _ _ (right-of (usable s) _ u))
+section-sound s {b} e f = let u = sym e ∙ not-false b f in (left-true _ _ u, eqb-true _ _ (right-true (usable s) _ u))
 
 pub is-usable : (s : List ℕ) (k : ℕ) → Usable k ≡ partOf (drop 0 s) → eqb k (length s) ≡ isSection s
 unfolding isSection partOf

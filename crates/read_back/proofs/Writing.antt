@@ -8,11 +8,14 @@ use native.Mathlib.Nat.{mod-eq-of-lt}
 use native.Mathlib.Numerals.{add-one}
 use lib.ListN.{length, getD, set, take, drop, length-append, length-set}
 use lib.Seq.{take-suc, length-take-le}
-use Rattle.trellis.specs.Write.{Wrote}
-use Rattle.trellis.proofs.Lists.{flatMap-append}
+use Rattle.trellis.specs.Bounds.{mostWords}
+use Rattle.trellis.specs.inner.Write.{Wrote}
+use Rattle.trellis.proofs.Lists.{flatMap-append, length-two}
 use Rattle.trellis.proofs.Write.{wrote-none, wrote-then, wrote-front, wrote-length}
-use Rattle.read_back.specs.Levels.{rootOf, vertexOf, labelOf}
-use Rattle.read_back.specs.Growing.{byteOf, pairOfCode, labelOfCode, fileOfCodes}
+use Rattle.trellis.specs.Word.{Word}
+use Rattle.read_back.specs.TableBytes.{tableBytes, pairBytes, labelBytes}
+use Rattle.read_back.specs.inner.Levels.{rootOf, vertexOf, labelOf}
+use Rattle.read_back.specs.inner.Growing.{byteOf, pairOfCode, labelOfCode, fileOfCodes}
 
 -- ---- two bytes for each number
 
@@ -65,11 +68,6 @@ sizes-put l s count p1 p2 p3 q1 q2 q3 r1 r2 r3 t1 t2 = record {
 
 -- ---- the whole file
 
-length-two : (f : ℕ → List ℕ) (codes : List ℕ) → ((c : ℕ) → length (f c) ≡ 2) → length (flatMap f codes) ≡ 2 * length codes
-unfolding flatMap
-length-two f [] h = refl
-length-two f (c ∷ codes) h = length-append (f c) (flatMap f codes) ∙ omega (arith, h c, length-two f codes h)
-
 module _ (s : List ℕ) (goals : ℕ) (codes : List ℕ) (count : ℕ) (room : count ≤ length codes) where
   pairs-length : length (flatMap (pairOfCode s goals) (take count codes)) ≡ 2 * count
   pairs-length = length-two (pairOfCode s goals) (take count codes) (λ c. refl) ∙ ap (λ k. 2 * k) (length-take-le count codes room)
@@ -90,7 +88,7 @@ module _ (s : List ℕ) (goals : ℕ) (codes : List ℕ) (count : ℕ) (room : c
   pub labels-room : {a b c us : List ℕ} {m : ℕ} → 5 + 4 * count ≤ length a → Wrote a 0 us b 5 → Wrote b 5 (flatMap (pairOfCode s goals) (take count codes)) c m → m + 2 * count ≤ length c
   labels-room h p q = omega (arith, pairs-end q, wrote-length p, wrote-length q)
 
-  pub file-put : {a b c d : List ℕ} {m e : ℕ} → 5 + 4 * count ≤ length a → count ≤ 1024
+  pub file-put : {a b c d : List ℕ} {m e : ℕ} → 5 + 4 * count ≤ length a → count ≤ mostWords
       → Wrote a 0 (byteOf (getD s 0 0) ∷ byteOf (getD s 1 0) ∷ byteOf (getD s 2 0) ∷ byteOf count ∷ byteOf (count / 256) ∷ []) b 5
       → Wrote b 5 (flatMap (pairOfCode s goals) (take count codes)) c m → Wrote c m (flatMap labelOfCode (take count codes)) d e
       → d ≡ fileOfCodes s goals codes count ++ drop (5 + 4 * count) a
@@ -100,3 +98,12 @@ module _ (s : List ℕ) (goals : ℕ) (codes : List ℕ) (count : ℕ) (room : c
       let w : Wrote a 0 (fileOfCodes s goals codes count) d e = subst (λ x. Wrote a 0 (byteOf (getD s 0 0) ∷ byteOf (getD s 1 0) ∷ byteOf (getD s 2 0) ∷ byteOf count ∷ x ∷ (flatMap (pairOfCode s goals) (take count codes) ++ flatMap labelOfCode (take count codes))) d e) small (wrote-then p (wrote-then q r)) in
       let f : length (fileOfCodes s goals codes count) ≡ 5 + 4 * count = file-length in
       wrote-front w (omega arith) ∙ ap (λ n. fileOfCodes s goals codes count ++ drop n a) f
+
+-- a table file has five bytes for the sizes and four for each word
+pub table-length : (q n S : ℕ) (words : List Word) → length (tableBytes q n S words) ≡ 5 + 4 * length words
+unfolding tableBytes
+table-length q n S words =
+    let a = length-append (flatMap pairBytes words) (flatMap labelBytes words) in
+    let b = length-two pairBytes words (λ w. refl) in
+    let c = length-two labelBytes words (λ w. refl) in
+    omega arith

@@ -1,10 +1,12 @@
 -- What reading a section back leaves: document 01's outcome and the whole buffer, by its checks 8, 12 and 10 in that order.
 -- Every refusal leaves the buffer as it was; success writes the table file of the section's words in front and nothing behind it.
 use mathlib.Core.Bool.{Bool, not, cond, _&&_}
-use mathlib.Core.List.{List, _++_}
+use mathlib.Core.List.{List}
 use Prim.Native.Nat.{ℕ, _+_, _*_}
-use lib.ListN.{length, drop}
+use lib.ListN.{length}
 use lib.Dec.{ltb, eqb}
+use Rattle.trellis.specs.Bounds.{mostWords}
+use Rattle.trellis.specs.Lists.{over}
 use Rattle.trellis.specs.Word.{Word}
 use Rattle.trellis.specs.Outcome.{Outcome, success, badSection, shortBuffer, tooManyWords}
 use Rattle.trellis.specs.Layout.{qOf, nOf, statesOf, sectionLength, sectionWords}
@@ -38,6 +40,6 @@ unfoldable pub readingBack : List ℕ → List ℕ → ReadingBack
 readingBack section file =
     let words = sectionWords section in
     cond (not (isSection section)) (leaves (badSection 0) file)
-    (cond (ltb 1024 (length words)) (leaves tooManyWords file)
+    (cond (ltb mostWords (length words)) (leaves tooManyWords file)
     (cond (ltb (length file) (fileLength words)) (leaves (shortBuffer (fileLength words)) file)
-    (leaves (success (fileLength words)) (tableBytes (qOf section) (nOf section) (statesOf section) words ++ drop (fileLength words) file))))
+    (leaves (success (fileLength words)) (over (tableBytes (qOf section) (nOf section) (statesOf section) words) file))))

@@ -5,15 +5,16 @@ ghost use mathlib.Core.Path.{_≡_};
 ghost use mathlib.Core.List.{[], _∷_, _++_, flatMap};
 ghost use Prim.Native.Nat.{_+_, _*_, _/_, _%_, _<_, _≤_};
 ghost use lib.ListN.{length, getD, take, drop};
+ghost use Rattle.trellis.specs.Bounds.{mostWords};
 ghost use Rattle.trellis.specs.Lists.{run};
-ghost use Rattle.trellis.specs.Write.{Wrote};
+ghost use Rattle.trellis.specs.inner.Write.{Wrote};
 ghost use Rattle.trellis.specs.Own.{edge};
 ghost use Rattle.trellis.specs.Layout.{nOf, pairsPlace, symbolsPlace, sectionLength};
-ghost use Rattle.section_file.specs.Answer.{edgeAt};
-ghost use Rattle.section_file.specs.Sound.{Sound};
+ghost use Rattle.section_file.specs.inner.Answer.{edgeAt};
+ghost use Rattle.section_file.specs.inner.Sound.{Sound};
 ghost use Rattle.read_back.specs.ReadingBack.{readBackOutcome, leaves, isSection, readingBack};
-ghost use Rattle.read_back.specs.Levels.{rootOf, vertexOf, labelOf, furtherCode, grownCodes};
-ghost use Rattle.read_back.specs.Growing.{Made, StepIn, BeginsAt, Starts, PlacesOf, Gathered, FirstLevel, RootCodes, byteOf, pairOfCode, labelOfCode, fileOfCodes};
+ghost use Rattle.read_back.specs.inner.Levels.{rootOf, vertexOf, labelOf, furtherCode, grownCodes};
+ghost use Rattle.read_back.specs.inner.Growing.{Made, StepIn, BeginsAt, Starts, PlacesOf, Gathered, FirstLevel, RootCodes, byteOf, pairOfCode, labelOfCode, fileOfCodes};
 use label::append;
 use numbers::number;
 use numbers::wide;
@@ -65,7 +66,7 @@ fn label_of(c: u32) -> u16
 
 // A beginning one symbol longer, at another vertex.
 fn further(c: u32, symbol: u16, vertex: u16) -> u32
-    requires { ⌜ vertex < 1024 ⌝ }
+    requires { ⌜ vertex < mostWords ⌝ }
     ensures { λ r. ⌜ r ≡ furtherCode c (edge 0 symbol vertex) ⌝ }
 {
     (c / 67108864 * 1024 + wider(vertex)) * 65536 + wider(append(label_of(c), symbol))
@@ -97,7 +98,7 @@ fn grow_one(
     made: usize,
     codes: &mut [u32; 1024],
 ) -> usize
-    requires { ⌜ StepIn (now s) pairs symbols count × BeginsAt (edgeAt (now s) pairs symbols) count (vertexOf c) start × (made ≤ 1024) × (length (now codes) ≡ 1024) ⌝ }
+    requires { ⌜ StepIn (now s) pairs symbols count × BeginsAt (edgeAt (now s) pairs symbols) count (vertexOf c) start × (made ≤ mostWords) × (length (now codes) ≡ mostWords) ⌝ }
     ensures { λ r. ⌜ Made (grownCodes (run (edgeAt (now (s .entry)) pairs symbols) 0 count) c) (now (codes .entry)) made (now (codes .exit)) r ⌝ }
 {
     let vertex = vertex_of(c);
@@ -127,7 +128,7 @@ fn grow(
     have: usize,
     codes: &mut [u32; 1024],
 ) -> usize
-    requires { ⌜ StepIn (now s) pairs symbols count × (have ≤ 1024) × (length (now old) ≡ 1024) × (length (now codes) ≡ 1024) ⌝ }
+    requires { ⌜ StepIn (now s) pairs symbols count × (have ≤ mostWords) × (length (now old) ≡ mostWords) × (length (now codes) ≡ mostWords) ⌝ }
     ensures { λ r. ⌜ Made (flatMap (grownCodes (run (edgeAt (now (s .entry)) pairs symbols) 0 count)) (take have (now (old .entry)))) (now (codes .entry)) 0 (now (codes .exit)) r ⌝ }
 {
     let starts = starts_of(s, pairs, symbols, count);
@@ -147,7 +148,7 @@ fn grow(
 
 // The vertices of depth 0, each with its root.
 fn first_level(s: &[u16], roots: usize, count: usize, codes: &mut [u32; 1024])
-    requires { ⌜ FirstLevel (now s) roots count × (length (now codes) ≡ 1024) ⌝ }
+    requires { ⌜ FirstLevel (now s) roots count × (length (now codes) ≡ mostWords) ⌝ }
     ensures { λ _. ⌜ RootCodes (now (s .entry)) roots count (now (codes .exit)) ⌝ }
 {
     let mut v: usize = 0;
@@ -174,7 +175,7 @@ fn places_of(s: &[u16], n: usize) -> Places
 
 // Finds the section's words, depth by depth.
 fn gather(s: &[u16], n: usize, pairs: usize, symbols: usize, codes: &mut [u32; 1024]) -> usize
-    requires { ⌜ Sound (now s) × (n ≡ nOf (now s)) × (pairs ≡ pairsPlace (now s)) × (symbols ≡ symbolsPlace (now s)) × (pairs ≤ 10000) × (symbols ≤ 50000) × (length (now codes) ≡ 1024) ⌝ }
+    requires { ⌜ Sound (now s) × (n ≡ nOf (now s)) × (pairs ≡ pairsPlace (now s)) × (symbols ≡ symbolsPlace (now s)) × (pairs ≤ 10000) × (symbols ≤ 50000) × (length (now codes) ≡ mostWords) ⌝ }
     ensures { λ r. ⌜ Gathered (now (s .entry)) n (now (codes .exit)) r ⌝ }
 {
     let mut have = wide(number(s, 3));
@@ -215,7 +216,7 @@ fn put_sizes(s: &[u16], count: usize, file: &mut [u8])
 }
 
 fn put_pairs(s: &[u16], goals: usize, codes: &[u32; 1024], count: usize, file: &mut [u8]) -> usize
-    requires { ⌜ (goals ≤ 10000) × (count ≤ 1024) × (5 + 2 * count ≤ length (now file)) × (length (now codes) ≡ 1024) ⌝ }
+    requires { ⌜ (goals ≤ 10000) × (count ≤ mostWords) × (5 + 2 * count ≤ length (now file)) × (length (now codes) ≡ mostWords) ⌝ }
     ensures { λ r. ⌜ Wrote (now (file .entry)) 5 (flatMap (pairOfCode (now (s .entry)) goals) (take count (now (codes .entry)))) (now (file .exit)) r ⌝ }
 {
     let mut at: usize = 5;
@@ -231,7 +232,7 @@ fn put_pairs(s: &[u16], goals: usize, codes: &[u32; 1024], count: usize, file: &
 }
 
 fn put_labels(codes: &[u32; 1024], count: usize, start: usize, file: &mut [u8]) -> usize
-    requires { ⌜ (start ≤ 10000) × (count ≤ 1024) × (start + 2 * count ≤ length (now file)) × (length (now codes) ≡ 1024) ⌝ }
+    requires { ⌜ (start ≤ 10000) × (count ≤ mostWords) × (start + 2 * count ≤ length (now file)) × (length (now codes) ≡ mostWords) ⌝ }
     ensures { λ r. ⌜ Wrote (now (file .entry)) start (flatMap labelOfCode (take count (now (codes .entry)))) (now (file .exit)) r ⌝ }
 {
     let mut at = start;
@@ -247,7 +248,7 @@ fn put_labels(codes: &[u32; 1024], count: usize, start: usize, file: &mut [u8]) 
 }
 
 fn put_file(s: &[u16], goals: usize, codes: &[u32; 1024], count: usize, file: &mut [u8])
-    requires { ⌜ (goals ≤ 10000) × (count ≤ 1024) × (5 + 4 * count ≤ length (now file)) × (length (now codes) ≡ 1024) ⌝ }
+    requires { ⌜ (goals ≤ 10000) × (count ≤ mostWords) × (5 + 4 * count ≤ length (now file)) × (length (now codes) ≡ mostWords) ⌝ }
     ensures { λ _. ⌜ now (file .exit) ≡ fileOfCodes (now (s .entry)) goals (now (codes .entry)) count ++ drop (5 + 4 * count) (now (file .entry)) ⌝ }
 {
     put_sizes(s, count, file);

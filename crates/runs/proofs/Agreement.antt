@@ -9,8 +9,9 @@ use Prim.Native.Nat.{ℕ, zero, suc, _+_, _-_, _≤_, _<_}
 use native.Mathlib.Omega.{arith}
 use native.Mathlib.Decide.{decLt}
 use lib.Dec.{T}
-use Rattle.runs.specs.Runs.{firstLike, Cut, Shared, Rectangle, In, Tells, firstWordBy, goesOn, Agrees, RunsAgree}
-use Rattle.runs.proofs.FirstLike.{test-eq, like-le, like-is, like-least, like-eq, like-twice}
+use Rattle.runs.specs.inner.Runs.{firstLike, Cut, Shared, Rectangle, In, Tells, firstWordBy, goesOn, Agrees, RunsAgree}
+use Rattle.runs.proofs.FirstLike.{like-le, like-is, like-least, like-eq, like-twice}
+use Rattle.trellis.proofs.Bools.{same-test}
 use Rattle.runs.proofs.Runs.{between, own-run, start-mono, same-order, on-in, in-on, match-in, not-sooner, as-long}
 
 not-less : {x y : ℕ} → x ≤ y → (x < y → ⊥) → x ≡ y
@@ -87,7 +88,7 @@ module _ {W : ℕ} {beginning ending key : ℕ → ℕ} (C : Cut W beginning end
 
     lasts-agree : (a b : ℕ) → start a ≡ a → start b ≡ b → a < W → b < W → Shared W beginning ending b a → (m : ℕ)
         → In W beginning a (a + m) → goesOn W start (a + m) ≡ goesOn W start (b + m)
-    lasts-agree a b sa sb p q k m u = test-eq _ _ (on-too a b p sb k m u)
+    lasts-agree a b sa sb p q k m u = same-test _ _ (on-too a b p sb k m u)
         (on-too b a q sa (turn b a q p k) m (as-long C a b sb (λ x v. chain b a x p k (along v)) m u))
 
     agree : RunsAgree W start firstWord

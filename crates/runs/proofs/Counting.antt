@@ -3,7 +3,7 @@
 -- For the rank of s + 1 is that of s, and one more exactly if s is in the list.
 use mathlib.Core.Path.{_≡_, refl, sym, ap, ap₂, subst, _∙_}
 use mathlib.Core.Bool.{Bool, true, false, _||_}
-use mathlib.Core.List.{List, [], _∷_, List·Memᴰ·head, List·Memᴰ·tail}
+use mathlib.Core.List.{List, [], _∷_}
 use Prim.Native.Nat.{ℕ, zero, suc, _+_, _≤_, _<_}
 use native.Mathlib.Omega.{arith}
 use native.Mathlib.Decide.{ℕ-discrete, decLt}
@@ -11,11 +11,10 @@ use lib.ListN.{length}
 use lib.Dec.{T, ltb, eqb, eqb→eq, eqb-refl}
 use borrow.Author.Tests.{eq-eqb, ne-eqb, lt-ltb, le-ltb}
 use Rattle.trellis.specs.Lists.{_∈_, Once, one-if, each, isIn, rank, ascending}
-use Rattle.trellis.proofs.Bools.{is-false}
-use Rattle.trellis.proofs.Lists.{in-yes, in-of, in-each, of-each}
+use Rattle.trellis.proofs.Bools.{is-false, eqb-of, same-test}
+use Rattle.trellis.proofs.Lists.{in-yes, in-of, in-each, of-each, rank-zero, rank-all}
 use Rattle.trellis.proofs.Ascending.{numbers, once-of, in-ascending, of-ascending, ascends}
-use Rattle.runs.specs.Runs.{below, numberOf}
-use Rattle.runs.proofs.FirstLike.{equal-yes, test-eq}
+use Rattle.runs.specs.inner.Runs.{below, numberOf}
 
 pub below-cong : (p q : ℕ → Bool) (m : ℕ) → ((j : ℕ) → j < m → p j ≡ q j) → below p m ≡ below q m
 unfolding below
@@ -33,11 +32,6 @@ below-le p (suc m) = go (p m) (below-le p m)
 
 -- ---- ranks count members
 
-rank-zero : (l : List ℕ) → rank 0 l ≡ 0
-unfolding rank
-rank-zero [] = refl
-rank-zero (x ∷ l) = let r = rank-zero l in rw (le-ltb x 0 (omega arith)) (omega arith)
-
 eqb-yes : (a b : ℕ) → T (eqb a b) → a ≡ b
 eqb-yes a b t = eqb→eq a b t
 
@@ -54,13 +48,6 @@ rank-suc s (x ∷ l) o = go (ℕ-discrete s x) (decLt x s) (rank-suc s l (o .1))
         rw (lt-ltb x (suc s) (omega arith), le-ltb x s (omega arith), eq-eqb s x e) (omega arith)
     go (no e) (yes d) r = rw (lt-ltb x (suc s) (omega arith), lt-ltb x s d, ne-eqb s x e) (omega arith)
     go (no e) (no d) r = rw (le-ltb x (suc s) (omega arith), le-ltb x s (omega arith), ne-eqb s x e) (omega arith)
-
-rank-all : (s : ℕ) (l : List ℕ) → ((y : ℕ) → y ∈ l → y < s) → rank s l ≡ length l
-unfolding rank
-rank-all s [] h = refl
-rank-all s (x ∷ l) h =
-    let r = rank-all s l (λ y m. h y (List·Memᴰ·tail m)) in
-    rw (lt-ltb x s (h x (List·Memᴰ·head refl))) (omega arith)
 
 rank-below : (p : ℕ → Bool) (l : List ℕ) (W : ℕ) → Once l → ((s : ℕ) → s < W → isIn eqb s l ≡ p s) → (s : ℕ) → s ≤ W → rank s l ≡ below p s
 unfolding below
@@ -83,8 +70,8 @@ module _ (W : ℕ) (f : ℕ → ℕ) (le : (i : ℕ) → i < W → f i ≤ i) (t
       (omega (arith, i .is, i .below), ap f (i .is) ∙ twice (i .at) (i .below) ∙ sym (i .is))
 
   kept-is : (s : ℕ) → s < W → isIn eqb s values ≡ eqb (f s) s
-  kept-is s h = test-eq (isIn eqb s values) (eqb (f s) s)
-      (λ t. equal-yes (value-kept s (in-yes eqb eqb-yes eqb-refl s values t) .1))
+  kept-is s h = same-test (isIn eqb s values) (eqb (f s) s)
+      (λ t. eqb-of (value-kept s (in-yes eqb eqb-yes eqb-refl s values t) .1))
       (λ t. in-of eqb eqb-yes eqb-refl s values (in-ascending ltb numbers s (each f W) (in-each f W s s h (sym (eqb→eq (f s) s t)))))
 
   pub rank-counts : (i : ℕ) → i < W → rank (f i) values ≡ numberOf f i

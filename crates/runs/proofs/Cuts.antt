@@ -17,9 +17,9 @@ use Rattle.trellis.specs.Witness.{sameBeginning, sameEnding}
 use Rattle.trellis.proofs.Labels.{four-pos, front-mono}
 use Rattle.trellis.proofs.Words.{word-in, index, beginning-root, beginning-front, beginning-eq, ending-back, ending-goal, ending-eq, joined-beginning, joined-ending, joined-is, rectangular-by}
 use Rattle.trellis.proofs.Witness.{begins-yes, begins-of, ends-yes, ends-of}
-use Rattle.runs.specs.Runs.{Cut, Shared, Rectangle}
-use Rattle.runs.specs.Cuts.{above, beginningNumber, endingNumber, beginningAt, endingAt}
-use Rattle.runs.proofs.FirstLike.{equal-yes, test-eq}
+use Rattle.runs.specs.inner.Runs.{Cut, Shared, Rectangle}
+use Rattle.runs.specs.inner.Cuts.{above, beginningNumber, endingNumber, beginningAt, endingAt}
+use Rattle.trellis.proofs.Bools.{eqb-of, same-test}
 
 above-pos : (table : List Word) → 0 < above table
 unfolding above
@@ -107,14 +107,14 @@ module _ {n : ℕ} {table : List Word} (G : Table n table) (t : ℕ) (h : t ≤ 
 
   pub begins-eq : (i j : ℕ) → i < length table → j < length table
       → sameBeginning n t (wordAt table i) (wordAt table j) ≡ eqb (beginningAt n table t i) (beginningAt n table t j)
-  begins-eq i j a b = test-eq (sameBeginning n t (wordAt table i) (wordAt table j)) (eqb (beginningAt n table t i) (beginningAt n table t j))
-      (λ u. equal-yes (beginning-number n t (wordAt table i) (wordAt table j) (begins-yes n t (wordAt table i) (wordAt table j) u)))
+  begins-eq i j a b = same-test (sameBeginning n t (wordAt table i) (wordAt table j)) (eqb (beginningAt n table t i) (beginningAt n table t j))
+      (λ u. eqb-of (beginning-number n t (wordAt table i) (wordAt table j) (begins-yes n t (wordAt table i) (wordAt table j) u)))
       (λ u. begins-of n t (wordAt table i) (wordAt table j) (same-beginning i j a b (eqb→eq (beginningAt n table t i) (beginningAt n table t j) u)))
 
   pub ends-eq : (i j : ℕ) → i < length table → j < length table
       → sameEnding n t (wordAt table i) (wordAt table j) ≡ eqb (endingAt n table t i) (endingAt n table t j)
-  ends-eq i j a b = test-eq (sameEnding n t (wordAt table i) (wordAt table j)) (eqb (endingAt n table t i) (endingAt n table t j))
-      (λ u. equal-yes (ending-number n t (wordAt table i) (wordAt table j) (above table) (ends-yes n t (wordAt table i) (wordAt table j) u)))
+  ends-eq i j a b = same-test (sameEnding n t (wordAt table i) (wordAt table j)) (eqb (endingAt n table t i) (endingAt n table t j))
+      (λ u. eqb-of (ending-number n t (wordAt table i) (wordAt table j) (above table) (ends-yes n t (wordAt table i) (wordAt table j) u)))
       (λ u. ends-of n t (wordAt table i) (wordAt table j) (same-ending i j a b (eqb→eq (endingAt n table t i) (endingAt n table t j) u)))
 
   pub cut : Cut (length table) (beginningAt n table t) (endingAt n table t)

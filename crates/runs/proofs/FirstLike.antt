@@ -1,28 +1,18 @@
 -- The first number on which f has the value that it has on i: it is no later than i, it has the value, and no earlier number has it.
 -- So two numbers with one value have one such first number, and only values up to i matter.
-use mathlib.Core.Path.{_≡_, refl, sym, ap, subst, _∙_}
-use mathlib.Core.Bool.{Bool, true, false}
+use mathlib.Core.Path.{_≡_, sym, ap, _∙_}
 use mathlib.Core.Logic.{_↔_}
 use Prim.Native.Nat.{ℕ, _≤_, _<_}
 use native.Mathlib.Omega.{arith}
 use native.Mathlib.Decide.{decLt}
-use lib.Dec.{T, eqb, eqb→eq, eqb-refl}
+use lib.Dec.{eqb, eqb→eq}
 use Rattle.trellis.specs.Lists.{first}
-use Rattle.trellis.proofs.Bools.{is-true}
+use Rattle.trellis.proofs.Bools.{eqb-of, same-test}
 use Rattle.trellis.proofs.Lists.{First, first-ok}
-use Rattle.runs.specs.Runs.{firstLike}
-
-pub equal-yes : {m n : ℕ} → m ≡ n → T (eqb m n)
-equal-yes {m} {n} e = subst (λ z. T (eqb m z)) e (eqb-refl m)
-
--- two tests that follow from each other are one
-pub test-eq : (a b : Bool) → (T a → T b) → (T b → T a) → a ≡ b
-test-eq true b f g = sym (is-true b (f tt))
-test-eq false true f g = absurd (g tt)
-test-eq false false f g = refl
+use Rattle.runs.specs.inner.Runs.{firstLike}
 
 pub eqb-iff : (a b c d : ℕ) → ((a ≡ b) ↔ (c ≡ d)) → eqb a b ≡ eqb c d
-eqb-iff a b c d f = test-eq (eqb a b) (eqb c d) (λ u. equal-yes (f .0 (eqb→eq a b u))) (λ u. equal-yes (f .1 (eqb→eq c d u)))
+eqb-iff a b c d f = same-test (eqb a b) (eqb c d) (λ u. eqb-of (f .0 (eqb→eq a b u))) (λ u. eqb-of (f .1 (eqb→eq c d u)))
 
 module _ (f : ℕ → ℕ) where
   pub like-le : (i : ℕ) → firstLike f i ≤ i
@@ -42,7 +32,7 @@ module _ (f : ℕ → ℕ) where
   like-least i j e = go (decLt j (first (λ k. eqb (f k) (f i)) i))
     where
       go : Dec (j < first (λ k. eqb (f k) (f i)) i) → first (λ k. eqb (f k) (f i)) i ≤ j
-      go (yes p) = absurd (first-ok (λ k. eqb (f k) (f i)) i .miss j p (equal-yes e))
+      go (yes p) = absurd (first-ok (λ k. eqb (f k) (f i)) i .miss j p (eqb-of e))
       go (no p) = omega arith
 
   pub like-eq : (i j : ℕ) → f i ≡ f j → firstLike f i ≡ firstLike f j

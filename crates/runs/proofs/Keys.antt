@@ -11,8 +11,8 @@ use Rattle.trellis.specs.Label.{symbol, back}
 use Rattle.trellis.specs.Word.{Word, wordAt, Table}
 use Rattle.trellis.proofs.Labels.{back-suc, back-step, symbol-back}
 use Rattle.trellis.proofs.Words.{ending-back, ending-goal, ending-eq}
-use Rattle.runs.specs.Runs.{firstLike, Tells}
-use Rattle.runs.specs.Cuts.{above, endingAt, stepKey}
+use Rattle.runs.specs.inner.Runs.{firstLike, Tells}
+use Rattle.runs.specs.inner.Cuts.{above, endingAt, stepKey}
 use Rattle.runs.proofs.FirstLike.{like-is, like-eq}
 use Rattle.runs.proofs.Cuts.{same-ending, ending-number}
 

@@ -6,9 +6,9 @@ use Prim.Native.Nat.{ℕ, zero, suc, _+_, _-_, _≤_, _<_}
 use native.Mathlib.Omega.{arith}
 use native.Mathlib.Decide.{ℕ-discrete, decLt}
 use lib.Dec.{T, eqb, eqb→eq, ltb, ltb→lt, lt→ltb}
-use Rattle.trellis.proofs.Bools.{both, join}
-use Rattle.runs.specs.Runs.{firstLike, Cut, Shared, In, goesOn}
-use Rattle.runs.proofs.FirstLike.{equal-yes, like-le, like-is, like-least, like-eq}
+use Rattle.trellis.proofs.Bools.{both, join, eqb-of}
+use Rattle.runs.specs.inner.Runs.{firstLike, Cut, Shared, In, goesOn}
+use Rattle.runs.proofs.FirstLike.{like-le, like-is, like-least, like-eq}
 
 module _ {W : ℕ} {beginning ending : ℕ → ℕ} (C : Cut W beginning ending) where
   abbrev start : ℕ → ℕ
@@ -56,7 +56,7 @@ module _ {W : ℕ} {beginning ending : ℕ → ℕ} (C : Cut W beginning ending)
 
   pub in-on : (a x : ℕ) → In W beginning a x → In W beginning a (x + 1) → T (goesOn W start x)
   in-on a x u v = join (ltb (x + 1) W) (eqb (start (x + 1)) (start x))
-      (lt→ltb (x + 1) W (v .inside)) (equal-yes (like-eq beginning (x + 1) x (v .begins ∙ sym (u .begins))))
+      (lt→ltb (x + 1) W (v .inside)) (eqb-of (like-eq beginning (x + 1) x (v .begins ∙ sym (u .begins))))
 
   -- ---- runs a and b, where each word of a has its ending in b too
 

@@ -12,8 +12,8 @@ use Rattle.trellis.specs.Word.{Word, Table, RectangularAt}
 use Rattle.trellis.specs.Own.{shares, firstSharing, key, keys, vertexOf, vertexCount}
 use Rattle.trellis.proofs.Lists.{first-is}
 use Rattle.trellis.proofs.Vertices.{key-inner, shares-yes, shares-of}
-use Rattle.runs.specs.Runs.{firstLike, below, numberOf, Tells, firstWordBy, RunsAgree}
-use Rattle.runs.specs.Cuts.{beginningAt, endingAt}
+use Rattle.runs.specs.inner.Runs.{firstLike, below, numberOf, Tells, firstWordBy, RunsAgree}
+use Rattle.runs.specs.inner.Cuts.{beginningAt, endingAt}
 use Rattle.runs.proofs.Counting.{below-cong, rank-counts, length-counts}
 use Rattle.runs.proofs.Agreement.{first-shares, first-least, first-le, first-twice, agree-iff}
 use Rattle.runs.proofs.Cuts.{cut, shared-joined, joined-shared, rectangle-of, of-rectangle}

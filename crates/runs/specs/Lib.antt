@@ -1,3 +1,2 @@
 -- Runs of words with one beginning, and words cut at a depth as pairs of numbers.
-pub mod Runs
-pub mod Cuts
+pub mod inner

@@ -13,15 +13,17 @@ use lib.ListN.{length, getD, set, replicate, length-set, length-replicate, getD-
 use lib.Seq.{getD-set-same, getD-set-other}
 use lib.Dec.{eqb}
 use borrow.Author.Tests.{eq-eqb, ne-eqb, eqb-true, eqb-false}
-use Rattle.trellis.specs.Lists.{one-if}
-use Rattle.section_file.specs.Usable.{all, any, covered, apart, noTwins}
-use Rattle.section_file.specs.Places.{Vertices, Symbols, Marks}
-use Rattle.section_file.proofs.Tests.{clash, all-of, all-fails, Passed, passed-start, passed-by, passed-all}
+use Rattle.trellis.specs.Bounds.{mostWords}
+use Rattle.trellis.specs.Lists.{one-if, all, any}
+use Rattle.section_file.specs.Usable.{covered, apart, noTwins}
+use Rattle.section_file.specs.inner.Places.{Vertices, Symbols, Marks}
+use Rattle.section_file.proofs.Tests.{all-of, all-fails, Passed, passed-start, passed-by, passed-all}
+use Rattle.trellis.proofs.Bools.{clash}
 
 -- ---- what was read
 
 module _ {l : List ℕ} {at count : ℕ} where
-  pub vertex-small : {k x v : ℕ} → Vertices l at count → k < count → x ≡ getD l (at + 2 * k) 0 → (v ≡ x) × (v < 65536) → v < 1024
+  pub vertex-small : {k x v : ℕ} → Vertices l at count → k < count → x ≡ getD l (at + 2 * k) 0 → (v ≡ x) × (v < 65536) → v < mostWords
   vertex-small {k} s h e g = omega (arith, s .small k h, g .0)
 
 pub slot-of : {x v y w a b : ℕ} → x ≡ a → (v ≡ x) × (v < 65536) → y ≡ b → (w ≡ y) × (w < 65536) → 4 * v + w ≡ 4 * a + b
@@ -33,14 +35,14 @@ pub record Marking (f : ℕ → ℕ) (count : ℕ) (marks : List ℕ) (k : ℕ) 
   pub inside : k ≤ count
   pub so-far : Marks f k marks
 
-pub marking-start : (f : ℕ → ℕ) (count : ℕ) {marks : List ℕ} → marks ≡ replicate 1024 0 → Marking f count marks 0
+pub marking-start : (f : ℕ → ℕ) (count : ℕ) {marks : List ℕ} → marks ≡ replicate mostWords 0 → Marking f count marks 0
 unfolding any
 marking-start f count e = record {
   inside = omega arith;
-  so-far = record { long = ap length e ∙ length-replicate {A = ℕ} 1024 0; marked = λ v h. ap (λ m. getD m v 0) e ∙ getD-replicate {A = ℕ} 1024 v 0 0 h };
+  so-far = record { long = ap length e ∙ length-replicate {A = ℕ} mostWords 0; marked = λ v h. ap (λ m. getD m v 0) e ∙ getD-replicate {A = ℕ} mostWords v 0 0 h };
 }
 
-pub marking-next : {f : ℕ → ℕ} {count : ℕ} {marks : List ℕ} {k x v : ℕ} → Marking f count marks k → k < count → x ≡ f k → (v ≡ x) × (v < 65536) → f k < 1024
+pub marking-next : {f : ℕ → ℕ} {count : ℕ} {marks : List ℕ} {k x v : ℕ} → Marking f count marks k → k < count → x ≡ f k → (v ≡ x) × (v < 65536) → f k < mostWords
     → Marking f count (set marks v 1) (k + 1)
 unfolding any
 marking-next {f} {count} {marks} {k} {x} {v} m h e g small = record {
@@ -59,7 +61,7 @@ marking-next {f} {count} {marks} {k} {x} {v} m h e g small = record {
     other true = refl
     other false = refl
 
-    go : (u : ℕ) → Dec (f k ≡ u) → u < 1024 → getD (set marks v 1) u 0 ≡ one-if (any (λ j. eqb (f j) u) k || eqb (f k) u)
+    go : (u : ℕ) → Dec (f k ≡ u) → u < mostWords → getD (set marks v 1) u 0 ≡ one-if (any (λ j. eqb (f j) u) k || eqb (f k) u)
     go u (yes q) l =
         let d : v ≡ u = v-is ∙ q in
         let n : u < length marks = omega (arith, m .so-far .long) in
@@ -72,26 +74,26 @@ marking-all {f} {count} {marks} {k} m h = let e : k ≡ count = omega (arith, m 
 
 -- a vertex by its mark
 module _ {f : ℕ → ℕ} {count : ℕ} {marks : List ℕ} (m : Marks f count marks) where
-  pub unmet : (v : ℕ) → v < 1024 → getD marks v 0 ≡ 0 → any (λ k. eqb (f k) v) count ≡ false
+  pub unmet : (v : ℕ) → v < mostWords → getD marks v 0 ≡ 0 → any (λ k. eqb (f k) v) count ≡ false
   unmet v h e = go (any (λ k. eqb (f k) v) count) (sym (m .marked v h) ∙ e)
     where
       go : (b : Bool) → one-if b ≡ 0 → b ≡ false
       go true q = absurd (omega arith)
       go false q = refl
 
-  pub met : (v : ℕ) → v < 1024 → (getD marks v 0 ≡ 0 → ⊥) → any (λ k. eqb (f k) v) count ≡ true
+  pub met : (v : ℕ) → v < mostWords → (getD marks v 0 ≡ 0 → ⊥) → any (λ k. eqb (f k) v) count ≡ true
   met v h e = go (any (λ k. eqb (f k) v) count) (λ q. e (m .marked v h ∙ q))
     where
       go : (b : Bool) → (one-if b ≡ 0 → ⊥) → b ≡ true
       go true q = refl
       go false q = absurd (q refl)
 
-pub covered-fails : {f : ℕ → ℕ} {count vertices : ℕ} {marks : List ℕ} {v : ℕ} → Marks f count marks → vertices ≤ 1024
+pub covered-fails : {f : ℕ → ℕ} {count vertices : ℕ} {marks : List ℕ} {v : ℕ} → Marks f count marks → vertices ≤ mostWords
     → Passed (λ v. any (λ k. eqb (f k) v) count) vertices v → v < vertices → getD marks v 0 ≡ 0 → false ≡ covered f count vertices
 unfolding covered
 covered-fails {f} {count} {vertices} {marks} {v} m few p h e = sym (all-fails (λ v. any (λ k. eqb (f k) v) count) vertices v h (unmet m v (omega arith) e))
 
-pub covered-next : {f : ℕ → ℕ} {count vertices : ℕ} {marks : List ℕ} {v : ℕ} → Marks f count marks → vertices ≤ 1024
+pub covered-next : {f : ℕ → ℕ} {count vertices : ℕ} {marks : List ℕ} {v : ℕ} → Marks f count marks → vertices ≤ mostWords
     → Passed (λ v. any (λ k. eqb (f k) v) count) vertices v → v < vertices → (getD marks v 0 ≡ 0 → ⊥) → Passed (λ v. any (λ k. eqb (f k) v) count) vertices (v + 1)
 covered-next {f} {count} {vertices} {marks} {v} m few p h e = passed-by p h (met m v (omega arith) e)
 
@@ -116,9 +118,9 @@ pub record Apart (one symbol other : ℕ → ℕ) (count : ℕ) (seen : List ℕ
   pub blank : (x : ℕ) → x < 4096 → (getD seen x 0 ≡ 0) ⊎ Last (λ j. 4 * one j + symbol j) other k x (getD seen x 0)
 
 pub record Small (one symbol other : ℕ → ℕ) (count : ℕ) : Type 0 where
-  pub ones : (k : ℕ) → k < count → one k < 1024
+  pub ones : (k : ℕ) → k < count → one k < mostWords
   pub symbols : (k : ℕ) → k < count → symbol k < 4
-  pub others : (k : ℕ) → k < count → other k < 1024
+  pub others : (k : ℕ) → k < count → other k < mostWords
 
 pub small-of : {l : List ℕ} {one symbols other count : ℕ} → Vertices l one count × Vertices l other count × Symbols l symbols count
     → Small (λ k. getD l (one + 2 * k) 0) (λ k. getD l (symbols + k) 0) (λ k. getD l (other + 2 * k) 0) count

@@ -8,11 +8,12 @@ use native.Mathlib.Omega.{arith}
 use native.Mathlib.Nat.{not-suc-le-zero}
 use lib.ListN.{length, getD}
 use lib.Dec.{T, ltb, ltb→lt}
+use Rattle.trellis.specs.Bounds.{mostStates, mostWords, mostSymbols, leastQ, mostQ}
 use Rattle.trellis.specs.Lists.{_∈_, each}
 use Rattle.trellis.specs.Label.{symbol}
 use Rattle.trellis.specs.Word.{Word, wordAt, Table, Rectangular}
 use Rattle.trellis.specs.Own.{Edge, edge, edgeLess, key, keys, vertexOf, vertexCount, edgeOf, edgesAt, edgeCount}
-use Rattle.trellis.specs.Demand.{ours}
+use Rattle.trellis.proofs.Ours.{ours}
 use Rattle.trellis.specs.Layout.{nOf, vertexCountOf, edgeCountOf, sectionOf}
 use Rattle.trellis.proofs.Lists.{From, in-place, place-of, in-each, of-each}
 use Rattle.trellis.proofs.Ascending.{Ascends, numbers, ascends, of-ascending}
@@ -25,18 +26,18 @@ use Rattle.trellis.proofs.OwnFew.{vertices-few, edges-few}
 use Rattle.trellis.proofs.OwnTwins.{forward-one, backward-one}
 use Rattle.trellis.proofs.OwnLaid.{own-n, own-vertex-count, own-edge-count, own-length, own-root, own-goal, own-step-edge}
 use Rattle.section_file.specs.Usable.{stepEdge, usable}
-use Rattle.section_file.specs.Sound.{EdgeBefore, Hit, Sound}
+use Rattle.section_file.specs.inner.Sound.{EdgeBefore, Hit, Sound}
 use Rattle.section_file.proofs.Usable.{sound-usable}
 
 -- a table that merging accepts, with its q, n and S
 pub record Fitting (q n S : ℕ) (words : List Word) : Type 0 where
-  pub qFrom : 2 ≤ q
-  pub qTo : q ≤ 4
-  pub nTo : n ≤ 8
+  pub qFrom : leastQ ≤ q
+  pub qTo : q ≤ mostQ
+  pub nTo : n ≤ mostSymbols
   pub statesFrom : 1 ≤ S
-  pub statesTo : S ≤ 64
+  pub statesTo : S ≤ mostStates
   pub some : 1 ≤ length words
-  pub few : length words ≤ 1024
+  pub few : length words ≤ mostWords
   pub rootsBelow : (w : Word) → w ∈ words → w .root < S
   pub goalsBelow : (w : Word) → w ∈ words → w .goal < S
   pub symbolsBelow : (w : Word) → w ∈ words → (t : ℕ) → t < n → symbol n t (w .label) < q

@@ -16,7 +16,7 @@ use Rattle.trellis.specs.Label.{symbol}
 use Rattle.trellis.specs.Word.{Word, word, wordAt, Before}
 use Rattle.trellis.specs.Own.{Edge, edge, vertexCount}
 use Rattle.trellis.specs.Drawn.{IsPath, DrawnFor}
-use Rattle.trellis.specs.Demand.{ours}
+use Rattle.trellis.proofs.Ours.{ours}
 use Rattle.trellis.specs.Section.{Path, along, leaving, pathsFrom, packOnto, wordOf, wordsOf}
 use Rattle.trellis.specs.Layout.{nOf, vertexCountOf, rootState, goalState, stepEdges, sectionWords, sectionOf}
 use Rattle.trellis.proofs.Lists.{place-of, of-each, in-each, run-snoc, run-same}
@@ -26,7 +26,8 @@ use Rattle.trellis.proofs.Words.{word-eq}
 use Rattle.trellis.proofs.Demand.{drawn}
 use Rattle.trellis.proofs.OwnLaid.{own-n, own-vertex-count, own-root, own-goal, own-step-edges}
 use Rattle.label.proofs.Digits.{symbol-last, symbol-drop}
-use Rattle.paths.proofs.Ordered.{Ordered, ended, leads, of-flatMap, in-flatMap, in-keep}
+use Rattle.paths.proofs.Ordered.{of-flatMap, in-flatMap, in-keep}
+use Rattle.paths.specs.inner.Ordered.{Ordered, ended, leads}
 use Rattle.paths.proofs.Sections.{from-of, listed-of}
 use Rattle.section_file.proofs.Words.{read-of, words-ascend}
 use Rattle.section_file.proofs.Own.{Fitting, own-sound}

@@ -8,12 +8,13 @@ use native.Mathlib.Omega.{arith}
 use lib.ListN.{getD}
 use lib.Dec.{leb, ltb}
 use borrow.Author.Tests.{lt-ltb, le-ltb, lt-leb, le-leb, eq-eqb, ne-eqb, not-true, not-false}
-use Rattle.trellis.specs.Lists.{sum, lower}
+use Rattle.trellis.specs.Bounds.{mostStates, mostWords, mostSymbols, leastQ, mostQ}
+use Rattle.trellis.specs.Lists.{sum, lower, all, within}
 use Rattle.trellis.specs.Own as own
 use Rattle.trellis.specs.Layout.{qOf, nOf, statesOf, vertexCountOf, edgeCountOf, edgesBefore, rootsPlace, goalsPlace, pairsPlace, symbolsPlace, sectionLength, rootState, goalState}
-use Rattle.section_file.specs.Usable.{all, within, higher, rising, inside, above, sizesRight, countsRight, statesRight}
-use Rattle.section_file.specs.Places.{PlacesOf, Counted}
-use Rattle.section_file.specs.Answer.{edgeAt, held, meant}
+use Rattle.section_file.specs.Usable.{higher, rising, inside, above, sizesRight, countsRight, statesRight}
+use Rattle.section_file.specs.inner.Places.{PlacesOf, Counted}
+use Rattle.section_file.specs.inner.Answer.{edgeAt, held, meant}
 use Rattle.section_file.specs.declared.Edge.{Edge}
 
 -- ---- bounds
@@ -29,8 +30,8 @@ module _ (low high : ℕ) {x : ℕ} where
 
 -- ---- q, n and S
 
-module _ (l : List ℕ) {q : ℕ} {a : Bool} (q-is : q ≡ qOf l) (a-is : a ≡ within 2 4 q) where
-  q-test : within 2 4 (qOf l) ≡ a
+module _ (l : List ℕ) {q : ℕ} {a : Bool} (q-is : q ≡ qOf l) (a-is : a ≡ within leastQ mostQ q) where
+  q-test : within leastQ mostQ (qOf l) ≡ a
   q-test = sym (a-is ∙ ap (within 2 4) q-is)
 
   pub q-wrong : not a ≡ true → false ≡ sizesRight l
@@ -38,35 +39,35 @@ module _ (l : List ℕ) {q : ℕ} {a : Bool} (q-is : q ≡ qOf l) (a-is : a ≡ 
   q-wrong t = let e = q-test ∙ not-true a t in rw e
 
   module _ {n : ℕ} {b : Bool} (a-yes : not a ≡ false) (n-is : n ≡ nOf l) (b-is : b ≡ within 1 8 n) where
-    n-test : within 1 8 (nOf l) ≡ b
+    n-test : within 1 mostSymbols (nOf l) ≡ b
     n-test = sym (b-is ∙ ap (within 1 8) n-is)
 
     pub n-wrong : not b ≡ true → false ≡ sizesRight l
     unfolding sizesRight
     n-wrong t = let e = q-test ∙ not-false a a-yes in let f = n-test ∙ not-true b t in rw (e, f)
 
-    pub sizes-by-states : {s : ℕ} {d : Bool} → not b ≡ false → s ≡ statesOf l → d ≡ within 1 64 s → d ≡ sizesRight l
+    pub sizes-by-states : {s : ℕ} {d : Bool} → not b ≡ false → s ≡ statesOf l → d ≡ within 1 mostStates s → d ≡ sizesRight l
     unfolding sizesRight
     sizes-by-states t s-is d-is = let e = q-test ∙ not-false a a-yes in let f = n-test ∙ not-false b t in d-is ∙ rw (e, f, s-is)
 
 -- ---- counts
 
-module _ (l : List ℕ) {n : ℕ} {a : Bool} (n-is : n ≡ nOf l) (a-is : a ≡ all (λ t. within 1 1024 (getD l (3 + t) 0)) (n + 1)) where
+module _ (l : List ℕ) {n : ℕ} {a : Bool} (n-is : n ≡ nOf l) (a-is : a ≡ all (λ t. within 1 mostWords (getD l (3 + t) 0)) (n + 1)) where
   pub vertices-wrong : not a ≡ true → false ≡ countsRight l
   unfolding countsRight vertexCountOf
   vertices-wrong t =
-      let e : all (λ t. within 1 1024 (getD l (3 + t) 0)) (nOf l + 1) ≡ false = rw (← n-is) (sym a-is ∙ not-true _ t) in
+      let e : all (λ t. within 1 mostWords (getD l (3 + t) 0)) (nOf l + 1) ≡ false = rw (← n-is) (sym a-is ∙ not-true _ t) in
       rw e
 
-  pub counts-by-edges : {b : Bool} → not a ≡ false → b ≡ all (λ t. within 1 1024 (getD l (4 + n + t) 0)) n → b ≡ countsRight l
+  pub counts-by-edges : {b : Bool} → not a ≡ false → b ≡ all (λ t. within 1 mostWords (getD l (4 + n + t) 0)) n → b ≡ countsRight l
   unfolding countsRight vertexCountOf edgeCountOf
   counts-by-edges {b} t b-is =
-      let e : all (λ t. within 1 1024 (getD l (3 + t) 0)) (nOf l + 1) ≡ true = rw (← n-is) (sym a-is ∙ not-false _ t) in
+      let e : all (λ t. within 1 mostWords (getD l (3 + t) 0)) (nOf l + 1) ≡ true = rw (← n-is) (sym a-is ∙ not-false _ t) in
       b-is ∙ rw (e, ← n-is)
 
 -- ---- places
 
-pub places-are : (l : List ℕ) {n edges x v y w : ℕ} → n ≡ nOf l → n ≤ 8 → (edges ≡ sum (λ t. getD l (4 + n + t) 0) 0 n) × (edges ≤ 65535 * n)
+pub places-are : (l : List ℕ) {n edges x v y w : ℕ} → n ≡ nOf l → n ≤ mostSymbols → (edges ≡ sum (λ t. getD l (4 + n + t) 0) 0 n) × (edges ≤ 65535 * n)
     → x ≡ getD l 3 0 → (v ≡ x) × (v < 65536) → y ≡ getD l (3 + n) 0 → (w ≡ y) × (w < 65536)
     → PlacesOf l (4 + 2 * n) (4 + 2 * n + v) (4 + 2 * n + v + w) (4 + 2 * n + v + w + 2 * edges) (4 + 2 * n + v + w + 2 * edges + edges)
 unfolding rootsPlace goalsPlace pairsPlace symbolsPlace sectionLength edgesBefore vertexCountOf edgeCountOf
@@ -86,11 +87,11 @@ places-are l {n} {edges} {x} {v} {y} {w} n-is small e x-is v-is y-is w-is =
     }
 
 -- a count that was read, small enough
-pub counted-at : {l : List ℕ} {n : ℕ} (t : ℕ) {x v : ℕ} → Counted l n → t ≤ n → x ≡ getD l (3 + t) 0 → (v ≡ x) × (v < 65536) → v ≤ 1024
+pub counted-at : {l : List ℕ} {n : ℕ} (t : ℕ) {x v : ℕ} → Counted l n → t ≤ n → x ≡ getD l (3 + t) 0 → (v ≡ x) × (v < 65536) → v ≤ mostWords
 unfolding vertexCountOf
 counted-at t c h e g = omega (arith, c .verticesTo t h, g .0)
 
-pub counted-edges : {l : List ℕ} {n : ℕ} (t : ℕ) {x v : ℕ} → Counted l n → t < n → x ≡ getD l (4 + n + t) 0 → (v ≡ x) × (v < 65536) → v ≤ 1024
+pub counted-edges : {l : List ℕ} {n : ℕ} (t : ℕ) {x v : ℕ} → Counted l n → t < n → x ≡ getD l (4 + n + t) 0 → (v ≡ x) × (v < 65536) → v ≤ mostWords
 unfolding edgeCountOf
 counted-edges {l} {n} t {x} {v} c h e g =
     let f : x ≡ getD l (4 + nOf l + t) 0 = e ∙ ap (λ m. getD l (4 + m + t) 0) (c .nIs) in

@@ -11,16 +11,18 @@ use lib.ListN.{length, getD, take, drop, length-drop, drop-of-length-le}
 use lib.Seq.{take-all}
 use lib.Dec.{ltb}
 use borrow.Author.Tests.{ltb-true, not-true, not-false, le-leb, lt-leb}
-use Rattle.trellis.specs.Lists.{sum}
+use Rattle.trellis.specs.Bounds.{mostWords, mostSymbols, leastQ, mostQ}
+use Rattle.trellis.specs.Lists.{sum, all, within}
 use Rattle.trellis.specs.Own as own
 use Rattle.trellis.specs.Layout.{qOf, nOf, vertexCountOf, edgeCountOf, edgesBefore, pairsPlace, symbolsPlace, sectionLength, edgeNumber}
 use Rattle.trellis.proofs.Lists.{sum-last}
-use Rattle.section_file.specs.Usable.{all, within, inside, above, covered, noTwins, noForwardTwins, noBackwardTwins, stepGood, stepEdge, sizesRight, countsRight, whole, statesRight, stepRight, usable}
-use Rattle.section_file.specs.Places.{PlacesOf, Counted, StepAt, Vertices, Symbols}
-use Rattle.section_file.specs.Answer.{partOf, edgeAt}
+use Rattle.section_file.specs.Usable.{inside, above, covered, noTwins, noForwardTwins, noBackwardTwins, stepGood, stepEdge, sizesRight, countsRight, whole, statesRight, stepRight, usable}
+use Rattle.section_file.specs.inner.Places.{PlacesOf, Counted, StepAt, Vertices, Symbols}
+use Rattle.section_file.specs.inner.Answer.{partOf, edgeAt}
 use Rattle.section_file.specs.declared.Part.{Part}
 use Rattle.section_file.specs.declared.Part.the-variants.{Usable, Unusable}
-use Rattle.section_file.proofs.Tests.{left-of, right-of, to-high, all-at, Passed, passed-start, passed-next}
+use Rattle.section_file.proofs.Tests.{to-high, all-at, Passed, passed-start, passed-next}
+use Rattle.trellis.proofs.Bools.{left-true, right-true}
 use Rattle.section_file.proofs.Reading.{counted-edges}
 
 -- ---- one step
@@ -47,7 +49,7 @@ edges-read {l} t c e = e ∙ ap (λ m. getD l (4 + m + t) 0) (c .nIs)
 pub record StepRead (l : List ℕ) (n t pairs symbols count q froms tos : ℕ) : Type 0 where
   pub at : StepAt l n t pairs symbols
   pub countIs : count ≡ edgeCountOf l t
-  pub few : count ≤ 1024
+  pub few : count ≤ mostWords
   pub qIs : q ≡ qOf l
   pub fromsIs : froms ≡ vertexCountOf l t
   pub tosIs : tos ≡ vertexCountOf l (t + 1)
@@ -65,10 +67,10 @@ step-read {l} {n} {t} {pairs} {symbols} {x} s e g f h q = record {
 }
 
 module _ {l : List ℕ} {n t pairs symbols count q froms tos : ℕ} (r : StepRead l n t pairs symbols count q froms tos) where
-  pub froms-few : froms ≤ 1024
+  pub froms-few : froms ≤ mostWords
   froms-few = omega (arith, r .fromsIs, r .at .counted .verticesTo t (omega (arith, r .at .inside)))
 
-  pub tos-few : tos ≤ 1024
+  pub tos-few : tos ≤ mostWords
   tos-few = omega (arith, r .tosIs, r .at .counted .verticesTo (t + 1) (omega (arith, r .at .inside)))
 
   abbrev good : Bool
@@ -90,18 +92,18 @@ module _ {l : List ℕ} {n t pairs symbols count q froms tos : ℕ} (r : StepRea
       inside-at : (k : ℕ) → k < count → inside (edgeAt l pairs symbols) q froms tos k ≡ true
       inside-at k h = all-at (inside (edgeAt l pairs symbols) q froms tos) count k all-inside h
 
-      from-at : (k : ℕ) → k < count → getD l (pairs + 2 * k) 0 < 1024
+      from-at : (k : ℕ) → k < count → getD l (pairs + 2 * k) 0 < mostWords
       unfolding inside
-      from-at k h = omega (arith, froms-few, ltb-true (getD l (pairs + 2 * k) 0) froms (left-of _ _ (inside-at k h)))
+      from-at k h = omega (arith, froms-few, ltb-true (getD l (pairs + 2 * k) 0) froms (left-true _ _ (inside-at k h)))
 
       symbol-at : (k : ℕ) → k < count → getD l (symbols + k) 0 < 4
       unfolding inside
-      symbol-at k h = omega (arith, r .at .counted .qTo, r .qIs, ltb-true (getD l (symbols + k) 0) q (left-of _ _ (right-of (ltb (getD l (pairs + 2 * k) 0) froms) _ (inside-at k h))))
+      symbol-at k h = omega (arith, r .at .counted .qTo, r .qIs, ltb-true (getD l (symbols + k) 0) q (left-true _ _ (right-true (ltb (getD l (pairs + 2 * k) 0) froms) _ (inside-at k h))))
 
-      to-at : (k : ℕ) → k < count → getD l (pairs + 1 + 2 * k) 0 < 1024
+      to-at : (k : ℕ) → k < count → getD l (pairs + 1 + 2 * k) 0 < mostWords
       unfolding inside
       to-at k h =
-          omega (arith, tos-few, ltb-true (getD l (pairs + 1 + 2 * k) 0) tos (right-of (ltb (getD l (symbols + k) 0) q) _ (right-of (ltb (getD l (pairs + 2 * k) 0) froms) _ (inside-at k h))))
+          omega (arith, tos-few, ltb-true (getD l (pairs + 1 + 2 * k) 0) tos (right-true (ltb (getD l (symbols + k) 0) q) _ (right-true (ltb (getD l (pairs + 2 * k) 0) froms) _ (inside-at k h))))
 
       pub from-vertices : Vertices l pairs count
       from-vertices = record { near = omega (arith, r .at .pairsTo); few = r .few; small = from-at }
@@ -207,9 +209,9 @@ steps-next {l} {n} {before} {t} {x} {v} c s h e f g k = record {
 
 -- ---- the whole section
 
-pub n-few : (l : List ℕ) {n : ℕ} {a : Bool} → a ≡ sizesRight l → not a ≡ false → n ≡ nOf l → n ≤ 8
+pub n-few : (l : List ℕ) {n : ℕ} {a : Bool} → a ≡ sizesRight l → not a ≡ false → n ≡ nOf l → n ≤ mostSymbols
 unfolding sizesRight
-n-few l {n} {a} e f g = omega (arith, to-high 1 8 (nOf l) (left-of _ _ (right-of (within 2 4 (qOf l)) _ (sym e ∙ not-false a f))))
+n-few l {n} {a} e f g = omega (arith, to-high 1 mostSymbols (nOf l) (left-true _ _ (right-true (within leastQ mostQ (qOf l)) _ (sym e ∙ not-false a f))))
 
 module _ (l : List ℕ) {a : Bool} (a-is : a ≡ sizesRight l) where
   pub part-sizes : not a ≡ true → Unusable ≡ partOf l
@@ -233,9 +235,9 @@ module _ (l : List ℕ) {a : Bool} (a-is : a ≡ sizesRight l) where
       counted = record {
         nIs = n-is;
         nTo = n-few l a-is a-yes n-is;
-        qTo = to-high 2 4 (qOf l) (left-of _ _ sizes-yes);
-        verticesTo = λ t h. to-high 1 1024 (vertexCountOf l t) (all-at _ (nOf l + 1) t (left-of _ _ counts-yes) (omega arith));
-        edgesTo = λ t h. to-high 1 1024 (edgeCountOf l t) (all-at _ (nOf l) t (right-of (all (λ t. within 1 1024 (vertexCountOf l t)) (nOf l + 1)) _ counts-yes) (omega arith));
+        qTo = to-high leastQ mostQ (qOf l) (left-true _ _ sizes-yes);
+        verticesTo = λ t h. to-high 1 mostWords (vertexCountOf l t) (all-at _ (nOf l + 1) t (left-true _ _ counts-yes) (omega arith));
+        edgesTo = λ t h. to-high 1 mostWords (edgeCountOf l t) (all-at _ (nOf l) t (right-true (all (λ t. within 1 mostWords (vertexCountOf l t)) (nOf l + 1)) _ counts-yes) (omega arith));
       }
 
       module _ {roots goals pairs symbols end : ℕ} (at : PlacesOf l roots goals pairs symbols end) where

@@ -9,27 +9,10 @@ use native.Mathlib.Numerals.{add-one}
 use native.Mathlib.Decide.{ℕ-discrete}
 use lib.Dec.{leb}
 use borrow.Author.Tests.{leb-true, le-leb, not-true, not-false}
-use Rattle.section_file.specs.Usable.{all, any, within}
-
-pub clash : true ≡ false → ⊥
-clash e = let z : _≡_ {A = ℕ} 0 1 = cc in omega arith
+use Rattle.trellis.specs.Lists.{all, any, within}
+use Rattle.trellis.proofs.Bools.{clash, left-true, right-true, both-true, and-false}
 
 -- ---- two tests
-
-pub left-of : (a b : Bool) → (a && b) ≡ true → a ≡ true
-left-of true b e = refl
-left-of false b e = e
-
-pub right-of : (a b : Bool) → (a && b) ≡ true → b ≡ true
-right-of true b e = e
-right-of false b e = absurd (clash (sym e))
-
-pub and-of : {a b : Bool} → a ≡ true → b ≡ true → (a && b) ≡ true
-and-of p q = simp (p, q)
-
-pub and-false : (a b : Bool) → b ≡ false → (a && b) ≡ false
-and-false true b e = e
-and-false false b e = refl
 
 -- not a, or b
 pub given : (a b : Bool) → (not a || b) ≡ true → a ≡ true → b ≡ true
@@ -47,15 +30,15 @@ if-so a b e f = f ∙ rw e
 
 pub from-low : (low high x : ℕ) → within low high x ≡ true → low ≤ x
 unfolding within
-from-low low high x e = leb-true low x (left-of (leb low x) (leb x high) e)
+from-low low high x e = leb-true low x (left-true (leb low x) (leb x high) e)
 
 pub to-high : (low high x : ℕ) → within low high x ≡ true → x ≤ high
 unfolding within
-to-high low high x e = leb-true x high (right-of (leb low x) (leb x high) e)
+to-high low high x e = leb-true x high (right-true (leb low x) (leb x high) e)
 
 pub within-of : {low high x : ℕ} → low ≤ x → x ≤ high → within low high x ≡ true
 unfolding within
-within-of {low} {high} {x} h k = and-of (le-leb low x h) (le-leb x high k)
+within-of {low} {high} {x} h k = both-true (le-leb low x h) (le-leb x high k)
 
 -- ---- all and some
 
@@ -66,13 +49,13 @@ module _ (test : ℕ → Bool) where
   all-at (suc count) k e h = go (ℕ-discrete k count) (all-at count k)
     where
       go : Dec (k ≡ count) → (all test count ≡ true → k < count → test k ≡ true) → test k ≡ true
-      go (yes q) r = ap test q ∙ right-of (all test count) (test count) e
-      go (no q) r = r (left-of (all test count) (test count) e) (omega arith)
+      go (yes q) r = ap test q ∙ right-true (all test count) (test count) e
+      go (no q) r = r (left-true (all test count) (test count) e) (omega arith)
 
   pub all-of : (count : ℕ) → ((k : ℕ) → k < count → test k ≡ true) → all test count ≡ true
   unfolding all
   all-of zero f = refl
-  all-of (suc count) f = and-of (all-of count (λ k h. f k (omega arith))) (f count (omega arith))
+  all-of (suc count) f = both-true (all-of count (λ k h. f k (omega arith))) (f count (omega arith))
 
   pub all-fails : (count k : ℕ) → k < count → test k ≡ false → all test count ≡ false
   unfolding all
@@ -131,7 +114,7 @@ module _ {test : ℕ → Bool} {count : ℕ} where
   module _ {k : ℕ} (p : Passed test count k) where
     pub passed-by : k < count → test k ≡ true → Passed test count (k + 1)
     unfolding all
-    passed-by h e = record { inside = omega arith; so-far = rw (add-one k) (and-of (p .so-far) e) }
+    passed-by h e = record { inside = omega arith; so-far = rw (add-one k) (both-true (p .so-far) e) }
 
     pub passed-next : {b : Bool} → k < count → b ≡ test k → not b ≡ false → Passed test count (k + 1)
     passed-next h e t = passed-by h (sym e ∙ not-false _ t)

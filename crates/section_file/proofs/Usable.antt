@@ -11,13 +11,15 @@ use native.Mathlib.Decide.{ℕ-discrete, decLt}
 use lib.ListN.{length}
 use lib.Dec.{ltb, eqb}
 use borrow.Author.Tests.{ltb-true, lt-ltb, leb-true, le-leb, eqb-true, eq-eqb}
+use Rattle.trellis.specs.Bounds.{mostStates, mostWords, mostSymbols, leastQ, mostQ}
 use Rattle.trellis.specs.Own.{Edge, edgeLess}
 use Rattle.trellis.specs.Layout.{qOf, nOf, statesOf, vertexCountOf, edgeCountOf, sectionLength, rootState, goalState}
-use Rattle.trellis.proofs.Bools.{holds, is-true}
+use Rattle.trellis.proofs.Bools.{holds, is-true, left-true, right-true, both-true}
 use Rattle.trellis.proofs.ThreeNumbers.{lower-yes, lower-of, lower-chain}
-use Rattle.section_file.specs.Usable.{all, any, within, higher, rising, inside, above, covered, noTwins, apart, noForwardTwins, noBackwardTwins, stepGood, stepEdge, sizesRight, countsRight, whole, statesRight, stepRight, usable}
-use Rattle.section_file.specs.Sound.{EdgeBefore, Hit, Sound}
-use Rattle.section_file.proofs.Tests.{left-of, right-of, and-of, given, given-of, from-low, to-high, within-of, all-at, all-of, any-at, any-of}
+use Rattle.section_file.specs.Usable.{higher, rising, inside, above, covered, noTwins, apart, noForwardTwins, noBackwardTwins, stepGood, stepEdge, sizesRight, countsRight, whole, statesRight, stepRight, usable}
+use Rattle.trellis.specs.Lists.{all, any, within}
+use Rattle.section_file.specs.inner.Sound.{EdgeBefore, Hit, Sound}
+use Rattle.section_file.proofs.Tests.{given, given-of, from-low, to-high, within-of, all-at, all-of, any-at, any-of}
 use Rattle.section_file.proofs.Marking.{apart-of, apart-says}
 
 -- ---- end states
@@ -38,8 +40,8 @@ module _ (f : ℕ → ℕ) (count bound : ℕ) where
   pub rising-says : rising f count bound ≡ true → Rises f count bound
   unfolding rising higher
   rising-says e = record {
-    below = λ v h. ltb-true (f v) bound (left-of _ _ (at v h));
-    ascend = rises-on (λ v h. ltb-true (f v) (f (suc v)) (right-of (ltb (f (suc v)) bound) _ (at (suc v) h)));
+    below = λ v h. ltb-true (f v) bound (left-true _ _ (at v h));
+    ascend = rises-on (λ v h. ltb-true (f v) (f (suc v)) (right-true (ltb (f (suc v)) bound) _ (at (suc v) h)));
   }
     where
       at : (v : ℕ) → v < count → (ltb (f v) bound && higher f v) ≡ true
@@ -47,7 +49,7 @@ module _ (f : ℕ → ℕ) (count bound : ℕ) where
 
   pub rising-of : Rises f count bound → rising f count bound ≡ true
   unfolding rising higher
-  rising-of r = all-of (λ v. ltb (f v) bound && higher f v) count (λ v h. and-of (lt-ltb (f v) bound (r .below v h)) (go v h))
+  rising-of r = all-of (λ v. ltb (f v) bound && higher f v) count (λ v h. both-true (lt-ltb (f v) bound (r .below v h)) (go v h))
     where
       go : (v : ℕ) → v < count → higher f v ≡ true
       go zero h = refl
@@ -107,39 +109,39 @@ module _ (e : ℕ → Edge) (count q froms tos : ℕ) (innerTo innerFrom : Bool)
   pub step-says : stepGood e count q froms tos innerTo innerFrom ≡ true → SoundStep e count q froms tos innerTo innerFrom
   unfolding stepGood inside above noForwardTwins noBackwardTwins
   step-says g = record {
-    fromBelow = λ k h. ltb-true (e k .from) froms (left-of _ _ (in-at k h));
-    symbolBelow = λ k h. ltb-true (e k .symbol) q (left-of _ _ (right-of (ltb (e k .from) froms) _ (in-at k h)));
-    toBelow = λ k h. ltb-true (e k .to) tos (right-of (ltb (e k .symbol) q) _ (right-of (ltb (e k .from) froms) _ (in-at k h)));
-    ascend = above-on (λ k h. lower-yes _ _ _ _ _ _ (holds (all-at (above e) count (suc k) (left-of _ _ g1) h)));
-    onward = covered-says (λ k. e k .from) count froms (left-of _ _ g2);
-    inward = covered-says (λ k. e k .to) count tos (left-of _ _ g3);
-    forward = λ t. no-twins-says (λ k. e k .from) (λ k. e k .symbol) (λ k. e k .to) count (given innerTo _ (left-of _ _ g4) t);
-    backward = λ t. no-twins-says (λ k. e k .to) (λ k. e k .symbol) (λ k. e k .from) count (given innerFrom _ (right-of (not innerTo || noForwardTwins e count) _ g4) t);
+    fromBelow = λ k h. ltb-true (e k .from) froms (left-true _ _ (in-at k h));
+    symbolBelow = λ k h. ltb-true (e k .symbol) q (left-true _ _ (right-true (ltb (e k .from) froms) _ (in-at k h)));
+    toBelow = λ k h. ltb-true (e k .to) tos (right-true (ltb (e k .symbol) q) _ (right-true (ltb (e k .from) froms) _ (in-at k h)));
+    ascend = above-on (λ k h. lower-yes _ _ _ _ _ _ (holds (all-at (above e) count (suc k) (left-true _ _ g1) h)));
+    onward = covered-says (λ k. e k .from) count froms (left-true _ _ g2);
+    inward = covered-says (λ k. e k .to) count tos (left-true _ _ g3);
+    forward = λ t. no-twins-says (λ k. e k .from) (λ k. e k .symbol) (λ k. e k .to) count (given innerTo _ (left-true _ _ g4) t);
+    backward = λ t. no-twins-says (λ k. e k .to) (λ k. e k .symbol) (λ k. e k .from) count (given innerFrom _ (right-true (not innerTo || noForwardTwins e count) _ g4) t);
   }
     where
       in-at : (k : ℕ) → k < count → inside e q froms tos k ≡ true
-      in-at k h = all-at (inside e q froms tos) count k (left-of _ _ g) h
+      in-at k h = all-at (inside e q froms tos) count k (left-true _ _ g) h
 
       g1 : (all (above e) count && (covered (λ k. e k .from) count froms && (covered (λ k. e k .to) count tos && ((not innerTo || noForwardTwins e count) && (not innerFrom || noBackwardTwins e count))))) ≡ true
-      g1 = right-of (all (inside e q froms tos) count) _ g
+      g1 = right-true (all (inside e q froms tos) count) _ g
 
       g2 : (covered (λ k. e k .from) count froms && (covered (λ k. e k .to) count tos && ((not innerTo || noForwardTwins e count) && (not innerFrom || noBackwardTwins e count)))) ≡ true
-      g2 = right-of (all (above e) count) _ g1
+      g2 = right-true (all (above e) count) _ g1
 
       g3 : (covered (λ k. e k .to) count tos && ((not innerTo || noForwardTwins e count) && (not innerFrom || noBackwardTwins e count))) ≡ true
-      g3 = right-of (covered (λ k. e k .from) count froms) _ g2
+      g3 = right-true (covered (λ k. e k .from) count froms) _ g2
 
       g4 : ((not innerTo || noForwardTwins e count) && (not innerFrom || noBackwardTwins e count)) ≡ true
-      g4 = right-of (covered (λ k. e k .to) count tos) _ g3
+      g4 = right-true (covered (λ k. e k .to) count tos) _ g3
 
   pub step-of : SoundStep e count q froms tos innerTo innerFrom → stepGood e count q froms tos innerTo innerFrom ≡ true
   unfolding stepGood inside above noForwardTwins noBackwardTwins
   step-of s =
-      and-of (all-of (inside e q froms tos) count (λ k h. and-of (lt-ltb _ _ (s .fromBelow k h)) (and-of (lt-ltb _ _ (s .symbolBelow k h)) (lt-ltb _ _ (s .toBelow k h)))))
-      (and-of (all-of (above e) count up)
-      (and-of (covered-of (λ k. e k .from) count froms (s .onward))
-      (and-of (covered-of (λ k. e k .to) count tos (s .inward))
-      (and-of (given-of innerTo _ (λ t. no-twins-of (λ k. e k .from) (λ k. e k .symbol) (λ k. e k .to) count (s .forward t)))
+      both-true (all-of (inside e q froms tos) count (λ k h. both-true (lt-ltb _ _ (s .fromBelow k h)) (both-true (lt-ltb _ _ (s .symbolBelow k h)) (lt-ltb _ _ (s .toBelow k h)))))
+      (both-true (all-of (above e) count up)
+      (both-true (covered-of (λ k. e k .from) count froms (s .onward))
+      (both-true (covered-of (λ k. e k .to) count tos (s .inward))
+      (both-true (given-of innerTo _ (λ t. no-twins-of (λ k. e k .from) (λ k. e k .symbol) (λ k. e k .to) count (s .forward t)))
       (given-of innerFrom _ (λ t. no-twins-of (λ k. e k .to) (λ k. e k .symbol) (λ k. e k .from) count (s .backward t)))))))
     where
       up : (k : ℕ) → k < count → above e k ≡ true
@@ -152,17 +154,17 @@ module _ (l : List ℕ) where
   pub usable-sound : usable l ≡ true → Sound l
   unfolding usable sizesRight countsRight whole statesRight stepRight
   usable-sound u = record {
-    qFrom = from-low 2 4 (qOf l) (left-of _ _ sizes);
-    qTo = to-high 2 4 (qOf l) (left-of _ _ sizes);
-    nFrom = from-low 1 8 (nOf l) (left-of _ _ sizes1);
-    nTo = to-high 1 8 (nOf l) (left-of _ _ sizes1);
-    statesFrom = from-low 1 64 (statesOf l) (right-of (within 1 8 (nOf l)) _ sizes1);
-    statesTo = to-high 1 64 (statesOf l) (right-of (within 1 8 (nOf l)) _ sizes1);
-    verticesFrom = λ t h. from-low 1 1024 (vertexCountOf l t) (vertices t h);
-    verticesTo = λ t h. to-high 1 1024 (vertexCountOf l t) (vertices t h);
-    edgesFrom = λ t h. from-low 1 1024 (edgeCountOf l t) (edges t h);
-    edgesTo = λ t h. to-high 1 1024 (edgeCountOf l t) (edges t h);
-    whole = leb-true (sectionLength l) (length l) (left-of _ _ u2);
+    qFrom = from-low leastQ mostQ (qOf l) (left-true _ _ sizes);
+    qTo = to-high leastQ mostQ (qOf l) (left-true _ _ sizes);
+    nFrom = from-low 1 mostSymbols (nOf l) (left-true _ _ sizes1);
+    nTo = to-high 1 mostSymbols (nOf l) (left-true _ _ sizes1);
+    statesFrom = from-low 1 mostStates (statesOf l) (right-true (within 1 mostSymbols (nOf l)) _ sizes1);
+    statesTo = to-high 1 mostStates (statesOf l) (right-true (within 1 mostSymbols (nOf l)) _ sizes1);
+    verticesFrom = λ t h. from-low 1 mostWords (vertexCountOf l t) (vertices t h);
+    verticesTo = λ t h. to-high 1 mostWords (vertexCountOf l t) (vertices t h);
+    edgesFrom = λ t h. from-low 1 mostWords (edgeCountOf l t) (edges t h);
+    edgesTo = λ t h. to-high 1 mostWords (edgeCountOf l t) (edges t h);
+    whole = leb-true (sectionLength l) (length l) (left-true _ _ u2);
     rootsBelow = roots .below;
     rootsAscend = roots .ascend;
     goalsBelow = goals .below;
@@ -178,34 +180,34 @@ module _ (l : List ℕ) where
   }
     where
       u1 : (countsRight l && (whole l && (statesRight l && all (stepRight l) (nOf l)))) ≡ true
-      u1 = right-of (sizesRight l) _ u
+      u1 = right-true (sizesRight l) _ u
 
       u2 : (whole l && (statesRight l && all (stepRight l) (nOf l))) ≡ true
-      u2 = right-of (countsRight l) _ u1
+      u2 = right-true (countsRight l) _ u1
 
       u3 : (statesRight l && all (stepRight l) (nOf l)) ≡ true
-      u3 = right-of (whole l) _ u2
+      u3 = right-true (whole l) _ u2
 
       sizes : sizesRight l ≡ true
-      sizes = left-of _ _ u
+      sizes = left-true _ _ u
 
-      sizes1 : (within 1 8 (nOf l) && within 1 64 (statesOf l)) ≡ true
-      sizes1 = right-of (within 2 4 (qOf l)) _ sizes
+      sizes1 : (within 1 mostSymbols (nOf l) && within 1 mostStates (statesOf l)) ≡ true
+      sizes1 = right-true (within leastQ mostQ (qOf l)) _ sizes
 
-      vertices : (t : ℕ) → t ≤ nOf l → within 1 1024 (vertexCountOf l t) ≡ true
-      vertices t h = all-at (λ t. within 1 1024 (vertexCountOf l t)) (nOf l + 1) t (left-of _ _ (left-of (countsRight l) _ u1)) (omega arith)
+      vertices : (t : ℕ) → t ≤ nOf l → within 1 mostWords (vertexCountOf l t) ≡ true
+      vertices t h = all-at (λ t. within 1 mostWords (vertexCountOf l t)) (nOf l + 1) t (left-true _ _ (left-true (countsRight l) _ u1)) (omega arith)
 
-      edges : (t : ℕ) → t < nOf l → within 1 1024 (edgeCountOf l t) ≡ true
-      edges t h = all-at (λ t. within 1 1024 (edgeCountOf l t)) (nOf l) t (right-of (all (λ t. within 1 1024 (vertexCountOf l t)) (nOf l + 1)) _ (left-of (countsRight l) _ u1)) h
+      edges : (t : ℕ) → t < nOf l → within 1 mostWords (edgeCountOf l t) ≡ true
+      edges t h = all-at (λ t. within 1 mostWords (edgeCountOf l t)) (nOf l) t (right-true (all (λ t. within 1 mostWords (vertexCountOf l t)) (nOf l + 1)) _ (left-true (countsRight l) _ u1)) h
 
       roots : Rises (rootState l) (vertexCountOf l 0) (statesOf l)
-      roots = rising-says (rootState l) (vertexCountOf l 0) (statesOf l) (left-of _ _ (left-of (statesRight l) _ u3))
+      roots = rising-says (rootState l) (vertexCountOf l 0) (statesOf l) (left-true _ _ (left-true (statesRight l) _ u3))
 
       goals : Rises (goalState l) (vertexCountOf l (nOf l)) (statesOf l)
-      goals = rising-says (goalState l) (vertexCountOf l (nOf l)) (statesOf l) (right-of (rising (rootState l) (vertexCountOf l 0) (statesOf l)) _ (left-of (statesRight l) _ u3))
+      goals = rising-says (goalState l) (vertexCountOf l (nOf l)) (statesOf l) (right-true (rising (rootState l) (vertexCountOf l 0) (statesOf l)) _ (left-true (statesRight l) _ u3))
 
       step : (t : ℕ) → t < nOf l → SoundStep (stepEdge l t) (edgeCountOf l t) (qOf l) (vertexCountOf l t) (vertexCountOf l (t + 1)) (ltb (t + 1) (nOf l)) (ltb 0 t)
-      step t h = step-says (stepEdge l t) _ _ _ _ _ _ (all-at (stepRight l) (nOf l) t (right-of (statesRight l) _ u3) h)
+      step t h = step-says (stepEdge l t) _ _ _ _ _ _ (all-at (stepRight l) (nOf l) t (right-true (statesRight l) _ u3) h)
 
       next : (t : ℕ) {x : ℕ} → x < vertexCountOf l (t + 1) → x < vertexCountOf l (suc t)
       next t {x} h = subst (λ u. x < vertexCountOf l u) (add-one t) h
@@ -216,11 +218,11 @@ module _ (l : List ℕ) where
   pub sound-usable : Sound l → usable l ≡ true
   unfolding usable sizesRight countsRight whole statesRight stepRight
   sound-usable s =
-      and-of (and-of (within-of (s .qFrom) (s .qTo)) (and-of (within-of (s .nFrom) (s .nTo)) (within-of (s .statesFrom) (s .statesTo))))
-      (and-of (and-of (all-of (λ t. within 1 1024 (vertexCountOf l t)) (nOf l + 1) (λ t h. within-of (s .verticesFrom t (omega arith)) (s .verticesTo t (omega arith))))
-      (all-of (λ t. within 1 1024 (edgeCountOf l t)) (nOf l) (λ t h. within-of (s .edgesFrom t h) (s .edgesTo t h))))
-      (and-of (le-leb (sectionLength l) (length l) (s .whole))
-      (and-of (and-of (rising-of (rootState l) (vertexCountOf l 0) (statesOf l) (record { below = s .rootsBelow; ascend = s .rootsAscend }))
+      both-true (both-true (within-of (s .qFrom) (s .qTo)) (both-true (within-of (s .nFrom) (s .nTo)) (within-of (s .statesFrom) (s .statesTo))))
+      (both-true (both-true (all-of (λ t. within 1 mostWords (vertexCountOf l t)) (nOf l + 1) (λ t h. within-of (s .verticesFrom t (omega arith)) (s .verticesTo t (omega arith))))
+      (all-of (λ t. within 1 mostWords (edgeCountOf l t)) (nOf l) (λ t h. within-of (s .edgesFrom t h) (s .edgesTo t h))))
+      (both-true (le-leb (sectionLength l) (length l) (s .whole))
+      (both-true (both-true (rising-of (rootState l) (vertexCountOf l 0) (statesOf l) (record { below = s .rootsBelow; ascend = s .rootsAscend }))
       (rising-of (goalState l) (vertexCountOf l (nOf l)) (statesOf l) (record { below = s .goalsBelow; ascend = s .goalsAscend })))
       (all-of (stepRight l) (nOf l) (λ t h. step-of (stepEdge l t) _ _ _ _ _ _ (record {
         fromBelow = λ k. s .fromBelow t k h;

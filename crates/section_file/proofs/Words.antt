@@ -16,11 +16,12 @@ use Rattle.trellis.specs.Layout.{nOf, statesOf, vertexCountOf, edgeCountOf, edg
 use Rattle.trellis.proofs.Lists.{From, of-run, of-each, in-place}
 use Rattle.trellis.proofs.Ascending.{Ascends}
 use Rattle.trellis.proofs.ThreeNumbers.{lower-of, lower-never}
-use Rattle.paths.proofs.Ordered.{Ordered, ended, leads, of-flatMap}
+use Rattle.paths.proofs.Ordered.{of-flatMap, run-ordered}
+use Rattle.paths.specs.inner.Ordered.{Ordered, leads}
 use Rattle.paths.proofs.Ascent.{Orderly, Symbols, no-more, one-more, Bounded, PathFits}
 use Rattle.paths.proofs.Words.{whole-fits, words-ordered}
 use Rattle.section_file.specs.Usable.{stepEdge}
-use Rattle.section_file.specs.Sound.{Sound}
+use Rattle.section_file.specs.inner.Sound.{Sound}
 
 -- ---- runs in order
 
@@ -36,12 +37,6 @@ run-ascends {A} less f at (suc count) h = (first, run-ascends less f (suc at) co
     first y m =
         let F = of-run f (suc at) count y m in
         subst (λ x. T (less x y)) (ap f (add-zero at)) (subst (λ x. T (less (f (at + 0)) x)) (ap f (shift (F .at)) ∙ sym (F .is)) (h 0 (suc (F .at)) (omega arith) (omega (arith, F .below))))
-
-run-ordered : {A : Type 0} {R : A → A → Type 0} (f : ℕ → A) (at count : ℕ) → ((j k : ℕ) → j < k → k < at + count → R (f j) (f k)) → Ordered R (run f at count)
-unfolding run
-run-ordered f at zero h = ended
-run-ordered {A} {R} f at (suc count) h = leads (λ y m. let F = of-run f (suc at) count y m in subst (R (f at)) (sym (F .is)) (h at (suc at + F .at) (omega arith) (omega (arith, F .below))))
-    (run-ordered f (suc at) count (λ j k a b. h j k a (omega arith)))
 
 -- an ordered list has no repeats, and its places ascend
 pub ordered-once : (l : List Word) → Ordered Before l → Once l

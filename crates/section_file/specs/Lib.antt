@@ -1,5 +1,3 @@
 -- Sections in numbers: which are usable, what that says of them, and the answers of this crate.
 pub mod Usable
-pub mod Sound
-pub mod Places
-pub mod Answer
+pub mod inner

@@ -1,25 +1,14 @@
 -- Document 01's usable, condition by condition, of the section at the front of a list of numbers; more numbers may follow it.
 -- Every condition computes. Step t + 1 of document 01 is written as step t.
-use mathlib.Core.Bool.{Bool, true, false, not, _&&_, _||_}
+use mathlib.Core.Bool.{Bool, true, not, _&&_, _||_}
 use mathlib.Core.List.{List}
 use Prim.Native.Nat.{ℕ, zero, suc, _+_}
 use lib.Dec.{leb, ltb, eqb}
 use lib.ListN.{length}
+use Rattle.trellis.specs.Bounds.{mostStates, mostWords, mostSymbols, leastQ, mostQ}
+use Rattle.trellis.specs.Lists.{all, any, within}
 use Rattle.trellis.specs.Own.{Edge, edgeLess}
 use Rattle.trellis.specs.Layout.{qOf, nOf, statesOf, vertexCountOf, edgeCountOf, edgesBefore, sectionLength, rootState, goalState, edgeNumber}
-
--- the test passes at every number below count
-unfoldable pub all : (ℕ → Bool) → ℕ → Bool
-all test zero = true
-all test (suc count) = all test count && test count
-
--- the test passes at some number below count
-unfoldable pub any : (ℕ → Bool) → ℕ → Bool
-any test zero = false
-any test (suc count) = any test count || test count
-
-unfoldable pub within : ℕ → ℕ → ℕ → Bool
-within low high x = leb low x && leb x high
 
 -- ---- end states: f v is the state of vertex v
 
@@ -83,13 +72,13 @@ module _ (l : List ℕ) where
 
   -- q, n and S are in bounds
   unfoldable pub sizesRight : Bool
-  sizesRight = within 2 4 (qOf l) && (within 1 8 (nOf l) && within 1 64 (statesOf l))
+  sizesRight = within leastQ mostQ (qOf l) && (within 1 mostSymbols (nOf l) && within 1 mostStates (statesOf l))
 
   -- every vertex count and step's edge count is 1 to 1,024
   unfoldable pub countsRight : Bool
   countsRight =
-      all (λ t. within 1 1024 (vertexCountOf l t)) (nOf l + 1)
-      && all (λ t. within 1 1024 (edgeCountOf l t)) (nOf l)
+      all (λ t. within 1 mostWords (vertexCountOf l t)) (nOf l + 1)
+      && all (λ t. within 1 mostWords (edgeCountOf l t)) (nOf l)
 
   -- the part that the section's counts give it is there whole
   unfoldable pub whole : Bool

@@ -3,11 +3,13 @@
 ghost use mathlib.Core.Path.{_≡_};
 ghost use Prim.Native.Nat.{_+_, _≤_};
 ghost use lib.ListN.{getD, drop};
+ghost use Rattle.trellis.specs.Bounds.{mostWords, mostSymbols};
 ghost use Rattle.trellis.specs.Own.{edgeLess};
 ghost use Rattle.trellis.specs.Layout.{nOf, pairsPlace, symbolsPlace};
-ghost use Rattle.section_file.specs.Usable.{all, within, inside, above, sizesRight, countsRight, stepRight};
-ghost use Rattle.section_file.specs.Places.{PlacesOf, Counted, StepAt};
-ghost use Rattle.section_file.specs.Answer.{partOf, edgeAt, held, meant};
+ghost use Rattle.section_file.specs.Usable.{inside, above, sizesRight, countsRight, stepRight};
+ghost use Rattle.trellis.specs.Lists.{all, within};
+ghost use Rattle.section_file.specs.inner.Places.{PlacesOf, Counted, StepAt};
+ghost use Rattle.section_file.specs.inner.Answer.{partOf, edgeAt, held, meant};
 
 mod states;
 mod twins;
@@ -60,7 +62,7 @@ fn sizes_right(l: &[u16]) -> bool
 // Whether the numbers from a place on are all 1 to 1,024.
 fn all_counts(l: &[u16], at: usize, count: usize) -> bool
     requires { ⌜ (at ≤ 100) × (count ≤ 100) ⌝ }
-    ensures { λ r. ⌜ r ≡ all (λ t. within 1 1024 (getD (now (l .entry)) (at + t) 0)) count ⌝ }
+    ensures { λ r. ⌜ r ≡ all (λ t. within 1 mostWords (getD (now (l .entry)) (at + t) 0)) count ⌝ }
 {
     let mut t: usize = 0;
     while t < count {
@@ -73,7 +75,7 @@ fn all_counts(l: &[u16], at: usize, count: usize) -> bool
 }
 
 fn counts_right(l: &[u16], n: usize) -> bool
-    requires { ⌜ (n ≡ nOf (now l)) × (n ≤ 8) ⌝ }
+    requires { ⌜ (n ≡ nOf (now l)) × (n ≤ mostSymbols) ⌝ }
     ensures { λ r. ⌜ r ≡ countsRight (now (l .entry)) ⌝ }
 {
     if !all_counts(l, 3, n + 1) {
@@ -83,7 +85,7 @@ fn counts_right(l: &[u16], n: usize) -> bool
 }
 
 fn places_of(l: &[u16], n: usize) -> Places
-    requires { ⌜ (n ≡ nOf (now l)) × (n ≤ 8) ⌝ }
+    requires { ⌜ (n ≡ nOf (now l)) × (n ≤ mostSymbols) ⌝ }
     ensures { λ r. ⌜ PlacesOf (now (l .entry)) (r .roots) (r .goals) (r .pairs) (r .symbols) (r .end) ⌝ }
 {
     let edges = total(l, 4 + n, n);
@@ -102,7 +104,7 @@ fn places_of(l: &[u16], n: usize) -> Places
 }
 
 fn edge_at(l: &[u16], pairs: usize, symbols: usize, k: usize) -> Edge
-    requires { ⌜ (pairs ≤ 4000000) × (symbols ≤ 4000000) × (k ≤ 1024) ⌝ }
+    requires { ⌜ (pairs ≤ 4000000) × (symbols ≤ 4000000) × (k ≤ mostWords) ⌝ }
     ensures { λ r. ⌜ r ≡ held (edgeAt (now (l .entry)) pairs symbols k) ⌝ }
 {
     Edge {
@@ -121,7 +123,7 @@ fn is_inside(
     froms: u16,
     tos: u16,
 ) -> bool
-    requires { ⌜ (pairs ≤ 4000000) × (symbols ≤ 4000000) × (k ≤ 1024) ⌝ }
+    requires { ⌜ (pairs ≤ 4000000) × (symbols ≤ 4000000) × (k ≤ mostWords) ⌝ }
     ensures { λ r. ⌜ r ≡ inside (edgeAt (now (l .entry)) pairs symbols) q froms tos k ⌝ }
 {
     let e = edge_at(l, pairs, symbols, k);
@@ -143,7 +145,7 @@ fn all_inside(
     froms: u16,
     tos: u16,
 ) -> bool
-    requires { ⌜ (pairs ≤ 4000000) × (symbols ≤ 4000000) × (count ≤ 1024) ⌝ }
+    requires { ⌜ (pairs ≤ 4000000) × (symbols ≤ 4000000) × (count ≤ mostWords) ⌝ }
     ensures { λ r. ⌜ r ≡ all (inside (edgeAt (now (l .entry)) pairs symbols) q froms tos) count ⌝ }
 {
     let mut k: usize = 0;
@@ -176,7 +178,7 @@ fn is_less(e: Edge, f: Edge) -> bool
 
 // Whether edge k is above the edge before it.
 fn is_above(l: &[u16], pairs: usize, symbols: usize, k: usize) -> bool
-    requires { ⌜ (pairs ≤ 4000000) × (symbols ≤ 4000000) × (k ≤ 1024) ⌝ }
+    requires { ⌜ (pairs ≤ 4000000) × (symbols ≤ 4000000) × (k ≤ mostWords) ⌝ }
     ensures { λ r. ⌜ r ≡ above (edgeAt (now (l .entry)) pairs symbols) k ⌝ }
 {
     if k == 0 {
@@ -189,7 +191,7 @@ fn is_above(l: &[u16], pairs: usize, symbols: usize, k: usize) -> bool
 }
 
 fn all_above(l: &[u16], pairs: usize, symbols: usize, count: usize) -> bool
-    requires { ⌜ (pairs ≤ 4000000) × (symbols ≤ 4000000) × (count ≤ 1024) ⌝ }
+    requires { ⌜ (pairs ≤ 4000000) × (symbols ≤ 4000000) × (count ≤ mostWords) ⌝ }
     ensures { λ r. ⌜ r ≡ all (above (edgeAt (now (l .entry)) pairs symbols)) count ⌝ }
 {
     let mut k: usize = 0;

@@ -4,15 +4,16 @@ ghost use mathlib.Core.Bool.{_&&_};
 ghost use Prim.Native.Nat.{_+_, _≤_};
 ghost use lib.Dec.{ltb};
 ghost use lib.ListN.{getD};
+ghost use Rattle.trellis.specs.Bounds.{mostWords};
 ghost use Rattle.trellis.specs.Layout.{rootsPlace, goalsPlace};
 ghost use Rattle.section_file.specs.Usable.{higher, rising, statesRight};
-ghost use Rattle.section_file.specs.Places.{Counted};
+ghost use Rattle.section_file.specs.inner.Places.{Counted};
 use numbers::number;
 use numbers::wide;
 
 // Whether vertex v has a state above that of the vertex before it.
 fn is_higher(l: &[u16], at: usize, v: usize) -> bool
-    requires { ⌜ (at ≤ 4000000) × (v ≤ 1024) ⌝ }
+    requires { ⌜ (at ≤ 4000000) × (v ≤ mostWords) ⌝ }
     ensures { λ r. ⌜ r ≡ higher (λ u. getD (now (l .entry)) (at + u) 0) v ⌝ }
 {
     if v == 0 {
@@ -22,7 +23,7 @@ fn is_higher(l: &[u16], at: usize, v: usize) -> bool
 }
 
 fn state_right(l: &[u16], at: usize, v: usize, bound: u16) -> bool
-    requires { ⌜ (at ≤ 4000000) × (v ≤ 1024) ⌝ }
+    requires { ⌜ (at ≤ 4000000) × (v ≤ mostWords) ⌝ }
     ensures { λ r. ⌜ r ≡ (ltb (getD (now (l .entry)) (at + v) 0) bound && higher (λ u. getD (now (l .entry)) (at + u) 0) v) ⌝ }
 {
     if number(l, at + v) >= bound {
@@ -32,7 +33,7 @@ fn state_right(l: &[u16], at: usize, v: usize, bound: u16) -> bool
 }
 
 fn is_rising(l: &[u16], at: usize, count: usize, bound: u16) -> bool
-    requires { ⌜ (at ≤ 4000000) × (count ≤ 1024) ⌝ }
+    requires { ⌜ (at ≤ 4000000) × (count ≤ mostWords) ⌝ }
     ensures { λ r. ⌜ r ≡ rising (λ v. getD (now (l .entry)) (at + v) 0) count bound ⌝ }
 {
     let mut v: usize = 0;

@@ -5,8 +5,9 @@ ghost use mathlib.Core.Bool.{not, _||_, _&&_};
 ghost use Prim.Native.Nat.{_+_, _*_, _<_, _≤_};
 ghost use lib.Dec.{eqb};
 ghost use lib.ListN.{getD};
+ghost use Rattle.trellis.specs.Bounds.{mostWords};
 ghost use Rattle.section_file.specs.Usable.{covered, noTwins};
-ghost use Rattle.section_file.specs.Places.{Vertices, Symbols, Marks};
+ghost use Rattle.section_file.specs.inner.Places.{Vertices, Symbols, Marks};
 use numbers::number;
 use numbers::wide;
 
@@ -26,7 +27,7 @@ fn marks(l: &[u16], at: usize, count: usize) -> [u8; 1024]
 
 // Whether each vertex stands among the numbers at every second place.
 pub fn covers(l: &[u16], at: usize, count: usize, vertices: usize) -> bool
-    requires { ⌜ Vertices (now l) at count × (vertices ≤ 1024) ⌝ }
+    requires { ⌜ Vertices (now l) at count × (vertices ≤ mostWords) ⌝ }
     ensures { λ r. ⌜ r ≡ covered (λ k. getD (now (l .entry)) (at + 2 * k) 0) count vertices ⌝ }
 {
     let marks = marks(l, at, count);
@@ -42,7 +43,7 @@ pub fn covers(l: &[u16], at: usize, count: usize, vertices: usize) -> bool
 
 // Whether a vertex was seen, and was another one. What is seen is kept as one more than the vertex.
 fn differs(seen: u16, vertex: u16) -> bool
-    requires { ⌜ vertex < 1024 ⌝ }
+    requires { ⌜ vertex < mostWords ⌝ }
     ensures { λ r. ⌜ r ≡ (not (eqb seen 0) && not (eqb seen (vertex + 1))) ⌝ }
 {
     if seen == 0 {

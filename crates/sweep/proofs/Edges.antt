@@ -1,54 +1,31 @@
 -- Edges by their numbers: those of a step lie between what the steps before it have and what it has with them, and each is read from its places.
-use mathlib.Core.Path.{_≡_, refl, sym, ap, ap₂, subst, _∙_}
+use mathlib.Core.Path.{_≡_, sym, ap, ap₂, subst, _∙_}
 use mathlib.Core.List.{List, [], _∷_}
-use Prim.Native.Nat.{ℕ, zero, suc, _+_, _-_, _*_, _≤_, _<_}
-use native.Mathlib.Nat.{add-zero, add-suc, zero-add, le-refl}
+use Prim.Native.Nat.{ℕ, suc, _+_, _-_, _*_, _≤_, _<_}
 use native.Mathlib.Numerals.{add-one}
 use native.Mathlib.Omega.{arith}
 use lib.ListN.{getD}
+use Rattle.trellis.specs.Bounds.{mostWords}
 use Rattle.trellis.specs.Lists.{_∈_, run, sum}
 use Rattle.trellis.specs.Own.{Edge}
 use Rattle.trellis.specs.Section.{leaving}
-use Rattle.trellis.proofs.Lists.{of-run, sum-last}
+use Rattle.trellis.proofs.Lists.{of-run}
 use Rattle.paths.proofs.Sections.{from-of, listed-of}
 use Rattle.trellis.specs.Layout.{nOf, vertexCountOf, edgeCountOf, edgesBefore, allEdges, rootsPlace, goalsPlace, pairsPlace, symbolsPlace, edgeNumber, stepEdges}
-use Rattle.sweep.specs.Rows.{Fits, Placed}
-use Rattle.sweep.specs.Loops.{between, InStep, Reads, EdgeAt}
+use Rattle.trellis.proofs.Laid.{before-more, before-le, before-few}
+use Rattle.sweep.specs.inner.Rows.{Fits, Placed}
+use Rattle.sweep.specs.inner.Loops.{between, InStep, Reads, EdgeAt}
 
 module _ (l : List ℕ) where
-  pub before-none : edgesBefore l 0 ≡ 0
-  unfolding edgesBefore sum
-  before-none = refl
-
-  pub before-more : (t : ℕ) → edgesBefore l (suc t) ≡ edgesBefore l t + edgeCountOf l t
-  unfolding edgesBefore
-  before-more t = sum-last (edgeCountOf l) 0 t ∙ ap (λ k. sum (edgeCountOf l) 0 t + edgeCountOf l k) (zero-add t)
-
-  before-later : (t k : ℕ) → edgesBefore l t ≤ edgesBefore l (t + k)
-  before-later t zero = rw (add-zero t) (le-refl (edgesBefore l t))
-  before-later t (suc k) = let h = before-later t k in let e = before-more (t + k) in rw (add-suc t k) (omega arith)
-
-  pub before-le : (t u : ℕ) → t ≤ u → edgesBefore l t ≤ edgesBefore l u
-  before-le t u h = let e : t + (u - t) ≡ u = omega arith in rw e at (before-later t (u - t))
-
   -- the edges of a step
   pub edges-are : (t : ℕ) {lo hi : ℕ} → lo ≡ edgesBefore l t → hi ≡ edgesBefore l (suc t) → between l lo hi ≡ stepEdges l t
   unfolding stepEdges
   edges-are t {lo} {hi} p q =
-      let m = before-more t in
+      let m = before-more l t in
       let e : hi - lo ≡ edgeCountOf l t = omega arith in
       ap₂ (run (edgeNumber l)) p e
 
 -- ---- how many there are
-
--- a step has 1,024 at most
-pub edges-few : {l : List ℕ} → Fits l → (t : ℕ) → t ≤ nOf l → edgesBefore l t ≤ 1024 * t
-edges-few {l} F zero h = let e = before-none l in omega arith
-edges-few {l} F (suc t) h =
-    let i = edges-few F t (omega arith) in
-    let m = before-more l t in
-    let b = F .edgesTo t (omega arith) in
-    omega arith
 
 -- their sum, as it is read
 pub edges-sum : (l : List ℕ) {n edges : ℕ} → n ≡ nOf l → edges ≡ sum (λ t. getD l (4 + n + t) 0) 0 n → edges ≡ allEdges l
@@ -65,7 +42,7 @@ placed {l} {n} F e t r g p s =
     let a = F .verticesTo 0 (omega arith) in
     let b = F .verticesTo (nOf l) (omega arith) in
     let u = edges-sum l e t in
-    let w = edges-few F (nOf l) (omega arith) in
+    let w = before-few l (F .edgesTo) (nOf l) (omega arith) in
     let x = F .nTo in
     record { nIs = e; rootsIs = omega arith; goalsIs = omega arith; pairsIs = omega arith; symbolsIs = omega arith; edgesIs = u; near = omega arith }
 
@@ -133,6 +110,6 @@ known {l} {t} {v} F h e m =
 
 -- ---- counts as they are read
 
-pub vertices-to : {l : List ℕ} {t : ℕ} → Fits l → t ≤ nOf l → getD l (3 + t) 0 ≤ 1024
+pub vertices-to : {l : List ℕ} {t : ℕ} → Fits l → t ≤ nOf l → getD l (3 + t) 0 ≤ mostWords
 unfolding vertexCountOf
 vertices-to {l} {t} F h = F .verticesTo t h

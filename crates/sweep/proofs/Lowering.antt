@@ -10,14 +10,15 @@ use native.Mathlib.Decide.{ℕ-discrete}
 use borrow.Author.Tests.{eq-eqb, ne-eqb}
 use lib.ListN.{length, getD, set, length-set}
 use lib.Seq.{getD-set-same, getD-set-other}
+use Rattle.trellis.specs.Bounds.{mostWords, mostSymbols}
 use Rattle.trellis.specs.Lists.{keep}
 use Rattle.trellis.specs.Own.{Edge}
 use Rattle.trellis.specs.Section.{leaving}
 use Rattle.trellis.specs.Layout.{vertexCountOf, edgeNumber}
-use Rattle.paths.specs.Costs.{plus, minAll}
+use Rattle.paths.specs.inner.Costs.{plus, minAll}
 use Rattle.paths.proofs.Capped.{min-all-le}
-use Rattle.sweep.specs.Rows.{top}
-use Rattle.sweep.specs.Loops.{between, InStep, Reads, EdgeAt, through, InClear, Clear, InLower, Lowered}
+use Rattle.sweep.specs.inner.Rows.{top}
+use Rattle.sweep.specs.inner.Loops.{between, InStep, Reads, EdgeAt, through, InClear, Clear, InLower, Lowered}
 use Rattle.sweep.proofs.Edges.{between-more, between-none}
 
 pub leaving-here : (e : Edge) (es : List Edge) (v : ℕ) → e .from ≡ v → leaving v (e ∷ es) ≡ e ∷ leaving v es
@@ -37,22 +38,22 @@ min-cons f e es = refl
 pub clear-start : {t count : ℕ} {rows : List ℕ} → length rows ≡ 9216 → InClear t count rows rows 0
 clear-start h = record { v-le = omega arith; long = h; cleared = λ u l. absurd (not-suc-le-zero l); kept = λ j l. refl }
 
-pub clear-more : {t count v : ℕ} {old rows : List ℕ} → InClear t count old rows v → t ≤ 8 → count ≤ 1024 → v < count
-    → InClear t count old (set rows (1024 * t + v) top) (v + 1)
+pub clear-more : {t count v : ℕ} {old rows : List ℕ} → InClear t count old rows v → t ≤ mostSymbols → count ≤ mostWords → v < count
+    → InClear t count old (set rows (mostWords * t + v) top) (v + 1)
 clear-more {t} {count} {v} {old} {rows} I a b h = record { v-le = omega arith; long = simp length-set (I .long); cleared = cleared; kept = kept }
   where
-    n : 1024 * t + v < length rows
+    n : mostWords * t + v < length rows
     n = omega (arith, I .long)
 
-    cleared : (u : ℕ) → u < v + 1 → getD (set rows (1024 * t + v) top) (1024 * t + u) 0 ≡ top
+    cleared : (u : ℕ) → u < v + 1 → getD (set rows (mostWords * t + v) top) (mostWords * t + u) 0 ≡ top
     cleared u l = go (ℕ-discrete u v)
       where
-        go : Dec (u ≡ v) → getD (set rows (1024 * t + v) top) (1024 * t + u) 0 ≡ top
-        go (yes e) = subst (λ k. getD (set rows (1024 * t + v) top) (1024 * t + k) 0 ≡ top) (sym e) (getD-set-same rows (1024 * t + v) top 0 n)
-        go (no e) = getD-set-other rows (1024 * t + v) (1024 * t + u) top 0 (λ k. e (omega arith)) ∙ I .cleared u (omega arith)
+        go : Dec (u ≡ v) → getD (set rows (mostWords * t + v) top) (mostWords * t + u) 0 ≡ top
+        go (yes e) = subst (λ k. getD (set rows (mostWords * t + v) top) (mostWords * t + k) 0 ≡ top) (sym e) (getD-set-same rows (mostWords * t + v) top 0 n)
+        go (no e) = getD-set-other rows (mostWords * t + v) (mostWords * t + u) top 0 (λ k. e (omega arith)) ∙ I .cleared u (omega arith)
 
-    kept : (j : ℕ) → 1024 * suc t ≤ j → getD (set rows (1024 * t + v) top) j 0 ≡ getD old j 0
-    kept j l = getD-set-other rows (1024 * t + v) j top 0 (λ k. absurd (omega arith)) ∙ I .kept j l
+    kept : (j : ℕ) → mostWords * suc t ≤ j → getD (set rows (mostWords * t + v) top) j 0 ≡ getD old j 0
+    kept j l = getD-set-other rows (mostWords * t + v) j top 0 (λ k. absurd (omega arith)) ∙ I .kept j l
 
 pub clear-end : {t count v : ℕ} {old rows : List ℕ} → InClear t count old rows v → count ≤ v → InClear t count old rows count
 clear-end {t} {count} {v} {old} {rows} I h = let e : v ≡ count = omega (arith, I .v-le) in subst (InClear t count old rows) e I
@@ -75,50 +76,50 @@ lower-start {l} {prices} {rows} {t} {lo} {hi} C S = record {
 
 pub lower-more : {l prices old rows : List ℕ} {t lo hi pairs symbols i from symbol to s here x : ℕ} → Reads l pairs symbols → InStep l t lo hi
     → InLower l prices t lo hi old rows i → i < hi → EdgeAt l i from symbol to → s ≡ symbol
-    → here ≡ plus top (getD prices (4 * t + s) 0) (getD rows (1024 * (t + 1) + to) 0) → x ≡ min (getD rows (1024 * t + from) 0) here
-    → InLower l prices t lo hi old (set rows (1024 * t + from) x) (i + 1)
+    → here ≡ plus top (getD prices (4 * t + s) 0) (getD rows (mostWords * (t + 1) + to) 0) → x ≡ min (getD rows (mostWords * t + from) 0) here
+    → InLower l prices t lo hi old (set rows (mostWords * t + from) x) (i + 1)
 lower-more {l} {prices} {old} {rows} {t} {lo} {hi} {i = i} {from} {symbol} {to} {s} {here} {x} R S I h A o p q =
     record { lo-le = omega (arith, I .lo-le); i-le = omega arith; long = simp length-set (I .long); kept = kept; small = small; left = left }
   where
     few : t < 8
     few = omega (arith, S .inside, R .fits .nTo)
 
-    place : 1024 * t + from < length rows
+    place : mostWords * t + from < length rows
     place = omega (arith, I .long, A .from-lt, few)
 
     gives : here ≡ through prices old t (edgeNumber l i)
     gives =
-        let a : 1024 * (t + 1) + to ≡ 1024 * suc t + to = omega arith in
-        let k : getD rows (1024 * (t + 1) + to) 0 ≡ getD old (1024 * suc t + to) 0 = ap (λ j. getD rows j 0) a ∙ I .kept (1024 * suc t + to) (omega arith) in
+        let a : mostWords * (t + 1) + to ≡ mostWords * suc t + to = omega arith in
+        let k : getD rows (mostWords * (t + 1) + to) 0 ≡ getD old (mostWords * suc t + to) 0 = ap (λ j. getD rows j 0) a ∙ I .kept (mostWords * suc t + to) (omega arith) in
         p ∙ ap (plus top (getD prices (4 * t + s) 0)) k
-        ∙ ap₂ (λ a g. plus top (getD prices (4 * t + a) 0) (getD old (1024 * suc t + g) 0)) (o ∙ A .symbol-is) (A .to-is)
+        ∙ ap₂ (λ a g. plus top (getD prices (4 * t + a) 0) (getD old (mostWords * suc t + g) 0)) (o ∙ A .symbol-is) (A .to-is)
 
-    kept : (j : ℕ) → 1024 * suc t ≤ j → getD (set rows (1024 * t + from) x) j 0 ≡ getD old j 0
-    kept j k = getD-set-other rows (1024 * t + from) j x 0 (λ z. absurd (omega (arith, A .from-lt))) ∙ I .kept j k
+    kept : (j : ℕ) → mostWords * suc t ≤ j → getD (set rows (mostWords * t + from) x) j 0 ≡ getD old j 0
+    kept j k = getD-set-other rows (mostWords * t + from) j x 0 (λ z. absurd (omega (arith, A .from-lt))) ∙ I .kept j k
 
-    here-is : (v : ℕ) → from ≡ v → getD (set rows (1024 * t + from) x) (1024 * t + v) 0 ≡ min (getD rows (1024 * t + v) 0) here
+    here-is : (v : ℕ) → from ≡ v → getD (set rows (mostWords * t + from) x) (mostWords * t + v) 0 ≡ min (getD rows (mostWords * t + v) 0) here
     here-is v z =
-        subst (λ u. getD (set rows (1024 * t + from) x) (1024 * t + u) 0 ≡ min (getD rows (1024 * t + u) 0) here) z
-        (getD-set-same rows (1024 * t + from) x 0 place ∙ q)
+        subst (λ u. getD (set rows (mostWords * t + from) x) (mostWords * t + u) 0 ≡ min (getD rows (mostWords * t + u) 0) here) z
+        (getD-set-same rows (mostWords * t + from) x 0 place ∙ q)
 
-    other-is : (v : ℕ) → (from ≡ v → ⊥) → getD (set rows (1024 * t + from) x) (1024 * t + v) 0 ≡ getD rows (1024 * t + v) 0
-    other-is v z = getD-set-other rows (1024 * t + from) (1024 * t + v) x 0 (λ k. z (omega arith))
+    other-is : (v : ℕ) → (from ≡ v → ⊥) → getD (set rows (mostWords * t + from) x) (mostWords * t + v) 0 ≡ getD rows (mostWords * t + v) 0
+    other-is v z = getD-set-other rows (mostWords * t + from) (mostWords * t + v) x 0 (λ k. z (omega arith))
 
-    small : (v : ℕ) → v < vertexCountOf l t → getD (set rows (1024 * t + from) x) (1024 * t + v) 0 ≤ top
+    small : (v : ℕ) → v < vertexCountOf l t → getD (set rows (mostWords * t + from) x) (mostWords * t + v) 0 ≤ top
     small v k = go (ℕ-discrete from v)
       where
-        go : Dec (from ≡ v) → getD (set rows (1024 * t + from) x) (1024 * t + v) 0 ≤ top
+        go : Dec (from ≡ v) → getD (set rows (mostWords * t + from) x) (mostWords * t + v) 0 ≤ top
         go (yes z) = let a = here-is v z in let b = I .small v k in omega arith
         go (no z) = let a = other-is v z in let b = I .small v k in omega arith
 
     left : (v : ℕ) → v < vertexCountOf l t
-        → min (getD (set rows (1024 * t + from) x) (1024 * t + v) 0) (minAll top (through prices old t) (leaving v (between l (i + 1) hi)))
+        → min (getD (set rows (mostWords * t + from) x) (mostWords * t + v) 0) (minAll top (through prices old t) (leaving v (between l (i + 1) hi)))
         ≡ minAll top (through prices old t) (leaving v (between l lo hi))
     left v k = go (ℕ-discrete from v) (I .left v k) (ap (λ es. minAll top (through prices old t) (leaving v es)) (between-more l h))
       where
-        go : Dec (from ≡ v) → min (getD rows (1024 * t + v) 0) (minAll top (through prices old t) (leaving v (between l i hi))) ≡ minAll top (through prices old t) (leaving v (between l lo hi))
+        go : Dec (from ≡ v) → min (getD rows (mostWords * t + v) 0) (minAll top (through prices old t) (leaving v (between l i hi))) ≡ minAll top (through prices old t) (leaving v (between l lo hi))
             → minAll top (through prices old t) (leaving v (between l i hi)) ≡ minAll top (through prices old t) (leaving v (edgeNumber l i ∷ between l (i + 1) hi))
-            → min (getD (set rows (1024 * t + from) x) (1024 * t + v) 0) (minAll top (through prices old t) (leaving v (between l (i + 1) hi)))
+            → min (getD (set rows (mostWords * t + from) x) (mostWords * t + v) 0) (minAll top (through prices old t) (leaving v (between l (i + 1) hi)))
             ≡ minAll top (through prices old t) (leaving v (between l lo hi))
         go (yes z) f m =
             let a = here-is v z in
@@ -139,7 +140,7 @@ pub lower-end : {l prices old rows : List ℕ} {t lo hi i : ℕ} → InLower l p
 unfolding leaving keep minAll
 lower-end {l} {prices} {old} {rows} {t} {lo} {hi} {i} I h = record { long = I .long; kept = I .kept; at = at }
   where
-    at : (v : ℕ) → v < vertexCountOf l t → getD rows (1024 * t + v) 0 ≡ minAll top (through prices old t) (leaving v (between l lo hi))
+    at : (v : ℕ) → v < vertexCountOf l t → getD rows (mostWords * t + v) 0 ≡ minAll top (through prices old t) (leaving v (between l lo hi))
     at v k =
         let f = I .left v k in
         let s = I .small v k in

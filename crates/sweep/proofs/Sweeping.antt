@@ -5,17 +5,19 @@ use Prim.Native.Nat.{ℕ, suc, _+_, _-_, _*_, _≤_, _<_}
 use native.Mathlib.Omega.{arith}
 use native.Mathlib.Decide.{decLe}
 use lib.ListN.{length, getD}
+use Rattle.trellis.specs.Bounds.{mostWords}
 use Rattle.trellis.specs.Lists.{_∈_}
 use Rattle.trellis.specs.Own.{Edge}
 use Rattle.trellis.specs.Section.{leaving}
 use Rattle.trellis.specs.Layout.{nOf, vertexCountOf, edgeCountOf, edgesBefore, stepEdges}
-use Rattle.paths.specs.Costs.{plus, minAll}
-use Rattle.paths.specs.Sections.{sectionLeast}
+use Rattle.paths.specs.inner.Costs.{plus, minAll}
+use Rattle.paths.specs.inner.Sections.{sectionLeast}
 use Rattle.paths.proofs.Capped.{min-same-in}
 use Rattle.paths.proofs.Sections.{across, least-step}
-use Rattle.sweep.specs.Rows.{top, Fits, Placed, Priced, Rows, Swept}
-use Rattle.sweep.specs.Loops.{through, InClear, Lowered, InSweep}
-use Rattle.sweep.proofs.Edges.{before-more, edges-are, known}
+use Rattle.sweep.specs.inner.Rows.{top, Fits, Placed, Priced, Rows, Swept}
+use Rattle.sweep.specs.inner.Loops.{through, InClear, Lowered, InSweep}
+use Rattle.sweep.proofs.Edges.{edges-are, known}
+use Rattle.trellis.proofs.Laid.{before-more}
 
 -- what an edge of step t gives
 pub through-is : {l prices rows : List ℕ} {cost : ℕ → ℕ → ℕ} {number : ℕ → ℕ} {t : ℕ} → Fits l → t < nOf l → Priced l prices cost → Rows l cost number (suc t) rows
@@ -28,24 +30,24 @@ rows-step : {l prices cleared new : List ℕ} {cost : ℕ → ℕ → ℕ} {numb
     → Priced l prices cost → Rows l cost number (suc t) cleared → Lowered l prices t lo hi cleared new → Rows l cost number t new
 rows-step {l} {prices} {cleared} {new} {cost} {number} {t} {lo} {hi} F h p q P R L = record { at = at }
   where
-    here : (v : ℕ) → v < vertexCountOf l t → getD new (1024 * t + v) 0 ≡ sectionLeast (stepEdges l) cost top number (nOf l - t) t v
+    here : (v : ℕ) → v < vertexCountOf l t → getD new (mostWords * t + v) 0 ≡ sectionLeast (stepEdges l) cost top number (nOf l - t) t v
     here v k =
         let e : nOf l - t ≡ suc (nOf l - suc t) = omega arith in
         L .at v k ∙ ap (λ es. minAll top (through prices cleared t) (leaving v es)) (edges-are l t p q)
         ∙ min-same-in top (leaving v (stepEdges l t)) (through-is F h P R v)
         ∙ sym (ap (λ j. sectionLeast (stepEdges l) cost top number j t v) e ∙ least-step (stepEdges l) cost top number (nOf l - suc t) t v)
 
-    at : (u v : ℕ) → t ≤ u → u ≤ nOf l → v < vertexCountOf l u → getD new (1024 * u + v) 0 ≡ sectionLeast (stepEdges l) cost top number (nOf l - u) u v
+    at : (u v : ℕ) → t ≤ u → u ≤ nOf l → v < vertexCountOf l u → getD new (mostWords * u + v) 0 ≡ sectionLeast (stepEdges l) cost top number (nOf l - u) u v
     at u v a b k = go (decLe (suc t) u)
       where
-        go : Dec (suc t ≤ u) → getD new (1024 * u + v) 0 ≡ sectionLeast (stepEdges l) cost top number (nOf l - u) u v
-        go (yes c) = L .kept (1024 * u + v) (omega arith) ∙ R .at u v c b k
+        go : Dec (suc t ≤ u) → getD new (mostWords * u + v) 0 ≡ sectionLeast (stepEdges l) cost top number (nOf l - u) u v
+        go (yes c) = L .kept (mostWords * u + v) (omega arith) ∙ R .at u v c b k
         go (no c) =
             let e : t ≡ u = omega arith in
-            subst (λ w. v < vertexCountOf l w → getD new (1024 * w + v) 0 ≡ sectionLeast (stepEdges l) cost top number (nOf l - w) w v) e (here v) k
+            subst (λ w. v < vertexCountOf l w → getD new (mostWords * w + v) 0 ≡ sectionLeast (stepEdges l) cost top number (nOf l - w) w v) e (here v) k
 
 rows-kept : {l old new : List ℕ} {cost : ℕ → ℕ → ℕ} {number : ℕ → ℕ} {t count : ℕ} → InClear t count old new count → Rows l cost number (suc t) old → Rows l cost number (suc t) new
-rows-kept I R = record { at = λ u v a b k. I .kept (1024 * u + v) (omega arith) ∙ R .at u v a b k }
+rows-kept I R = record { at = λ u v a b k. I .kept (mostWords * u + v) (omega arith) ∙ R .at u v a b k }
 
 -- ---- the loop over the steps
 

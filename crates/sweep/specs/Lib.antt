@@ -1,3 +1,2 @@
 -- One section's costs as the code keeps them, and what its loops keep.
-pub mod Rows
-pub mod Loops
+pub mod inner

@@ -3,10 +3,11 @@
 ghost use mathlib.Core.Path.{_≡_};
 ghost use Prim.Native.Nat.{_+_, _*_, _<_, _≤_, min};
 ghost use lib.ListN.{length};
+ghost use Rattle.trellis.specs.Bounds.{mostWords, mostSymbols};
 ghost use Rattle.trellis.specs.Layout.{allEdges};
-ghost use Rattle.paths.specs.Costs.{plus};
-ghost use Rattle.sweep.specs.Rows.{top, Fits, Placed, Swept};
-ghost use Rattle.sweep.specs.Loops.{InStep, Reads, EdgeAt, InClear, Clear, Lowered};
+ghost use Rattle.paths.specs.inner.Costs.{plus};
+ghost use Rattle.sweep.specs.inner.Rows.{top, Fits, Placed, Swept};
+ghost use Rattle.sweep.specs.inner.Loops.{InStep, Reads, EdgeAt, InClear, Clear, Lowered};
 use numbers::wide;
 
 // No path.
@@ -73,7 +74,7 @@ fn edge_at(l: &[u16], pairs: usize, symbols: usize, i: usize) -> Edge
 
 // No path yet from the first vertices of depth t.
 fn clear(t: usize, count: usize, rows: &mut [u64; 9216])
-    requires { ⌜ (t ≤ 8) × (count ≤ 1024) × (length (now rows) ≡ 9216) ⌝ }
+    requires { ⌜ (t ≤ mostSymbols) × (count ≤ mostWords) × (length (now rows) ≡ 9216) ⌝ }
     ensures { λ _. ⌜ InClear t count (now (rows .entry)) (now (rows .exit)) count ⌝ }
 {
     let mut v: usize = 0;

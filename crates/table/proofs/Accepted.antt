@@ -2,46 +2,39 @@
 -- A refusal has a number other than 0, so a file with number 0 got past each check; a search that finds nothing has passed over every number; and
 -- words of which each is above the one before it ascend pairwise, because the order is transitive.
 use mathlib.Core.Path.{_≡_, refl, sym, ap, subst}
-use mathlib.Core.Bool.{Bool, true, false, cond, not, _||_, _&&_}
+use mathlib.Core.Bool.{Bool, true, false, cond, not}
 use mathlib.Core.List.{List}
 use Prim.Native.Nat.{ℕ, suc, _+_, _*_, _^_, _≤_, _<_}
 use native.Mathlib.Omega.{arith}
 use lib.Dec.{ltb, eqb}
 use lib.ListN.{length}
 use borrow.Author.Tests.{ltb-true, ltb-false, le-ltb, eqb-true, not-false}
+use Rattle.trellis.specs.Bounds.{mostStates, mostWords, mostSymbols, leastQ, mostQ}
 use Rattle.trellis.specs.Lists.{_∈_}
 use Rattle.trellis.specs.Label.{isLabel}
 use Rattle.trellis.specs.Word.{Word, word, wordAt, Before, Table}
 use Rattle.trellis.specs.Outcome.{badLength, badSize, badWord, notAbove}
-use Rattle.trellis.proofs.Bools.{holds}
+use Rattle.trellis.proofs.Bools.{holds, neither, left-true}
 use Rattle.trellis.proofs.Lists.{each-at, of-each}
 use Rattle.trellis.proofs.ThreeNumbers.{lower-yes}
 use Rattle.trellis.proofs.Words.{ascends-all}
 use Rattle.table.specs.File.{byteAt, wordCount, fileWord, fileWords, lengthBad, outside, sizeOutside, wordOutside, wordBad, isBefore, orderBad}
 use Rattle.table.specs.File.{firstSize, firstBad, firstNotAbove, TableFile, refused, accepted, tableFile, fileOutcome}
-use Rattle.table.specs.Good.{Passes, Good}
+use Rattle.table.specs.inner.Good.{Passes, Good}
 use Rattle.table.proofs.Search.{none-passes, nothing-found}
 use Rattle.table.proofs.Checks.{words-length}
 
 -- ---- tests taken apart
 
-or-no : (a b : Bool) → (a || b) ≡ false → (a ≡ false) × (b ≡ false)
-or-no true b e = absurd (let z : _≡_ {A = ℕ} 0 1 = cc in omega arith)
-or-no false b e = (refl, e)
-
-left-true : (a b : Bool) → (a && b) ≡ true → a ≡ true
-left-true true b e = refl
-left-true false b e = e
-
 inside : (x low high : ℕ) → outside x low high ≡ false → (low ≤ x) × (x ≤ high)
 unfolding outside
-inside x low high e = let p = or-no (ltb x low) (ltb high x) e in (ltb-false x low (p .0), ltb-false high x (p .1))
+inside x low high e = let p = neither (ltb x low) (ltb high x) e in (ltb-false x low (p .0), ltb-false high x (p .1))
 
 word-inside : (q n S : ℕ) (w : Word) → wordOutside q n S w ≡ false → (w .root < S) × (w .goal < S) × (isLabel q n (w .label) ≡ true)
 unfolding wordOutside
 word-inside q n S w e =
-    let a = or-no (not (ltb (w .root) S)) _ e in
-    let b = or-no (not (ltb (w .goal) S)) _ (a .1) in
+    let a = neither (not (ltb (w .root) S)) _ e in
+    let b = neither (not (ltb (w .goal) S)) _ (a .1) in
     (ltb-true _ _ (not-false _ (a .0)), ltb-true _ _ (not-false _ (b .0)), not-false _ (b .1))
 
 label-fits : (q n x : ℕ) → isLabel q n x ≡ true → x < 4 ^ n
@@ -98,24 +91,24 @@ module _ (file : List ℕ) where
     length-right : (5 ≤ length file) × (length file ≡ 5 + 4 * wordCount file)
     unfolding lengthBad
     length-right =
-        let no = or-no (ltb (length file) 5) (not (eqb (length file) (5 + 4 * wordCount file))) (p .lengthRight) in
+        let no = neither (ltb (length file) 5) (not (eqb (length file) (5 + 4 * wordCount file))) (p .lengthRight) in
         (ltb-false _ _ (no .0), eqb-true _ _ (not-false _ (no .1)))
 
-    q-inside : (2 ≤ byteAt file 0) × (byteAt file 0 ≤ 4)
+    q-inside : (leastQ ≤ byteAt file 0) × (byteAt file 0 ≤ 4)
     unfolding sizeOutside
-    q-inside = inside (byteAt file 0) 2 4 (p .sizesInside 0 (omega arith))
+    q-inside = inside (byteAt file 0) leastQ mostQ (p .sizesInside 0 (omega arith))
 
-    n-inside : (1 ≤ byteAt file 1) × (byteAt file 1 ≤ 8)
+    n-inside : (1 ≤ byteAt file 1) × (byteAt file 1 ≤ mostSymbols)
     unfolding sizeOutside
-    n-inside = inside (byteAt file 1) 1 8 (p .sizesInside 1 (omega arith))
+    n-inside = inside (byteAt file 1) 1 mostSymbols (p .sizesInside 1 (omega arith))
 
-    states-inside : (1 ≤ byteAt file 2) × (byteAt file 2 ≤ 64)
+    states-inside : (1 ≤ byteAt file 2) × (byteAt file 2 ≤ mostStates)
     unfolding sizeOutside
-    states-inside = inside (byteAt file 2) 1 64 (p .sizesInside 2 (omega arith))
+    states-inside = inside (byteAt file 2) 1 mostStates (p .sizesInside 2 (omega arith))
 
-    count-inside : (1 ≤ wordCount file) × (wordCount file ≤ 1024)
+    count-inside : (1 ≤ wordCount file) × (wordCount file ≤ mostWords)
     unfolding sizeOutside
-    count-inside = inside (wordCount file) 1 1024 (p .sizesInside 3 (omega arith))
+    count-inside = inside (wordCount file) 1 mostWords (p .sizesInside 3 (omega arith))
 
     right-at : (i : ℕ) → i < wordCount file → (fileWord file i .root < byteAt file 2) × (fileWord file i .goal < byteAt file 2)
         × (isLabel (byteAt file 0) (byteAt file 1) (fileWord file i .label) ≡ true)

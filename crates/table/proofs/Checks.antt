@@ -12,7 +12,7 @@ use Rattle.trellis.specs.Word as trellis
 use Rattle.trellis.proofs.Lists.{length-run}
 use Rattle.table.specs.File.{byteAt, wordCount, fileWord, fileWords, lengthBad, wordOutside, wordBad, isBefore, orderBad}
 use Rattle.table.specs.File.{firstSize, firstBad, firstNotAbove, tableFile, fileOutcome}
-use Rattle.table.specs.Answer.{checkedOutcome, held, meant}
+use Rattle.table.specs.inner.Answer.{checkedOutcome, held, meant}
 use Rattle.table.specs.declared.Word.{Word}
 use Rattle.table.specs.declared.Checked.the-variants.{Table, Length, Size, Word as BadWord, Order}
 use Rattle.table.proofs.Search.{Clear, clear-start, clear-next, clear-found, clear-all}

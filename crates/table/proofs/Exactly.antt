@@ -8,6 +8,7 @@ use Prim.Native.Nat.{ℕ, zero, suc, _+_, _*_, _≤_, _<_}
 use native.Mathlib.Omega.{arith}
 use lib.ListN.{length}
 use borrow.Author.Tests.{lt-ltb, le-ltb, eq-eqb}
+use Rattle.trellis.specs.Bounds.{mostStates, mostWords, mostSymbols, leastQ, mostQ}
 use Rattle.trellis.specs.Lists.{_∈_}
 use Rattle.trellis.specs.Label.{isLabel}
 use Rattle.trellis.specs.Word.{Word, wordAt, Before}
@@ -16,8 +17,8 @@ use Rattle.trellis.proofs.Lists.{in-each}
 use Rattle.trellis.proofs.ThreeNumbers.{lower-of}
 use Rattle.table.specs.File.{byteAt, wordCount, fileWord, fileWords, lengthBad, outside, sizeOutside, wordOutside, wordBad, isBefore, orderBad}
 use Rattle.table.specs.File.{TableFile, refused, accepted, tableFile, fileOutcome}
-use Rattle.table.specs.Good.{Passes, Good}
-use Rattle.table.specs.Answer.{checkedOutcome, isTable}
+use Rattle.table.specs.inner.Good.{Passes, Good}
+use Rattle.table.specs.inner.Answer.{checkedOutcome, isTable}
 use Rattle.table.specs.declared.Checked.{Checked}
 use Rattle.table.specs.declared.Checked.the-variants.{Table, Length, Size, Word as BadWord, Order}
 use Rattle.table.proofs.Accepted.{passes-accepted, zero-passes, word-at-is}
@@ -65,10 +66,10 @@ module _ (file : List ℕ) where
   module _ (g : Good file (byteAt file 0) (byteAt file 1) (byteAt file 2) (fileWords file)) where
     good-sizes : (place : ℕ) → place < 4 → sizeOutside file place ≡ false
     unfolding sizeOutside
-    good-sizes zero h = not-outside (byteAt file 0) 2 4 (g .qFrom) (g .qTo)
-    good-sizes (suc zero) h = not-outside (byteAt file 1) 1 8 (g .nFrom) (g .nTo)
-    good-sizes (suc (suc zero)) h = not-outside (byteAt file 2) 1 64 (g .statesFrom) (g .statesTo)
-    good-sizes (suc (suc (suc zero))) h = let l = g .countIs in not-outside (wordCount file) 1 1024 (omega arith) (omega arith)
+    good-sizes zero h = not-outside (byteAt file 0) leastQ mostQ (g .qFrom) (g .qTo)
+    good-sizes (suc zero) h = not-outside (byteAt file 1) 1 mostSymbols (g .nFrom) (g .nTo)
+    good-sizes (suc (suc zero)) h = not-outside (byteAt file 2) 1 mostStates (g .statesFrom) (g .statesTo)
+    good-sizes (suc (suc (suc zero))) h = let l = g .countIs in not-outside (wordCount file) 1 mostWords (omega arith) (omega arith)
     good-sizes (suc (suc (suc (suc place)))) h = absurd (omega arith)
 
     good-words : (i : ℕ) → i < wordCount file → wordBad file i ≡ false

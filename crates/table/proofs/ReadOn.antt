@@ -9,8 +9,8 @@ use native.Mathlib.Nat.{le-refl}
 use lib.Dec.{ltb}
 use borrow.Author.Tests.{ltb-true, ltb-false}
 use Rattle.table.specs.File.{wordCount, lengthBad}
-use Rattle.table.specs.Answer.{foundAt}
-use Rattle.table.specs.ReadOn.{placeAfter, placeOf, ReadsAll}
+use Rattle.table.specs.inner.Answer.{foundAt}
+use Rattle.table.specs.inner.ReadOn.{placeAfter, placeOf, ReadsAll}
 use Rattle.table.proofs.Reading.{nothing-past, here, stays-past, goes-on}
 
 module _ (file : List ℕ) (right : lengthBad file ≡ false) where

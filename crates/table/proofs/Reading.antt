@@ -7,9 +7,10 @@ use Prim.Native.Nat.{ℕ, _+_, _*_, _≤_, _<_}
 use lib.ListN.{length, List·getD-eq-default}
 use lib.Dec.{eqb}
 use borrow.Author.Tests.{lt-ltb, le-ltb}
+use Rattle.trellis.specs.Bounds.{mostStates, mostWords, leastQ, mostQ}
 use Rattle.table.specs.File.{byteAt, twoBytes, wordCount, fileWord, lengthBad, outside, sizeOutside}
-use Rattle.table.specs.Answer.{held, foundAt}
-use Rattle.table.specs.ReadOn.{placeAfter}
+use Rattle.table.specs.inner.Answer.{held, foundAt}
+use Rattle.table.specs.inner.ReadOn.{placeAfter}
 use Rattle.table.specs.declared.Word.{Word}
 use Rattle.table.specs.declared.Found.the-variants.{Word as Here, Nothing}
 
@@ -39,7 +40,7 @@ module _ (file : List ℕ) where
   held-is i a b d = simp (a, b, d)
 
   -- the four sizes, each with its bounds
-  pub q-outside : {b : Bool} → b ≡ outside (byteAt file 0) 2 4 → b ≡ sizeOutside file 0
+  pub q-outside : {b : Bool} → b ≡ outside (byteAt file 0) leastQ mostQ → b ≡ sizeOutside file 0
   unfolding sizeOutside
   q-outside e = e
 
@@ -47,11 +48,11 @@ module _ (file : List ℕ) where
   unfolding sizeOutside
   n-outside e = e
 
-  pub states-outside : {b : Bool} → b ≡ outside (byteAt file 2) 1 64 → b ≡ sizeOutside file 2
+  pub states-outside : {b : Bool} → b ≡ outside (byteAt file 2) 1 mostStates → b ≡ sizeOutside file 2
   unfolding sizeOutside
   states-outside e = e
 
-  pub count-outside : {w : ℕ} {b : Bool} → w ≡ wordCount file → b ≡ outside w 1 1024 → b ≡ sizeOutside file 3
+  pub count-outside : {w : ℕ} {b : Bool} → w ≡ wordCount file → b ≡ outside w 1 mostWords → b ≡ sizeOutside file 3
   unfolding sizeOutside
   count-outside a e = e ∙ simp a
 

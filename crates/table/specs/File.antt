@@ -5,6 +5,7 @@ use mathlib.Core.List.{List, [], _∷_}
 use Prim.Native.Nat.{ℕ, zero, suc, _+_, _*_}
 use lib.ListN.{length, getD}
 use lib.Dec.{ltb, eqb}
+use Rattle.trellis.specs.Bounds.{mostStates, mostWords}
 use Rattle.trellis.specs.Lists.{each, first, lower}
 use Rattle.trellis.specs.Label.{isLabel}
 use Rattle.trellis.specs.Word.{Word, word}
@@ -49,7 +50,7 @@ unfoldable pub sizeOutside : List ℕ → ℕ → Bool
 sizeOutside file place =
     outside (getD (byteAt file 0 ∷ byteAt file 1 ∷ byteAt file 2 ∷ wordCount file ∷ []) place 0)
     (getD (2 ∷ 1 ∷ 1 ∷ 1 ∷ []) place 0)
-    (getD (4 ∷ 8 ∷ 64 ∷ 1024 ∷ []) place 0)
+    (getD (4 ∷ 8 ∷ mostStates ∷ mostWords ∷ []) place 0)
 
 -- a state is not below S, or the label is not one of n symbols below q
 unfoldable pub wordOutside : ℕ → ℕ → ℕ → Word → Bool

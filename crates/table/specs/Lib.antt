@@ -1,5 +1,3 @@
 -- What a table file says, what holds of an accepted one, and what the functions of this crate answer.
 pub mod File
-pub mod Good
-pub mod Answer
-pub mod ReadOn
+pub mod inner

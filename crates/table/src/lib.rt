@@ -3,7 +3,7 @@
 ghost use mathlib.Core.Path.{_≡_};
 ghost use Rattle.table.specs.File.{byteAt, twoBytes, wordCount, fileWord, lengthBad, outside, wordOutside, isBefore};
 ghost use Rattle.table.specs.File.{firstSize, firstBad, firstNotAbove, tableFile, fileOutcome};
-ghost use Rattle.table.specs.Answer.{checkedOutcome, held, meant, foundAt};
+ghost use Rattle.table.specs.inner.Answer.{checkedOutcome, held, meant, foundAt};
 use label::is_label;
 use label::precedes;
 

@@ -2,8 +2,8 @@
 // functions that take a slice and an index.
 ghost use mathlib.Core.Path.{_≡_};
 ghost use Rattle.table.specs.File.{fileWord};
-ghost use Rattle.table.specs.Answer.{held, foundAt};
-ghost use Rattle.table.specs.ReadOn.{placeAfter};
+ghost use Rattle.table.specs.inner.Answer.{held, foundAt};
+ghost use Rattle.table.specs.inner.ReadOn.{placeAfter};
 use crate::Found;
 use crate::Word;
 use crate::length_bad;

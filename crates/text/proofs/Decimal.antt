@@ -11,7 +11,7 @@ use lib.Dec.{leb}
 use borrow.Author.Tests.{leb-true, leb-false}
 use Rattle.trellis.specs.Lists.{_∈_}
 use Rattle.text.specs.Line.{digit, digits}
-use Rattle.text.specs.Decimal.{standsFor, IsDecimal}
+use Rattle.text.specs.inner.Decimal.{standsFor, IsDecimal}
 
 stands-last : (ds : List ℕ) (v d : ℕ) → standsFor v (ds ++ (d ∷ [])) ≡ 10 * standsFor v ds + (d - 48)
 unfolding standsFor

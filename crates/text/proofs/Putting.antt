@@ -8,7 +8,7 @@ use lib.ListN.{length, getD, set, take, drop, length-set, length-drop, take-appe
 use lib.Seq.{take-all, take-suc, take-nil, take-append-le, take-length, length-take-le, getD-drop, ext-getD, getD-set-other}
 use Rattle.trellis.proofs.Lists.{flatMap-append}
 use Rattle.text.specs.Line.{spaced, line}
-use Rattle.text.specs.Put.{Put}
+use Rattle.text.specs.inner.Put.{Put}
 
 cut-twice : (m : ℕ) (xs ys : List ℕ) → take m (take m xs ++ ys) ≡ take m (xs ++ ys)
 cut-twice zero xs ys = refl

@@ -9,7 +9,7 @@ use lib.Dec.{leb}
 use lib.ListN.{length, set, take, drop, length-set, length-drop, drop-of-length-le}
 use lib.Seq.{take-all}
 use Rattle.text.specs.Line.{digit, longer, digits, spaced}
-use Rattle.text.specs.Put.{Put, Spelt}
+use Rattle.text.specs.inner.Put.{Put, Spelt}
 use Rattle.text.proofs.Putting.{put-then}
 
 -- the digits of x are those of `rest`, and those behind place `at`

@@ -1,4 +1,3 @@
 -- Lines of text: their bytes, and what putting bytes behind others leaves.
 pub mod Line
-pub mod Put
-pub mod Decimal
+pub mod inner

@@ -4,7 +4,7 @@ ghost use mathlib.Core.Path.{_≡_};
 ghost use mathlib.Core.List.{[], _∷_};
 ghost use Prim.Native.Nat.{_+_, _%_};
 ghost use Rattle.text.specs.Line.{digit, spaced, line, longer};
-ghost use Rattle.text.specs.Put.{Put, Spelt};
+ghost use Rattle.text.specs.inner.Put.{Put, Spelt};
 
 fn put_byte(text: &mut [u8], at: usize, byte: u8) -> usize
     ensures { λ r. ⌜ Put (now (text .entry)) at (byte ∷ []) (now (text .exit)) r ⌝ }

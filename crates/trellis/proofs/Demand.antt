@@ -11,7 +11,8 @@ use Rattle.trellis.specs.Label.{symbol}
 use Rattle.trellis.specs.Word.{Word, Table, Rectangular}
 use Rattle.trellis.specs.Own.{sameEdge, vertexOf, vertexCount, edgeOf, edgeCount}
 use Rattle.trellis.specs.Drawn.{PathOf, DrawnFor}
-use Rattle.trellis.specs.Demand.{allVertices, additions, selections, verticesOf, edgesOf, ours, Demand3}
+use Rattle.trellis.specs.Demand.{allVertices, additions, selections, verticesOf, edgesOf}
+use Rattle.trellis.proofs.Ours.{ours, OursLeast}
 use Rattle.trellis.proofs.Lists.{length-run}
 use Rattle.trellis.proofs.Distinct.{length-distinct, upto, in-upto, from-upto}
 use Rattle.trellis.proofs.Labels.{by-symbols}
@@ -53,7 +54,7 @@ module _ (n : ℕ) (table : List Word) where
         ∙ own-edges t
 
     -- demand 3
-    pub demand-3 : Demand3 n table (vertexCount n table) (edgeCount n table)
+    pub demand-3 : OursLeast n table (vertexCount n table) (edgeCount n table)
     demand-3 = record {
       own = drawn;
       ownVertices = λ t h. sym (own-vertices t);

@@ -22,3 +22,6 @@ pub mod Joined
 pub mod OwnLaid
 pub mod OwnFew
 pub mod OwnTwins
+pub mod Ours
+pub mod Buffers
+pub mod Laid

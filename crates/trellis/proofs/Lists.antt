@@ -1,16 +1,17 @@
 -- Laws of lists: what stands in a run of values, what `first` finds, what `isIn` tells.
 -- All by induction along the list or the run.
 use mathlib.Core.Path.{_≡_, refl, sym, ap, ap₂, subst, _∙_}
-use mathlib.Core.Bool.{Bool, true, false, not, _||_}
+use mathlib.Core.Bool.{Bool, true, false, cond, _||_}
 use mathlib.Core.Logic.{_⊎_, inl, inr}
-use mathlib.Core.List.{List, [], _∷_, _++_, flatMap, append-assoc, List·Memᴰ·head, List·Memᴰ·tail, List·Memᴰ·not-nil, List·Memᴰ·cases-cons}
-use Prim.Native.Nat.{ℕ, zero, suc, _+_, _≤_, _<_}
+use mathlib.Core.List.{List, [], _∷_, _++_, map, flatMap, append-assoc, List·Memᴰ·head, List·Memᴰ·tail, List·Memᴰ·not-nil, List·Memᴰ·cases-cons}
+use Prim.Native.Nat.{ℕ, zero, suc, _+_, _*_, _≤_, _<_}
 use native.Mathlib.Omega.{arith}
 use native.Mathlib.Nat.{not-suc-le-zero, add-zero, add-suc, suc-add, zero-add, le-antisymm, le-of-eq}
-use native.Mathlib.Decide.{ℕ-discrete, decLt}
-use lib.ListN.{length, getD}
-use lib.Dec.{T, ltb, ltb→lt, nltb→le}
-use Rattle.trellis.specs.Lists.{_∈_, run, each, sum, sooner, first, isIn}
+use native.Mathlib.Decide.{decLt}
+use lib.ListN.{length, getD, length-append}
+use lib.Dec.{T}
+use borrow.Author.Tests.{lt-ltb, le-ltb}
+use Rattle.trellis.specs.Lists.{_∈_, run, each, sum, first, isIn, rank}
 use Rattle.trellis.proofs.Bools.{holds, fails}
 
 -- ---- runs
@@ -134,20 +135,15 @@ pub record First (test : ℕ → Bool) (m k : ℕ) : Type 0 where
 pub first-ok : (test : ℕ → Bool) (m : ℕ) → First test m (first test m)
 unfolding first
 first-ok p zero = record { most = omega arith; hit = λ h. absurd (not-suc-le-zero h); miss = λ j h t. not-suc-le-zero h }
-first-ok p (suc m) = go (ltb (first p m) m) (p m) refl refl (first-ok p m)
+first-ok p (suc m) = go (p 0) refl (first-ok (λ i. p (suc i)) m)
   where
-    split : (j : ℕ) → First p m (first p m) → m ≤ first p m → p m ≡ false → j < suc m → Dec (j ≡ m) → T (p j) → ⊥
-    split j r l f h (yes q) t = fails f (subst (λ z. T (p z)) q t)
-    split j r l f h (no q) t = r .miss j (omega arith) t
+    later : {k : ℕ} → p 0 ≡ false → First (λ i. p (suc i)) m k → (j : ℕ) → j < suc k → T (p j) → ⊥
+    later f r zero h t = fails f t
+    later f r (suc j) h t = r .miss j (omega arith) t
 
-    go : (a b : Bool) → ltb (first p m) m ≡ a → p m ≡ b → First p m (first p m) → First p (suc m) (sooner a b m (first p m))
-    go true b e f r = let h = ltb→lt (first p m) m (holds e) in record { most = omega arith; hit = λ z. r .hit h; miss = r .miss }
-    go false true e f r =
-        let h = nltb→le (first p m) m (subst (λ z. T (not z)) (sym e) tt) in
-        record { most = omega arith; hit = λ z. holds f; miss = λ j z t. r .miss j (omega arith) t }
-    go false false e f r =
-        let h = nltb→le (first p m) m (subst (λ z. T (not z)) (sym e) tt) in
-        record { most = omega arith; hit = λ z. absurd (omega arith); miss = λ j z t. split j r h f z (ℕ-discrete j m) t }
+    go : (b : Bool) → p 0 ≡ b → First (λ i. p (suc i)) m (first (λ i. p (suc i)) m) → First p (suc m) (cond b 0 (suc (first (λ i. p (suc i)) m)))
+    go true f r = record { most = omega arith; hit = λ h. holds f; miss = λ j h t. not-suc-le-zero h }
+    go false f r = let h = r .most in record { most = omega arith; hit = λ l. r .hit (omega arith); miss = later f r }
 
 -- there is only one such number
 pub first-is : (test : ℕ → Bool) (m k : ℕ) → First test m k → first test m ≡ k
@@ -185,3 +181,29 @@ pub sum-last : (f : ℕ → ℕ) (at n : ℕ) → sum f at (suc n) ≡ sum f at 
 unfolding sum
 sum-last f at zero = omega (arith, ap f (add-zero at))
 sum-last f at (suc n) = omega (arith, sum-last f (suc at) n, ap f (suc-add at n ∙ sym (add-suc at n)))
+
+-- ---- ranks
+
+pub rank-zero : (l : List ℕ) → rank 0 l ≡ 0
+unfolding rank
+rank-zero [] = refl
+rank-zero (x ∷ l) = let r = rank-zero l in rw (le-ltb x 0 (omega arith)) (omega arith)
+
+pub rank-all : (s : ℕ) (l : List ℕ) → ((x : ℕ) → x ∈ l → x < s) → rank s l ≡ length l
+unfolding rank
+rank-all s [] h = refl
+rank-all s (x ∷ l) h =
+    let r = rank-all s l (λ y m. h y (List·Memᴰ·tail m)) in
+    rw (lt-ltb x s (h x (List·Memᴰ·head refl))) (omega arith)
+
+-- ---- lists made of two for each
+
+pub length-two : {A B : Type 0} (f : A → List B) (xs : List A) → ((x : A) → length (f x) ≡ 2) → length (flatMap f xs) ≡ 2 * length xs
+unfolding flatMap
+length-two f [] h = refl
+length-two f (x ∷ xs) h = length-append (f x) (flatMap f xs) ∙ omega (arith, h x, length-two f xs h)
+
+pub flatMap-map : {A B C : Type 0} (f : B → List C) (g : A → B) (xs : List A) → flatMap f (map g xs) ≡ flatMap (λ x. f (g x)) xs
+unfolding flatMap
+flatMap-map f g [] = refl
+flatMap-map f g (x ∷ xs) = ap (λ l. f (g x) ++ l) (flatMap-map f g xs)

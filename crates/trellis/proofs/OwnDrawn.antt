@@ -13,7 +13,7 @@ use Rattle.trellis.specs.Label.{symbol}
 use Rattle.trellis.specs.Word.{Word, wordAt, Table, beginning, ending, joined}
 use Rattle.trellis.specs.Own.{Edge, edge, edgeLess, key, keys, vertexOf, vertexCount, edgeOf, edgesAt}
 use Rattle.trellis.specs.Drawn.{IsPath, Carries, WordOf, JustOne, DrawnFor}
-use Rattle.trellis.specs.Demand.{ours}
+use Rattle.trellis.proofs.Ours.{ours}
 use Rattle.trellis.proofs.Lists.{From, in-each, of-each, of-run, in-place}
 use Rattle.trellis.proofs.Ascending.{Ascends, numbers, ascends, once-of, in-ascending, of-ascending, rank-at}
 use Rattle.trellis.proofs.Labels.{back-step, symbol-before, symbol-back}

@@ -11,15 +11,9 @@ use Rattle.trellis.specs.Lists.{run, each, sum}
 use Rattle.trellis.specs.Word.{Word}
 use Rattle.trellis.specs.Own.{Edge, edge, keys, vertexCount, edgesAt, edgeCount}
 use Rattle.trellis.specs.Layout.{qOf, nOf, statesOf, vertexCountOf, edgeCountOf, edgesBefore, rootsPlace, goalsPlace, pairsPlace, symbolsPlace, sectionLength, rootState, goalState, edgeNumber, stepEdges, joinedUp, pairOf, symbolOf, sectionOf}
-use Rattle.trellis.proofs.Lists.{length-run, run-at, each-at, sum-eq}
+use Rattle.trellis.proofs.Lists.{length-run, run-at, each-at, sum-eq, length-two}
 use Rattle.trellis.proofs.Joined.{lengths-suc, joined-length, lengths-le, joined-at}
 use Rattle.trellis.proofs.Paths.{edge-eq}
-
--- pairs of numbers
-pairs-length : (es : List Edge) → length (flatMap pairOf es) ≡ 2 * length es
-unfolding flatMap
-pairs-length [] = refl
-pairs-length (e ∷ es) = omega (arith, pairs-length es)
 
 pair-from : (es : List Edge) (k : ℕ) (d : Edge) → k < length es → getD (flatMap pairOf es) (2 * k) 0 ≡ getD es k d .from
 unfolding flatMap
@@ -166,7 +160,7 @@ module _ (q n S : ℕ) (table : List Word) where
 
   pub own-length : sectionLength l ≡ length l
   unfolding sectionLength sectionOf
-  own-length = omega (arith, symbols-place, all-edges, parts-length q n S counts edgeCounts roots goals (flatMap pairOf all) (map symbolOf all), counts-long, edge-counts-long, pairs-length all, length-map all symbolOf)
+  own-length = omega (arith, symbols-place, all-edges, parts-length q n S counts edgeCounts roots goals (flatMap pairOf all) (map symbolOf all), counts-long, edge-counts-long, length-two pairOf all (λ e. refl), length-map all symbolOf)
 
   pub own-root : (v : ℕ) → v < vertexCount n table 0 → rootState l v ≡ getD (keys n table 0) v 0
   unfolding rootState rootsPlace sectionOf
@@ -182,11 +176,11 @@ module _ (q n S : ℕ) (table : List Word) where
 
   pair-place : (i k : ℕ) → i ≡ 4 + 2 * n + length roots + length goals + k → k < 2 * length all → getD l i 0 ≡ getD (flatMap pairOf all) k 0
   unfolding sectionOf
-  pair-place i k e h = in-fifth q n S counts edgeCounts roots goals (flatMap pairOf all) (map symbolOf all) i k (omega (arith, counts-long, edge-counts-long)) (omega (arith, pairs-length all))
+  pair-place i k e h = in-fifth q n S counts edgeCounts roots goals (flatMap pairOf all) (map symbolOf all) i k (omega (arith, counts-long, edge-counts-long)) (omega (arith, length-two pairOf all (λ e. refl)))
 
   symbol-place : (i k : ℕ) → i ≡ 4 + 2 * n + length roots + length goals + 2 * length all + k → getD l i 0 ≡ getD (map symbolOf all) k 0
   unfolding sectionOf
-  symbol-place i k e = in-sixth q n S counts edgeCounts roots goals (flatMap pairOf all) (map symbolOf all) i k (omega (arith, counts-long, edge-counts-long, pairs-length all))
+  symbol-place i k e = in-sixth q n S counts edgeCounts roots goals (flatMap pairOf all) (map symbolOf all) i k (omega (arith, counts-long, edge-counts-long, length-two pairOf all (λ e. refl)))
 
   from-at : (k : ℕ) → k < length all → getD l (pairsPlace l + 2 * k) 0 ≡ getD all k (edge 0 0 0) .from
   from-at k h = pair-place (pairsPlace l + 2 * k) (2 * k) (omega (arith, pairs-place)) (omega arith) ∙ pair-from all k (edge 0 0 0) h

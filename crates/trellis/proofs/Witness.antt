@@ -8,12 +8,12 @@ use Prim.Native.Nat.{ℕ, zero, suc, _+_, _-_, _≤_, _<_}
 use native.Mathlib.Omega.{arith}
 use native.Mathlib.Decide.{ℕ-discrete, decLt}
 use lib.ListN.{length}
-use lib.Dec.{T, eqb, eqb→eq, eqb-refl, T-not, not-T}
+use lib.Dec.{T, eqb, eqb→eq, T-not, not-T}
 use Rattle.trellis.specs.Lists.{_∈_, isIn}
 use Rattle.trellis.specs.Label.{front, back}
 use Rattle.trellis.specs.Word.{Word, wordAt, sameWord, beginning, ending, joined, Rectangular}
 use Rattle.trellis.specs.Witness.{Witness, found, nothing, sameBeginning, sameEnding, refutes, orElse, when, firstOf, overK, overJ, witnessAt, witness, Refuted, FirstRefuted}
-use Rattle.trellis.proofs.Bools.{holds, fails, both, join}
+use Rattle.trellis.proofs.Bools.{holds, fails, both, join, eqb-of}
 use Rattle.trellis.proofs.Lists.{in-yes, in-of}
 use Rattle.trellis.proofs.Words.{word-in, same-yes, same-self, beginning-root, beginning-front, beginning-eq, ending-back, ending-goal, ending-eq, rectangular-by}
 
@@ -27,8 +27,8 @@ pub record Hit (f : ℕ → Witness) (low count : ℕ) (w : Witness) : Type 0 wh
   pub is : f place ≡ w
   pub before : (m : ℕ) → low ≤ m → m < place → f m ≡ nothing
 
-clash : {t i j k : ℕ} → _≡_ {A = Witness} nothing (found t i j k) → ⊥
-clash e = let z : _≡_ {A = ℕ} 0 1 = cc in omega arith
+pub none-found : {t i j k : ℕ} → _≡_ {A = Witness} nothing (found t i j k) → ⊥
+none-found e = let z : _≡_ {A = ℕ} 0 1 = cc in omega arith
 
 pub search-none : (count low : ℕ) (f : ℕ → Witness) → firstOf count low f ≡ nothing → (m : ℕ) → low ≤ m → m < low + count → f m ≡ nothing
 unfolding firstOf
@@ -37,13 +37,13 @@ search-none (suc count) low f e m a b = go (f low) refl e (search-none count (su
   where
     go : (w : Witness) → f low ≡ w → orElse w (firstOf count (suc low) f) ≡ nothing
         → (firstOf count (suc low) f ≡ nothing → (j : ℕ) → suc low ≤ j → j < suc low + count → f j ≡ nothing) → Dec (m ≡ low) → f m ≡ nothing
-    go (found t i j k) p q r d = absurd (clash (sym q))
+    go (found t i j k) p q r d = absurd (none-found (sym q))
     go nothing p q r (yes d) = ap f d ∙ p
     go nothing p q r (no d) = r q m (omega arith) (omega arith)
 
 pub search-hit : (count low : ℕ) (f : ℕ → Witness) (t i j k : ℕ) → firstOf count low f ≡ found t i j k → Hit f low count (found t i j k)
 unfolding firstOf
-search-hit zero low f t i j k e = absurd (clash e)
+search-hit zero low f t i j k e = absurd (none-found e)
 search-hit (suc count) low f t i j k e = go (f low) refl e (search-hit count (suc low) f t i j k)
   where
     later : (j : ℕ) → f low ≡ nothing → (H : Hit f (suc low) count (found t i j k)) → Hit f low (suc count) (found t i j k)
@@ -66,9 +66,6 @@ search-hit (suc count) low f t i j k e = go (f low) refl e (search-hit count (su
 
 -- ---- one test
 
-same-eqb : {a b : ℕ} → a ≡ b → T (eqb a b)
-same-eqb {a} e = subst (λ z. T (eqb a z)) e (eqb-refl a)
-
 module _ (n t : ℕ) (v w : Word) where
   pub begins-yes : T (sameBeginning n t v w) → beginning n t v ≡ beginning n t w
   begins-yes s =
@@ -76,7 +73,7 @@ module _ (n t : ℕ) (v w : Word) where
       beginning-eq (eqb→eq _ _ (p .0)) (eqb→eq _ _ (p .1))
 
   pub begins-of : beginning n t v ≡ beginning n t w → T (sameBeginning n t v w)
-  begins-of e = join (eqb (v .root) (w .root)) (eqb (front n t (v .label)) (front n t (w .label))) (same-eqb (beginning-root e)) (same-eqb (beginning-front e))
+  begins-of e = join (eqb (v .root) (w .root)) (eqb (front n t (v .label)) (front n t (w .label))) (eqb-of (beginning-root e)) (eqb-of (beginning-front e))
 
   pub ends-yes : T (sameEnding n t v w) → ending n t v ≡ ending n t w
   ends-yes s =
@@ -84,7 +81,7 @@ module _ (n t : ℕ) (v w : Word) where
       ending-eq (eqb→eq _ _ (p .0)) (eqb→eq _ _ (p .1))
 
   pub ends-of : ending n t v ≡ ending n t w → T (sameEnding n t v w)
-  ends-of e = join (eqb (back n t (v .label)) (back n t (w .label))) (eqb (v .goal) (w .goal)) (same-eqb (ending-back e)) (same-eqb (ending-goal e))
+  ends-of e = join (eqb (back n t (v .label)) (back n t (w .label))) (eqb (v .goal) (w .goal)) (eqb-of (ending-back e)) (eqb-of (ending-goal e))
 
 module _ (n : ℕ) (table : List Word) where
   -- the fourth word is in the table
@@ -122,10 +119,10 @@ module _ (n : ℕ) (table : List Word) where
 
   when-found : (b : Bool) (t i j k a p q r : ℕ) → when b (found t i j k) ≡ found a p q r → T b × (found t i j k ≡ found a p q r)
   when-found true t i j k a p q r e = (tt, e)
-  when-found false t i j k a p q r e = absurd (clash e)
+  when-found false t i j k a p q r e = absurd (none-found e)
 
   when-none : (b : Bool) (t i j k : ℕ) → when b (found t i j k) ≡ nothing → T b → ⊥
-  when-none true t i j k e s = clash (sym e)
+  when-none true t i j k e s = none-found (sym e)
   when-none false t i j k e s = s
 
   -- what the search over k at depth t, for i and j, finds

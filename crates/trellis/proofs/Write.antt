@@ -7,7 +7,7 @@ use native.Mathlib.Nat.{add-zero, add-suc, suc-add, add-assoc, zero-add}
 use native.Mathlib.Omega.{arith}
 use lib.ListN.{length, getD, drop, set, length-set, length-append}
 use lib.Seq.{sets, length-sets, sets-eq, getD-set-same, getD-set-other}
-use Rattle.trellis.specs.Write.{Wrote}
+use Rattle.trellis.specs.inner.Write.{Wrote}
 
 sets-append : (us vs l : List ℕ) (i : ℕ) → sets (sets l i us) (i + length us) vs ≡ sets l i (us ++ vs)
 sets-append [] vs l i = rw (add-zero i)

@@ -1,8 +1,7 @@
 -- Labels: n symbols packed at two bits each, the first symbol highest. So a label is a number below 4 ^ n, and its symbols are its base-4 digits.
 -- Everything here is for general n. Symbols are counted from 0: symbol t stands between depth t and depth t + 1.
-use mathlib.Core.Path.{_≡_}
 use mathlib.Core.Bool.{Bool, true, _&&_, not}
-use Prim.Native.Nat.{ℕ, zero, suc, _+_, _-_, _*_, _/_, _%_, _^_, _<_}
+use Prim.Native.Nat.{ℕ, zero, suc, _+_, _-_, _*_, _/_, _%_, _^_}
 use lib.Dec.{ltb, eqb}
 use Rattle.trellis.specs.Lists.{one-if}
 
@@ -30,13 +29,6 @@ symbolsBelow q (suc k) x = ltb (x % 4) q && symbolsBelow q k (x / 4)
 -- whether x is a label of n symbols below q
 unfoldable pub isLabel : ℕ → ℕ → ℕ → Bool
 isLabel q n x = ltb x (4 ^ n) && symbolsBelow q n x
-
--- the first symbol in which x and y differ is smaller in x
-pub record Earlier (n x y : ℕ) : Type 0 where
-  pub at : ℕ
-  pub inside : at < n
-  pub before : (t : ℕ) → t < at → symbol n t x ≡ symbol n t y
-  pub smaller : symbol n at x < symbol n at y
 
 -- how many of the last k symbols differ in x and y
 unfoldable pub distance : ℕ → ℕ → ℕ → ℕ

@@ -1,4 +1,5 @@
 -- The theory of trellis sections, lowest first: what each file defines is used by those below it.
+pub mod Bounds
 pub mod Lists
 pub mod Label
 pub mod Word
@@ -9,4 +10,4 @@ pub mod Section
 pub mod Layout
 pub mod Witness
 pub mod Outcome
-pub mod Write
+pub mod inner

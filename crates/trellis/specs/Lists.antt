@@ -2,9 +2,10 @@
 -- Everything here computes.
 use mathlib.Core.Path.{_≡_}
 use mathlib.Core.Bool.{Bool, true, false, cond, _||_, _&&_}
-use mathlib.Core.List.{List, [], _∷_, List·Memᴰ}
+use mathlib.Core.List.{List, [], _∷_, _++_, List·Memᴰ}
 use Prim.Native.Nat.{ℕ, zero, suc, _+_, _<_}
-use lib.Dec.{ltb, eqb}
+use lib.Dec.{leb, ltb, eqb}
+use lib.ListN.{length, drop}
 
 -- x stands in the list: the library's membership under a shorter name
 infix 50 _∈_
@@ -34,15 +35,27 @@ unfoldable pub sum : (ℕ → ℕ) → ℕ → ℕ → ℕ
 sum f at zero = 0
 sum f at (suc count) = f at + sum f (suc at) count
 
-abbrev pub sooner : Bool → Bool → ℕ → ℕ → ℕ
-sooner true b m k = k
-sooner false true m k = m
-sooner false false m k = suc m
-
 -- the first number below m that passes the test, or m where none does
 unfoldable pub first : (ℕ → Bool) → ℕ → ℕ
 first test zero = 0
-first test (suc m) = let k = first test m in sooner (ltb k m) (test m) m k
+first test (suc m) = cond (test 0) 0 (suc (first (λ i. test (suc i)) m))
+
+-- the test passes at every number below count, at some number below count
+unfoldable pub all : (ℕ → Bool) → ℕ → Bool
+all test zero = true
+all test (suc count) = all test count && test count
+
+unfoldable pub any : (ℕ → Bool) → ℕ → Bool
+any test zero = false
+any test (suc count) = any test count || test count
+
+-- x is from low to high
+unfoldable pub within : ℕ → ℕ → ℕ → Bool
+within low high x = leb low x && leb x high
+
+-- a buffer with vs in front; places beyond are unchanged
+abbrev pub over : List ℕ → List ℕ → List ℕ
+over vs buffer = vs ++ drop (length vs) buffer
 
 -- whether x stands in the list, where eq tells elements apart
 unfoldable pub isIn {ℓ} : {A : Type ℓ} → (A → A → Bool) → A → List A → Bool

@@ -1,1 +1,19 @@
-// The theory of trellis sections: definitions in specs/, theorems in proofs/, and no code.
+// The theory of trellis sections: definitions in specs/, theorems in proofs/, and no code but document 01's bounds as constants, one for each definition of
+// specs/Bounds.
+pub const LEAST_Q: usize = 2;
+
+pub const MOST_Q: usize = 4;
+
+pub const MOST_SYMBOLS: usize = 8;
+
+pub const MOST_STATES: usize = 64;
+
+pub const MOST_WORDS: usize = 1024;
+
+pub const MOST_SECTIONS: usize = 16;
+
+pub const MOST_BLOCKS: usize = 256;
+
+pub const COSTS_A_BLOCK: usize = MOST_STATES;
+
+pub const MOST_BYTES: usize = 65535;

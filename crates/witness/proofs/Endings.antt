@@ -7,29 +7,25 @@ use native.Mathlib.Omega.{arith}
 use native.Mathlib.Decide.{ℕ-discrete, decLt}
 use lib.Dec.{T, eqb, eqb→eq, ltb, ltb→lt, lt→ltb}
 use borrow.Author.Tests.{eq-eqb, ne-eqb}
-use Rattle.trellis.proofs.Bools.{holds, fails, is-false, both, join}
-use Rattle.runs.proofs.FirstLike.{equal-yes}
-use Rattle.depths.specs.Rows.{at}
+use Rattle.trellis.proofs.Bools.{holds, fails, is-false, both, join, eqb-of, or-true}
+use Rattle.depths.specs.inner.Rows.{at}
 use Rattle.depths.proofs.Places.{upto-next}
-use Rattle.witness.specs.Rows.{SearchRows, inRun, anyBelow, hasEnding, refutesIn}
+use Rattle.witness.specs.inner.Rows.{SearchRows, inRun, hasEnding, refutesIn}
+use Rattle.trellis.specs.Lists.{any}
 
 -- ---- any of the numbers below m
 
-or-true : (a : Bool) → (a || true) ≡ true
-or-true true = refl
-or-true false = refl
-
-pub any-hit : (p : ℕ → Bool) (m l : ℕ) → l < m → p l ≡ true → anyBelow p m ≡ true
-unfolding anyBelow
+pub any-hit : (p : ℕ → Bool) (m l : ℕ) → l < m → p l ≡ true → any p m ≡ true
+unfolding any
 any-hit p zero l h e = absurd (omega arith)
 any-hit p (suc m) l h e = go (ℕ-discrete l m) (any-hit p m l)
   where
-    go : Dec (l ≡ m) → (l < m → p l ≡ true → anyBelow p m ≡ true) → (anyBelow p m || p m) ≡ true
-    go (yes q) r = ap (λ b. anyBelow p m || b) (ap p (sym q) ∙ e) ∙ or-true (anyBelow p m)
+    go : Dec (l ≡ m) → (l < m → p l ≡ true → any p m ≡ true) → (any p m || p m) ≡ true
+    go (yes q) r = ap (λ b. any p m || b) (ap p (sym q) ∙ e) ∙ or-true (any p m)
     go (no q) r = ap (λ b. b || p m) (r (omega arith) e)
 
-any-none : (p : ℕ → Bool) (m : ℕ) → ((l : ℕ) → l < m → p l ≡ false) → anyBelow p m ≡ false
-unfolding anyBelow
+any-none : (p : ℕ → Bool) (m : ℕ) → ((l : ℕ) → l < m → p l ≡ false) → any p m ≡ false
+unfolding any
 any-none p zero h = refl
 any-none p (suc m) h = ap₂ (λ a b. a || b) (any-none p m (λ l k. h l (omega arith))) (h m (omega arith))
 
@@ -38,12 +34,12 @@ pub record Hit (p : ℕ → Bool) (m : ℕ) : Type 0 where
   pub below : place < m
   pub hits : T (p place)
 
-pub any-find : (p : ℕ → Bool) (m : ℕ) → T (anyBelow p m) → Hit p m
-unfolding anyBelow
+pub any-find : (p : ℕ → Bool) (m : ℕ) → T (any p m) → Hit p m
+unfolding any
 any-find p zero e = absurd e
-any-find p (suc m) e = go (anyBelow p m) refl (p m) refl (any-find p m) e
+any-find p (suc m) e = go (any p m) refl (p m) refl (any-find p m) e
   where
-    go : (a : Bool) → anyBelow p m ≡ a → (b : Bool) → p m ≡ b → (T (anyBelow p m) → Hit p m) → T (a || b) → Hit p (suc m)
+    go : (a : Bool) → any p m ≡ a → (b : Bool) → p m ≡ b → (T (any p m) → Hit p m) → T (a || b) → Hit p (suc m)
     go true q b r f u = let x = f (holds q) in record { place = x .place; below = omega arith; hits = x .hits }
     go false q true r f u = record { place = m; below = omega arith; hits = holds r }
     go false q false r f u = absurd u
@@ -94,7 +90,7 @@ run-no {starts} {firsts} {w} {i} {a} {l} R h e f n x p q s =
     let u = R .startRises (at starts i) l f (omega arith) in
     let v = R .startRises l x p q in
     let g : at starts l ≡ a = omega (arith, R .startOwn i h) in
-    fails n (join (ltb l w) (eqb (at starts l) a) (lt→ltb l w (omega arith)) (equal-yes g))
+    fails n (join (ltb l w) (eqb (at starts l) a) (lt→ltb l w (omega arith)) (eqb-of g))
 
 pub record InEnding (starts firsts : List ℕ) (w k j a x l : ℕ) : Type 0 where
   pub rows : SearchRows w starts firsts

@@ -9,10 +9,10 @@ use native.Mathlib.Decide.{ℕ-discrete, decLt}
 use lib.Dec.{eqb}
 use borrow.Author.Tests.{eq-eqb, ne-eqb}
 use Rattle.trellis.specs.Lists.{one-if}
-use Rattle.depths.specs.Rows.{at}
+use Rattle.depths.specs.inner.Rows.{at}
 use Rattle.depths.proofs.Places.{upto-next}
-use Rattle.witness.specs.Search.{NoneFrom, NoneBefore}
-use Rattle.witness.specs.Rows.{SearchRows, inRun, hasEnding, refutesIn, Within}
+use Rattle.witness.specs.inner.Search.{NoneFrom, NoneBefore}
+use Rattle.witness.specs.inner.Rows.{SearchRows, inRun, hasEnding, refutesIn, Within}
 use Rattle.witness.proofs.Search.{InJ, InK}
 use Rattle.witness.proofs.Endings.{ending-yes, ending-of, run-yes, run-no, refutes-begin, refutes-end, refutes-last}
 

@@ -11,7 +11,7 @@ use Rattle.trellis.specs.Word.{Word}
 use Rattle.trellis.specs.Witness.{found, nothing, refutes, orElse, when, firstOf, overK, overJ, witnessAt}
 use Rattle.trellis.specs.Witness as trellis
 use Rattle.depths.proofs.Places.{upto-next}
-use Rattle.witness.specs.Search.{asWitness, NoneAt, NoneFrom, NoneBefore, FirstIn, Next}
+use Rattle.witness.specs.inner.Search.{asWitness, NoneAt, NoneFrom, NoneBefore, FirstIn, Next}
 use Rattle.witness.specs.declared.Witness.{Witness}
 use Rattle.witness.specs.declared.Witness.the-variants.{At, Nothing}
 

@@ -10,22 +10,22 @@ use lib.ListN.{length}
 use Rattle.trellis.specs.Lists.{isIn}
 use Rattle.trellis.specs.Word.{Word, wordAt, sameWord, Table, joined}
 use Rattle.trellis.specs.Witness.{refutes, witnessAt}
-use Rattle.trellis.proofs.Bools.{holds, is-true}
+use Rattle.trellis.proofs.Bools.{holds, is-true, same-test}
 use Rattle.trellis.proofs.Lists.{in-yes, in-of}
 use Rattle.trellis.proofs.Words.{same-yes, same-self}
-use Rattle.runs.specs.Runs.{firstLike, Tells}
-use Rattle.runs.specs.Cuts.{beginningAt, endingAt, stepKey}
-use Rattle.runs.proofs.FirstLike.{test-eq, eqb-iff, like-le, like-is, like-eq, like-twice}
+use Rattle.runs.specs.inner.Runs.{firstLike, Tells}
+use Rattle.runs.specs.inner.Cuts.{beginningAt, endingAt, stepKey}
+use Rattle.runs.proofs.FirstLike.{eqb-iff, like-le, like-is, like-eq, like-twice}
 use Rattle.runs.proofs.Runs.{start-mono}
 use Rattle.runs.proofs.Cuts.{cut, begins-eq, ends-eq, shared-joined, joined-shared}
-use Rattle.depths.specs.Words.{words}
-use Rattle.depths.specs.Rows.{at, Row, Small, joins, runStart, rowKey}
-use Rattle.depths.specs.Merge.{EndingRow}
+use Rattle.depths.specs.inner.Words.{words}
+use Rattle.depths.specs.inner.Rows.{at, Row, Small, joins, runStart, rowKey}
+use Rattle.depths.specs.inner.Merge.{EndingRow}
 use Rattle.depths.proofs.Words.{held-length}
 use Rattle.depths.proofs.Starts.{starts-are}
 use Rattle.depths.proofs.Firsts.{row-small, firsts-are, ends-now}
-use Rattle.witness.specs.Search.{asWitness, FirstIn}
-use Rattle.witness.specs.Rows.{Asked, SearchRows, hasEnding, refutesIn}
+use Rattle.witness.specs.inner.Search.{asWitness, FirstIn}
+use Rattle.witness.specs.inner.Rows.{Asked, SearchRows, hasEnding, refutesIn}
 use Rattle.witness.specs.declared.Witness.{Witness}
 use Rattle.witness.proofs.Search.{first-cong, first-is}
 use Rattle.witness.proofs.Endings.{ending-yes, ending-of}
@@ -42,7 +42,7 @@ module _ {n : ℕ} {table : List Word} (G : Table n table) (t : ℕ) (le : t ≤
 
   has-is : (k j : ℕ) → k < length table → j < length table
       → hasEnding starts firsts (length table) k j ≡ isIn sameWord (joined n t (wordAt table k) (wordAt table j)) table
-  has-is k j a b = test-eq (hasEnding starts firsts (length table) k j) (isIn sameWord (joined n t (wordAt table k) (wordAt table j)) table)
+  has-is k j a b = same-test (hasEnding starts firsts (length table) k j) (isIn sameWord (joined n t (wordAt table k) (wordAt table j)) table)
       (λ u.
       let E = ending-of (is-true (hasEnding starts firsts (length table) k j) u) in
       in-of sameWord same-yes same-self _ table (shared-joined G t le k j a b (record {

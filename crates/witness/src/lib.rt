@@ -4,12 +4,13 @@ ghost use mathlib.Core.Path.{_≡_};
 ghost use mathlib.Core.Bool.{true};
 ghost use Prim.Native.Nat.{_+_, _<_, _≤_};
 ghost use lib.Dec.{eqb};
+ghost use Rattle.trellis.specs.Bounds.{mostWords};
 ghost use Rattle.trellis.specs.Lists.{one-if};
 ghost use Rattle.trellis.specs.Witness.{witnessAt};
-ghost use Rattle.depths.specs.Words.{words};
-ghost use Rattle.depths.specs.Rows.{at};
-ghost use Rattle.witness.specs.Search.{asWitness, NoneFrom, NoneBefore, Next, FirstIn};
-ghost use Rattle.witness.specs.Rows.{Asked, SearchRows, inRun, hasEnding, refutesIn, Within};
+ghost use Rattle.depths.specs.inner.Words.{words};
+ghost use Rattle.depths.specs.inner.Rows.{at};
+ghost use Rattle.witness.specs.inner.Search.{asWitness, NoneFrom, NoneBefore, Next, FirstIn};
+ghost use Rattle.witness.specs.inner.Rows.{Asked, SearchRows, inRun, hasEnding, refutesIn, Within};
 use numbers::wide;
 
 pub enum Witness {
@@ -19,7 +20,7 @@ pub enum Witness {
 
 // Whether l is a word of the run that starts at a.
 fn in_run(starts: &[u16; 1024], w: usize, a: u16, l: usize) -> bool
-    requires { ⌜ w ≤ 1024 ⌝ }
+    requires { ⌜ w ≤ mostWords ⌝ }
     ensures { λ r. ⌜ r ≡ inRun (now (starts .entry)) w a l ⌝ }
 {
     l < w && starts[l] == a
@@ -68,7 +69,7 @@ fn refutes(
 
 // One more where the numbers are equal.
 fn more_if_equal(j: usize, x: u16, y: u16) -> usize
-    requires { ⌜ j < 1024 ⌝ }
+    requires { ⌜ j < mostWords ⌝ }
     ensures { λ r. ⌜ r ≡ j + one-if (eqb x y) ⌝ }
 {
     if x == y { j + 1 } else { j }

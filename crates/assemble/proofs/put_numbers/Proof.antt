@@ -2,7 +2,7 @@
 use mathlib.Core.Path.{refl}
 use Prim.Native.Nat.{_-_}
 use borrow.Author.Needs.{needs}
-use Rattle.assemble.specs.InNumbers.{InNumbers, numbers-none, numbers-more, numbers-end}
+use Rattle.assemble.proofs.Numbers.{InNumbers, numbers-none, numbers-more, numbers-end}
 use Rattle.assemble.proofs.put_numbers.Statement.{statement}
 use Rattle.assemble.proofs.put_numbers.Tie as tie
 

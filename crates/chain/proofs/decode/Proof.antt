@@ -1,6 +1,7 @@
 -- `chain::decode` meets its contract: it makes the definition's tests of the sections in the definition's order, and behind them what is left is what the
 -- definition has there.
 use mathlib.Core.Path.{refl}
+use Rattle.trellis.specs.Bounds.{mostSections}
 use Rattle.chain.proofs.Bounds.{within-to}
 use Rattle.chain.proofs.Starts.{many-sections, unusable-section, left-over, sections-good}
 use Rattle.chain.proofs.Faults.{ends-section, past-sections}
@@ -15,7 +16,7 @@ returns : tie.Need-returns
 returns c = ends-section (many-sections (c .before .is-within .ensures) (c .if1 .taken))
 
 find-sections-requires : tie.Need-find-sections-requires
-find-sections-requires c κs = (within-to 1 16 _ (c .before .before .is-within .ensures) (c .before .if1 .left), refl)
+find-sections-requires c κs = (within-to 1 mostSections _ (c .before .before .is-within .ensures) (c .before .if1 .left), refl)
 
 returns-2 : tie.Need-returns-2
 returns-2 c =
@@ -26,13 +27,13 @@ returns-2 c =
 mul-if3 : tie.Need-mul-if3
 mul-if3 c =
     let few = c .before .before .before in
-    let h = within-to 1 16 _ (few .before .is-within .ensures) (few .if1 .left) in
+    let h = within-to 1 mostSections _ (few .before .is-within .ensures) (few .if1 .left) in
     search needs
 
 array-read-if3 : tie.Need-array-read-if3
 array-read-if3 c =
     let few = c .before .before .before in
-    let h = within-to 1 16 _ (few .before .is-within .ensures) (few .if1 .left) in
+    let h = within-to 1 mostSections _ (few .before .is-within .ensures) (few .if1 .left) in
     search needs
 
 returns-3 : tie.Need-returns-3

@@ -2,7 +2,7 @@
 -- many are left.
 use borrow.Author.Needs.{needs}
 use Prim.Native.Nat.{_-_}
-use Rattle.chain.specs.Loops.{InSections}
+use Rattle.chain.specs.inner.Loops.{InSections}
 use Rattle.chain.proofs.Starts.{starts-start, starts-found, starts-fit, starts-more, starts-end}
 use Rattle.chain.proofs.find_sections.Statement.{statement}
 use Rattle.chain.proofs.find_sections.Tie as tie

@@ -1,7 +1,7 @@
 -- `depths::first_word` meets its contract. The first word with an ending is no later than the word, so its start can be read.
 use mathlib.Core.Path.{ap, _∙_}
 use native.Mathlib.Omega.{arith}
-use Rattle.depths.specs.Rows.{at}
+use Rattle.depths.specs.inner.Rows.{at}
 use borrow.Author.Needs.{needs}
 use Rattle.depths.proofs.first_word.Statement.{statement}
 use Rattle.depths.proofs.first_word.Tie as tie

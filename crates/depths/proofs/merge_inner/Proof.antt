@@ -1,7 +1,7 @@
 -- `depths::merge_inner` meets its contract. The loop keeps what is found at the depths from t on, and that the row tells the endings at depth t apart.
 use native.Mathlib.Omega.{arith}
 use borrow.Author.Needs.{needs}
-use Rattle.depths.specs.Words.{words}
+use Rattle.depths.specs.inner.Words.{words}
 use Rattle.depths.proofs.Goals.{goal-row}
 use Rattle.depths.proofs.InnerDepths.{InDepths, depths-none, depths-ask, depths-more, depths-end}
 use Rattle.depths.proofs.merge_inner.Statement.{statement}

@@ -5,7 +5,7 @@ use lib.ListN.{length-set}
 use borrow.Author.Needs.{needs}
 use native.Mathlib.Omega.{arith}
 use Rattle.depths.proofs.Numbers.{InNumbers, numbers-none, numbers-own, numbers-few, numbers-more, numbers-end}
-use Rattle.depths.specs.Rows.{firstWordIn}
+use Rattle.depths.specs.inner.Rows.{firstWordIn}
 use Rattle.depths.proofs.put_numbers.Statement.{statement}
 use Rattle.depths.proofs.put_numbers.Tie as tie
 

@@ -1,7 +1,7 @@
 -- `layout::arc_at` gives the numbers of the word's edge: what it reads are the places that the definition names.
 use mathlib.Core.Path.{refl}
 use native.Mathlib.Omega.{arith}
-use Rattle.layout.specs.InTakers.{arc-from, arc-symbol, arc-is}
+use Rattle.layout.proofs.Scanning.{arc-from, arc-symbol, arc-is}
 use borrow.Author.Needs.{needs}
 use Rattle.layout.proofs.arc_at.Statement.{statement}
 use Rattle.layout.proofs.arc_at.Tie as tie

@@ -4,7 +4,8 @@ use Prim.Native.Nat.{_-_, _*_}
 use native.Mathlib.Omega.{arith}
 use lib.ListN.{length}
 use borrow.Author.Needs.{needs}
-use Rattle.layout.specs.AllPieces.{stepPairs, InAll, all-none, row-room, row-more, all-room, pairs-more, all-end, step-words}
+use Rattle.layout.proofs.AllPieces.{InAll, all-none, row-room, row-more, all-room, pairs-more, all-end, step-words}
+use Rattle.layout.specs.inner.Pieces.{stepPairs}
 use Rattle.layout.proofs.put_all_pairs.Statement.{statement}
 use Rattle.layout.proofs.put_all_pairs.Tie as tie
 

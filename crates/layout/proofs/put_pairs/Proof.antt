@@ -4,8 +4,8 @@ use Prim.Native.Nat.{_-_}
 use native.Mathlib.Omega.{arith}
 use lib.ListN.{length-set}
 use borrow.Author.Needs.{needs}
-use Rattle.layout.specs.Pieces.{pairsOf}
-use Rattle.layout.specs.InPieces.{InPiece, piece-none, pairs-piece, pair-more, piece-end, word-below}
+use Rattle.layout.specs.inner.Pieces.{pairsOf}
+use Rattle.layout.proofs.Pieces.{InPiece, piece-none, pairs-piece, pair-more, piece-end, word-below}
 use Rattle.layout.proofs.put_pairs.Statement.{statement}
 use Rattle.layout.proofs.put_pairs.Tie as tie
 

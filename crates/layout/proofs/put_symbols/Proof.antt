@@ -2,8 +2,8 @@
 use Prim.Native.Nat.{_-_}
 use native.Mathlib.Omega.{arith}
 use borrow.Author.Needs.{needs}
-use Rattle.layout.specs.Pieces.{symbolsOf}
-use Rattle.layout.specs.InPieces.{InPiece, piece-none, symbols-piece, symbol-more, piece-end, word-below}
+use Rattle.layout.specs.inner.Pieces.{symbolsOf}
+use Rattle.layout.proofs.Pieces.{InPiece, piece-none, symbols-piece, symbol-more, piece-end, word-below}
 use Rattle.layout.proofs.put_symbols.Statement.{statement}
 use Rattle.layout.proofs.put_symbols.Tie as tie
 

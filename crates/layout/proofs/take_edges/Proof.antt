@@ -3,7 +3,7 @@ use mathlib.Core.Path.{refl}
 use Prim.Native.Nat.{_-_}
 use native.Mathlib.Omega.{arith}
 use borrow.Author.Needs.{needs}
-use Rattle.layout.specs.InSteps.{InSteps, steps-none, step-rows, step-room, row-next, step-from, step-few, steps-more, steps-end}
+use Rattle.layout.proofs.Steps.{InSteps, steps-none, step-rows, step-room, row-next, step-from, step-few, steps-more, steps-end}
 use Rattle.layout.proofs.take_edges.Statement.{statement}
 use Rattle.layout.proofs.take_edges.Tie as tie
 

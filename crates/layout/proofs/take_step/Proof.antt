@@ -4,8 +4,8 @@ use mathlib.Core.Path.{refl}
 use Prim.Native.Nat.{_-_}
 use lib.ListN.{length}
 use borrow.Author.Needs.{needs}
-use Rattle.layout.specs.Takers.{rowEdge}
-use Rattle.layout.specs.InTakers.{InTakers, takers-none, takers-more, takers-end}
+use Rattle.layout.specs.inner.Takers.{rowEdge}
+use Rattle.layout.proofs.Scanning.{InTakers, takers-none, takers-more, takers-end}
 use Rattle.layout.proofs.take_step.Statement.{statement}
 use Rattle.layout.proofs.take_step.Tie as tie
 

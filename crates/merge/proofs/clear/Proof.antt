@@ -1,7 +1,7 @@
 -- `merge::clear` clears one place after another: the loop keeps those that are cleared so far.
 use Prim.Native.Nat.{_-_}
 use borrow.Author.Needs.{needs}
-use Rattle.merge.specs.InClear.{InClear, clear-none, clear-more, clear-end}
+use Rattle.merge.proofs.Clearing.{InClear, clear-none, clear-more, clear-end}
 use Rattle.merge.proofs.clear.Statement.{statement}
 use Rattle.merge.proofs.clear.Tie as tie
 

@@ -3,7 +3,7 @@
 use mathlib.Core.Path.{_≡_, refl}
 use Prim.Native.Nat.{_-_}
 use lib.ListN.{length}
-use Rattle.passes.specs.Blocks.{Filled}
+use Rattle.passes.specs.inner.Blocks.{Filled}
 use Rattle.passes.proofs.Chains.{fill-start, fill-more, fill-end, BlockAt, block-at, below-last}
 use borrow.Author.Needs.{needs}
 use Rattle.passes.proofs.fill_table.Statement.{statement}

@@ -4,7 +4,7 @@ use mathlib.Core.Path.{refl}
 use Prim.Native.Nat.{_-_}
 use native.Mathlib.Omega.{arith}
 use lib.ListN.{length}
-use Rattle.passes.specs.Loops.{InWords}
+use Rattle.passes.specs.inner.Loops.{InWords}
 use Rattle.passes.proofs.Chains.{BlockAt, block-at}
 use Rattle.passes.proofs.Onward.{clean-of-block}
 use Rattle.passes.proofs.Naming.{words-start, words-more, words-end, pick-small}

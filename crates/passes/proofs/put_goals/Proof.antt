@@ -1,7 +1,7 @@
 -- `passes::put_goals` writes row n. The loop's invariant: the goals passed have what is left to pay from their states. The measure is how many are left.
 use borrow.Author.Needs.{needs}
 use Prim.Native.Nat.{_-_}
-use Rattle.passes.specs.Loops.{InGoals}
+use Rattle.passes.specs.inner.Loops.{InGoals}
 use Rattle.passes.proofs.Goals.{GoalAt, goal-read, goals-start, goals-more, goals-end}
 use Rattle.passes.proofs.put_goals.Statement.{statement}
 use Rattle.passes.proofs.put_goals.Tie as tie

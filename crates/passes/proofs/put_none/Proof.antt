@@ -1,7 +1,8 @@
 -- `passes::put_none` writes the top for each state before block b. The loop's invariant: the states passed hold it. The measure is how many are left.
 use borrow.Author.Needs.{needs}
 use Prim.Native.Nat.{_-_}
-use Rattle.passes.specs.Loops.{InNone}
+use Rattle.trellis.specs.Bounds.{mostStates}
+use Rattle.passes.specs.inner.Loops.{InNone}
 use Rattle.passes.proofs.Tables.{none-start, none-more, none-end}
 use Rattle.passes.proofs.put_none.Statement.{statement}
 use Rattle.passes.proofs.put_none.Tie as tie
@@ -10,7 +11,7 @@ abbrev Inv-loop : tie.InvT-loop
 Inv-loop b costs₀ s₀ costs s = InNone b costs₀ costs s
 
 abbrev μ-loop : tie.MeasureT-loop
-μ-loop b costs₀ s₀ costs s = 64 - s
+μ-loop b costs₀ s₀ costs s = mostStates - s
 
 loop-holds : tie.Need-loop-holds Inv-loop μ-loop
 loop-holds c = none-start

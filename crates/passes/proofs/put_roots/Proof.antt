@@ -2,7 +2,7 @@
 -- and picks there. The measure is how many are left.
 use mathlib.Core.Path.{refl}
 use Prim.Native.Nat.{_-_}
-use Rattle.passes.specs.Loops.{InRoots}
+use Rattle.passes.specs.inner.Loops.{InRoots}
 use Rattle.passes.proofs.Tables.{RootIn, root-read, roots-start, roots-more, roots-end}
 use borrow.Author.Needs.{needs}
 use Rattle.passes.proofs.put_roots.Statement.{statement}

@@ -1,5 +1,5 @@
 -- `passes::ranked_ahead` puts the state below the cost, or says that there is no path.
-use Rattle.passes.specs.Blocks.{aheadOf}
+use Rattle.passes.specs.inner.Blocks.{aheadOf}
 use Rattle.passes.proofs.Goals.{rank-in, rank-none}
 use borrow.Author.Needs.{needs}
 use Rattle.passes.proofs.ranked_ahead.Statement.{statement}

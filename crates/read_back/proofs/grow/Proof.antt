@@ -2,8 +2,8 @@
 use native.Mathlib.Omega.{arith}
 use Prim.Native.Nat.{_-_}
 use Rattle.trellis.specs.Lists.{run}
-use Rattle.section_file.specs.Answer.{edgeAt}
-use Rattle.read_back.specs.Levels.{grownCodes}
+use Rattle.section_file.specs.inner.Answer.{edgeAt}
+use Rattle.read_back.specs.inner.Levels.{grownCodes}
 use Rattle.read_back.proofs.Growing.{begins-of, Growing, growing-start, growing-next, growing-over, growing-all}
 use borrow.Author.Needs.{needs}
 use Rattle.read_back.proofs.grow.Statement.{statement}

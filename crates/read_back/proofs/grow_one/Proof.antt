@@ -3,8 +3,8 @@
 use mathlib.Core.Path.{sym, _∙_}
 use native.Mathlib.Omega.{arith}
 use Prim.Native.Nat.{_-_}
-use Rattle.section_file.specs.Answer.{edgeAt}
-use Rattle.read_back.specs.Levels.{vertexOf, furtherCode}
+use Rattle.section_file.specs.inner.Answer.{edgeAt}
+use Rattle.read_back.specs.inner.Levels.{vertexOf, furtherCode}
 use Rattle.read_back.proofs.Growing.{further-at, Putting, putting-start, putting-next, putting-over, putting-done, putting-stops}
 use borrow.Author.Needs.{needs}
 use Rattle.read_back.proofs.grow_one.Statement.{statement}

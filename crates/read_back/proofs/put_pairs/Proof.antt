@@ -2,7 +2,7 @@
 use native.Mathlib.Omega.{arith}
 use Prim.Native.Nat.{_-_}
 use lib.ListN.{length-set}
-use Rattle.read_back.specs.Growing.{pairOfCode}
+use Rattle.read_back.specs.inner.Growing.{pairOfCode}
 use Rattle.read_back.proofs.Writing.{Pieces, pieces-start, pair-is, pieces-next, pieces-all}
 use borrow.Author.Needs.{needs}
 use Rattle.read_back.proofs.put_pairs.Statement.{statement}

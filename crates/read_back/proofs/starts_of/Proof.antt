@@ -2,7 +2,7 @@
 use mathlib.Core.Path.{refl}
 use native.Mathlib.Omega.{arith}
 use Prim.Native.Nat.{_-_}
-use Rattle.section_file.specs.Answer.{edgeAt}
+use Rattle.section_file.specs.inner.Answer.{edgeAt}
 use Rattle.read_back.proofs.Growing.{Noted, noted-start, noted-next, noted-all}
 use borrow.Author.Needs.{needs}
 use Rattle.read_back.proofs.starts_of.Statement.{statement}

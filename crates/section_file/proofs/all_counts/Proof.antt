@@ -2,14 +2,15 @@
 use mathlib.Core.Path.{_∙_, ap}
 use Prim.Native.Nat.{_+_, _-_}
 use lib.ListN.{getD}
-use Rattle.section_file.specs.Usable.{within}
+use Rattle.trellis.specs.Bounds.{mostWords}
+use Rattle.trellis.specs.Lists.{within}
 use Rattle.section_file.proofs.Tests.{Passed, passed-start, passed-next, passed-fails, passed-all}
 use borrow.Author.Needs.{needs}
 use Rattle.section_file.proofs.all_counts.Statement.{statement}
 use Rattle.section_file.proofs.all_counts.Tie as tie
 
 abbrev Inv-loop : tie.InvT-loop
-Inv-loop l at count t₀ t = Passed (λ t. within 1 1024 (getD l (at + t) 0)) count t
+Inv-loop l at count t₀ t = Passed (λ t. within 1 mostWords (getD l (at + t) 0)) count t
 
 abbrev μ-loop : tie.MeasureT-loop
 μ-loop l at count t₀ t = count - t
@@ -27,7 +28,7 @@ is-within-requires : tie.Need-is-within-requires Inv-loop μ-loop
 is-within-requires c κs = search needs
 
 returns : tie.Need-returns Inv-loop μ-loop
-returns c = passed-fails (c .before .before .before .before .loop .inv) (search needs) (c .before .is-within .ensures ∙ ap (within 1 1024) (c .before .before .number .ensures)) (c .if1 .taken)
+returns c = passed-fails (c .before .before .before .before .loop .inv) (search needs) (c .before .is-within .ensures ∙ ap (within 1 mostWords) (c .before .before .number .ensures)) (c .if1 .taken)
 
 add-t : tie.Need-add-t Inv-loop μ-loop
 add-t c = search needs
@@ -36,7 +37,7 @@ loop-less : tie.Need-loop-less Inv-loop μ-loop
 loop-less c = search needs
 
 loop-again : tie.Need-loop-again Inv-loop μ-loop
-loop-again c = passed-next (c .before .before .before .before .loop .inv) (search needs) (c .before .is-within .ensures ∙ ap (within 1 1024) (c .before .before .number .ensures)) (c .if1 .left)
+loop-again c = passed-next (c .before .before .before .before .loop .inv) (search needs) (c .before .is-within .ensures ∙ ap (within 1 mostWords) (c .before .before .number .ensures)) (c .if1 .left)
 
 returns-2 : tie.Need-returns-2 Inv-loop μ-loop
 returns-2 c = passed-all (c .before .loop .inv) (search needs)

@@ -2,7 +2,7 @@
 -- The measure is how many are left.
 use borrow.Author.Needs.{needs}
 use Prim.Native.Nat.{_-_}
-use Rattle.sweep.specs.Loops.{InClear}
+use Rattle.sweep.specs.inner.Loops.{InClear}
 use Rattle.sweep.proofs.Lowering.{clear-start, clear-more, clear-end}
 use Rattle.sweep.proofs.clear.Statement.{statement}
 use Rattle.sweep.proofs.clear.Tie as tie

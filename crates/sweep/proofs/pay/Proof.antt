@@ -1,5 +1,5 @@
 -- `sweep::pay` adds unless the sum would pass the top, where there is no path.
-use Rattle.paths.specs.Costs.{plus}
+use Rattle.paths.specs.inner.Costs.{plus}
 use borrow.Author.Needs.{needs}
 use Rattle.sweep.proofs.pay.Statement.{statement}
 use Rattle.sweep.proofs.pay.Tie as tie

@@ -2,7 +2,7 @@
 use borrow.Author.Needs.{needs}
 use mathlib.Core.Path.{refl}
 use Prim.Native.Nat.{_-_}
-use Rattle.sweep.specs.Loops.{InSweep}
+use Rattle.sweep.specs.inner.Loops.{InSweep}
 use Rattle.sweep.proofs.Edges.{reads-at, step-in, vertices-to}
 use Rattle.sweep.proofs.Lowering.{is-clear}
 use Rattle.sweep.proofs.Sweeping.{LastStep, sweep-start, last-fits, last-step, sweep-more, sweep-end}

@@ -2,8 +2,8 @@
 use mathlib.Core.Path.{sym, _∙_}
 use Prim.Native.Nat.{_-_}
 use borrow.Author.Needs.{needs}
-use Rattle.witness.specs.Search.{NoneBefore}
-use Rattle.witness.specs.Rows.{refutesIn}
+use Rattle.witness.specs.inner.Search.{NoneBefore}
+use Rattle.witness.specs.inner.Rows.{refutesIn}
 use Rattle.witness.proofs.Search.{InJ, InK, before-none, again-K, again-J, again-I, hit-K, none-left}
 use Rattle.witness.proofs.Passing.{enter-J, enter-K}
 use Rattle.witness.proofs.first_witness.Statement.{statement}

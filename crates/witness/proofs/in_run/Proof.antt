@@ -1,6 +1,6 @@
 -- `witness::in_run` meets its contract, by its two ways out.
 use borrow.Author.Tests.{lt-ltb, le-ltb}
-use Rattle.witness.specs.Rows.{inRun}
+use Rattle.witness.specs.inner.Rows.{inRun}
 use borrow.Author.Needs.{needs}
 use Rattle.witness.proofs.in_run.Statement.{statement}
 use Rattle.witness.proofs.in_run.Tie as tie

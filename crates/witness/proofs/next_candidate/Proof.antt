@@ -2,8 +2,8 @@
 use Prim.Native.Nat.{_-_}
 use borrow.Author.Needs.{needs}
 use borrow.Author.Tests.{not-false}
-use Rattle.witness.specs.Search.{Next}
-use Rattle.witness.specs.Rows.{refutesIn}
+use Rattle.witness.specs.inner.Search.{Next}
+use Rattle.witness.specs.inner.Rows.{refutesIn}
 use Rattle.witness.proofs.Search.{next-start, next-none}
 use Rattle.witness.proofs.next_candidate.Statement.{statement}
 use Rattle.witness.proofs.next_candidate.Tie as tie

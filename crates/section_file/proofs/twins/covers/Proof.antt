@@ -2,7 +2,7 @@
 use Prim.Native.Nat.{_+_, _-_, _*_}
 use lib.ListN.{getD}
 use lib.Dec.{eqb}
-use Rattle.section_file.specs.Usable.{any}
+use Rattle.trellis.specs.Lists.{any}
 use Rattle.section_file.proofs.Tests.{Passed, passed-start}
 use Rattle.section_file.proofs.Marking.{covered-fails, covered-next, covered-all}
 use borrow.Author.Needs.{needs}

@@ -47,8 +47,8 @@ use denote.Triple.Entry.{Vals, onEntry}
 use denote.Triple.Spec.{Meets, tripleOf}
 use denote.Triple.Table.{entered, cited}
 use denote.Triple.Walked.{says, Stays, stay-ref, walkOf, goes-ref, Walks, ends-at, walked, walk-meets}
-use Rattle.table.specs.Answer.{foundAt}
-use Rattle.table.specs.ReadOn.{placeAfter}
+use Rattle.table.specs.inner.Answer.{foundAt}
+use Rattle.table.specs.inner.ReadOn.{placeAfter}
 use Rattle.table.specs.declared.reader.Reader.{Reader}
 use Rattle.table.specs.declared.Found.{Found}
 use Rattle.table.proofs.reader.Reader as T

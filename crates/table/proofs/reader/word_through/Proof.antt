@@ -39,7 +39,7 @@ use denote.Triple.Walked.{says, Stays, stay-none, stay-none-slice, walkOf, goes-
 use denote.Exit.{yes}
 use denote.Triple.Clauses.{ensured, lasts}
 use Rattle.table.specs.File.{fileWord}
-use Rattle.table.specs.Answer.{held}
+use Rattle.table.specs.inner.Answer.{held}
 use Rattle.table.specs.declared.reader.Reader.{Reader}
 use Rattle.table.specs.declared.Word.{Word}
 use Rattle.table.proofs.reader.Reader as T

@@ -1,0 +1,40 @@
+-- What put_numbers keeps: the numbers that are written so far.
+use mathlib.Core.Path.{_≡_, refl, sym, ap, subst, _∙_}
+use mathlib.Core.List.{List, [], _∷_, _++_}
+use Prim.Native.Nat.{ℕ, _+_, _<_, _≤_}
+use native.Mathlib.Omega.{arith}
+use native.Mathlib.Numerals.{add-one}
+use lib.ListN.{length, getD, set, length-set}
+use Rattle.trellis.specs.Lists.{run}
+use Rattle.trellis.specs.inner.Write.{Wrote}
+use Rattle.trellis.proofs.Lists.{run-snoc}
+use Rattle.trellis.proofs.Write.{wrote-one}
+use Rattle.assemble.specs.inner.Numbers.{firstOf}
+
+pub record InNumbers (source : List ℕ) (count : ℕ) (old : List ℕ) (at : ℕ) (new : List ℕ) (i : ℕ) : Type 0 where
+  pub i-le : i ≤ count
+  pub wrote : Wrote old at (firstOf source i) new (at + i)
+  pub len : length new ≡ length old
+
+pub numbers-none : (source : List ℕ) (count : ℕ) (old : List ℕ) (at : ℕ) → InNumbers source count old at old 0
+unfolding run
+numbers-none source count old at = record { i-le = omega arith; wrote = record { new-is = refl; end-is = refl }; len = refl }
+
+pub numbers-more : {source old new : List ℕ} {count at i v : ℕ} → InNumbers source count old at new i → v ≡ getD source i 0 → i < count
+    → InNumbers source count old at (set new (at + i) v) (i + 1)
+numbers-more {source} {old} {new} {count} {at} {i} {v} c e h = record {
+  i-le = omega arith;
+  wrote = record { new-is = W .new-is; end-is = omega (arith, W .end-is) };
+  len = simp length-set (c .len);
+}
+  where
+    more : firstOf source (i + 1) ≡ firstOf source i ++ (v ∷ [])
+    more = rw (add-one i) (run-snoc (λ k. getD source k 0) 0 i ∙ ap (λ x. firstOf source i ++ (x ∷ [])) (let z : 0 + i ≡ i = omega arith in rw z (sym e)))
+
+    W : Wrote old at (firstOf source (i + 1)) (set new (at + i) v) (at + i + 1)
+    W = subst (λ vs. Wrote old at vs (set new (at + i) v) (at + i + 1)) (sym more) (wrote-one v (c .wrote))
+
+pub numbers-end : {source old new : List ℕ} {count at i : ℕ} → InNumbers source count old at new i → count ≤ i → Wrote old at (firstOf source count) new (at + count)
+numbers-end {source} {old} {new} {count} {at} {i} c h =
+    let e : i ≡ count = omega (arith, c .i-le) in
+    subst (λ k. Wrote old at (firstOf source k) new (at + k)) e (c .wrote)

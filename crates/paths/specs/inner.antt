@@ -1,0 +1,6 @@
+-- What only the contracts of inner functions cite.
+pub mod Graph
+pub mod Costs
+pub mod Sections
+pub mod Ranked
+pub mod Ordered

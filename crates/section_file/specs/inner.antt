@@ -1,0 +1,4 @@
+-- What only the contracts of inner functions cite.
+pub mod Sound
+pub mod Places
+pub mod Answer

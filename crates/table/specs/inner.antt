@@ -1,0 +1,4 @@
+-- What only the contracts of inner functions cite.
+pub mod Good
+pub mod Answer
+pub mod ReadOn
