@@ -9,11 +9,11 @@ use Rattle.trellis.specs.Lists.{run}
 use Rattle.trellis.specs.inner.Write.{Wrote}
 use Rattle.trellis.proofs.Lists.{run-snoc}
 use Rattle.trellis.proofs.Write.{wrote-one}
-use Rattle.assemble.specs.inner.Numbers.{firstOf}
+use Rattle.assemble.specs.inner.Numbers.{firstNumbers}
 
 pub record InNumbers (source : List ℕ) (count : ℕ) (old : List ℕ) (at : ℕ) (new : List ℕ) (i : ℕ) : Type 0 where
   pub i-le : i ≤ count
-  pub wrote : Wrote old at (firstOf source i) new (at + i)
+  pub wrote : Wrote old at (firstNumbers source i) new (at + i)
   pub len : length new ≡ length old
 
 pub numbers-none : (source : List ℕ) (count : ℕ) (old : List ℕ) (at : ℕ) → InNumbers source count old at old 0
@@ -28,13 +28,13 @@ numbers-more {source} {old} {new} {count} {at} {i} {v} c e h = record {
   len = simp length-set (c .len);
 }
   where
-    more : firstOf source (i + 1) ≡ firstOf source i ++ (v ∷ [])
-    more = rw (add-one i) (run-snoc (λ k. getD source k 0) 0 i ∙ ap (λ x. firstOf source i ++ (x ∷ [])) (let z : 0 + i ≡ i = omega arith in rw z (sym e)))
+    more : firstNumbers source (i + 1) ≡ firstNumbers source i ++ (v ∷ [])
+    more = rw (add-one i) (run-snoc (λ k. getD source k 0) 0 i ∙ ap (λ x. firstNumbers source i ++ (x ∷ [])) (let z : 0 + i ≡ i = omega arith in rw z (sym e)))
 
-    W : Wrote old at (firstOf source (i + 1)) (set new (at + i) v) (at + i + 1)
+    W : Wrote old at (firstNumbers source (i + 1)) (set new (at + i) v) (at + i + 1)
     W = subst (λ vs. Wrote old at vs (set new (at + i) v) (at + i + 1)) (sym more) (wrote-one v (c .wrote))
 
-pub numbers-end : {source old new : List ℕ} {count at i : ℕ} → InNumbers source count old at new i → count ≤ i → Wrote old at (firstOf source count) new (at + count)
+pub numbers-end : {source old new : List ℕ} {count at i : ℕ} → InNumbers source count old at new i → count ≤ i → Wrote old at (firstNumbers source count) new (at + count)
 numbers-end {source} {old} {new} {count} {at} {i} c h =
     let e : i ≡ count = omega (arith, c .i-le) in
-    subst (λ k. Wrote old at (firstOf source k) new (at + k)) e (c .wrote)
+    subst (λ k. Wrote old at (firstNumbers source k) new (at + k)) e (c .wrote)

@@ -10,17 +10,17 @@ use Rattle.trellis.specs.Lists.{rank}
 use Rattle.trellis.specs.inner.Write.{Wrote}
 use Rattle.trellis.proofs.Lists.{length-run, each-at}
 use Rattle.trellis.proofs.Write.{wrote-length, wrote-at, wrote-before, wrote-behind}
-use Rattle.layout.specs.inner.States.{statesOf, Few, Marked, Summed, Numbered, vertexRow}
+use Rattle.layout.specs.inner.States.{occurring, Few, StatesMarked, Summed, StatesNumbered, vertexRow}
 use Rattle.layout.proofs.Marks.{numbered}
-use Rattle.assemble.specs.inner.Outer.{stateRow, RowPut, Asked, Placed, Put}
+use Rattle.assemble.specs.inner.Outer.{stateRow, RowPut, OuterAsked, OuterPlaced, OuterPut}
 
-row-is : {states ranks : List ℕ} {count : ℕ} → Few states → Numbered states ranks count → vertexRow states ranks ≡ stateRow states
+row-is : {states ranks : List ℕ} {count : ℕ} → Few states → StatesNumbered states ranks count → vertexRow states ranks ≡ stateRow states
 row-is {states} {ranks} {count} F N = ext-getD 0 (vertexRow states ranks) (stateRow states) (length-run _ 0 (length states) ∙ sym (length-run _ 0 (length states)))
     (λ i h. let l : i < length states = omega (arith, length-run (λ i. getD ranks (getD states i 0) 0) 0 (length states)) in
     each-at (λ i. getD ranks (getD states i 0) 0) (length states) i 0 l ∙ N .is (getD states i 0) (F .below i l)
-    ∙ sym (each-at (λ i. rank (getD states i 0) (statesOf states)) (length states) i 0 l))
+    ∙ sym (each-at (λ i. rank (getD states i 0) (occurring states)) (length states) i 0 l))
 
-pub row-put : {states old new marks ranks : List ℕ} {place count : ℕ} → Few states → Marked states (length states) marks → Summed marks ranks count
+pub row-put : {states old new marks ranks : List ℕ} {place count : ℕ} → Few states → StatesMarked states (length states) marks → Summed marks ranks count
     → Wrote old place (vertexRow states ranks) new (place + length states) → RowPut states old place new marks count
 row-put {states} {old} {new} {marks} {ranks} {place} {count} F M S W =
     let N = numbered F M S in
@@ -34,10 +34,10 @@ row-put {states} {old} {new} {marks} {ranks} {place} {count} F M S W =
 
 module _ {states old new marks : List ℕ} {place count : ℕ} (R : RowPut states old place new marks count) (room : place + length states ≤ length old) where
   size : length (stateRow states) ≡ length states
-  size = length-run (λ i. rank (getD states i 0) (statesOf states)) 0 (length states)
+  size = length-run (λ i. rank (getD states i 0) (occurring states)) 0 (length states)
 
-  pub row-at : (i : ℕ) → i < length states → getD new (place + i) 0 ≡ rank (getD states i 0) (statesOf states)
-  row-at i h = wrote-at (R .wrote) (omega (arith, size)) i (omega (arith, size)) ∙ each-at (λ i. rank (getD states i 0) (statesOf states)) (length states) i 0 h
+  pub row-at : (i : ℕ) → i < length states → getD new (place + i) 0 ≡ rank (getD states i 0) (occurring states)
+  row-at i h = wrote-at (R .wrote) (omega (arith, size)) i (omega (arith, size)) ∙ each-at (λ i. rank (getD states i 0) (occurring states)) (length states) i 0 h
 
   pub row-before : (j : ℕ) → j < place → getD new j 0 ≡ getD old j 0
   row-before j h = wrote-before (R .wrote) j h
@@ -50,7 +50,7 @@ module _ {states old new marks : List ℕ} {place count : ℕ} (R : RowPut state
 
 -- ---- both rows
 
-module _ {roots goals old inner : List ℕ} {n : ℕ} (A : Asked roots goals n old inner) where
+module _ {roots goals old inner : List ℕ} {n : ℕ} (A : OuterAsked roots goals n old inner) where
   one-row : length roots ≤ n * length roots
   one-row =
       let p : 1 * length roots ≤ n * length roots = mul-le-mul-right (length roots) (A .some) in
@@ -70,7 +70,7 @@ module _ {roots goals old inner : List ℕ} {n : ℕ} (A : Asked roots goals n o
     last-room = omega (arith, last-row, A .aimed, row-length P first-room)
 
     module _ {new goalMarks : List ℕ} {goalCount : ℕ} (Q : RowPut goals mid (n * length roots) new goalMarks goalCount) where
-      placed : Placed roots goals n old new
+      placed : OuterPlaced roots goals n old new
       placed = record {
         rootRow = λ i h. row-before Q last-room i (omega (arith, one-row)) ∙ ap (λ k. getD mid k 0) (sym (zero-add i)) ∙ row-at P first-room i h;
         goalRow = λ i h. row-at Q last-room i (omega (arith, A .aimed));
@@ -79,7 +79,7 @@ module _ {roots goals old inner : List ℕ} {n : ℕ} (A : Asked roots goals n o
         len = row-length Q last-room ∙ row-length P first-room;
       }
 
-      pub put : Put roots goals n old new inner rootMarks goalMarks (set (set inner 0 rootCount) n goalCount)
+      pub put : OuterPut roots goals n old new inner rootMarks goalMarks (set (set inner 0 rootCount) n goalCount)
       put = record {
         placed = placed;
         rootsMarked = P .marked;

@@ -19,7 +19,7 @@ use Rattle.trellis.proofs.Write.{wrote-then, wrote-length}
 use Rattle.layout.specs.inner.States.{marksBelow, markedBelow, Bits}
 use Rattle.layout.specs.inner.Pieces.{stepTakers, stepPairs, stepSymbols}
 use Rattle.layout.proofs.AllPieces.{pairs-size, symbols-size}
-use Rattle.assemble.specs.inner.Numbers.{firstOf, numbersOf, Parts}
+use Rattle.assemble.specs.inner.Numbers.{firstNumbers, numbersOf, Parts}
 
 regroup : (h a b c d e f : List ℕ) → (((((h ++ a) ++ b) ++ c) ++ d) ++ e) ++ f ≡ h ++ (a ++ (b ++ (c ++ (d ++ (e ++ f)))))
 regroup h a b c d e f = simp append-assoc
@@ -68,7 +68,7 @@ module _ {n : ℕ} {counts edgeCounts rootMarks goalMarks m labels words b0 : Li
     pub room-vertices : a1 + (n + 1) ≤ length b1
     room-vertices = omega (arith, H .end-is, wrote-length H, P .room)
 
-    module _ {b2 : List ℕ} {a2 : ℕ} (A : Wrote b1 a1 (firstOf counts (n + 1)) b2 a2) where
+    module _ {b2 : List ℕ} {a2 : ℕ} (A : Wrote b1 a1 (firstNumbers counts (n + 1)) b2 a2) where
       at2 : a2 ≡ 4 + n
       at2 = omega (arith, H .end-is, A .end-is, length-run (λ k. getD counts k 0) 0 (n + 1))
 
@@ -78,7 +78,7 @@ module _ {n : ℕ} {counts edgeCounts rootMarks goalMarks m labels words b0 : Li
       pub room-edges : a2 + n ≤ length b2
       room-edges = omega (arith, at2, len2, P .room)
 
-      module _ {b3 : List ℕ} {a3 : ℕ} (B : Wrote b2 a2 (firstOf edgeCounts n) b3 a3) where
+      module _ {b3 : List ℕ} {a3 : ℕ} (B : Wrote b2 a2 (firstNumbers edgeCounts n) b3 a3) where
         at3 : a3 ≡ 4 + 2 * n
         at3 = omega (arith, at2, B .end-is, length-run (λ k. getD edgeCounts k 0) 0 n)
 
@@ -120,9 +120,9 @@ module _ {n : ℕ} {counts edgeCounts rootMarks goalMarks m labels words b0 : Li
                 unfolding numbersOf
                 all-parts = subst (λ vs. Wrote b0 0 vs b7 a7) together (wrote-then (wrote-then (wrote-then (wrote-then (wrote-then (wrote-then H A) B) C) D) E) F)
                   where
-                    together : ((((((q ∷ n ∷ states ∷ []) ++ firstOf counts (n + 1)) ++ firstOf edgeCounts n) ++ markedBelow rootMarks mostStates) ++ markedBelow goalMarks mostStates)
+                    together : ((((((q ∷ n ∷ states ∷ []) ++ firstNumbers counts (n + 1)) ++ firstNumbers edgeCounts n) ++ markedBelow rootMarks mostStates) ++ markedBelow goalMarks mostStates)
                         ++ joinedUp (stepPairs m labels n) n) ++ joinedUp (stepSymbols m labels n) n
                         ≡ q ∷ n ∷ states ∷
-                        (firstOf counts (suc n) ++ (firstOf edgeCounts n ++ (markedBelow rootMarks mostStates ++ (markedBelow goalMarks mostStates
+                        (firstNumbers counts (suc n) ++ (firstNumbers edgeCounts n ++ (markedBelow rootMarks mostStates ++ (markedBelow goalMarks mostStates
                         ++ (joinedUp (stepPairs m labels n) n ++ joinedUp (stepSymbols m labels n) n)))))
-                    together = rw (add-one n) (regroup (q ∷ n ∷ states ∷ []) (firstOf counts (suc n)) (firstOf edgeCounts n) (markedBelow rootMarks mostStates) (markedBelow goalMarks mostStates) (joinedUp (stepPairs m labels n) n) (joinedUp (stepSymbols m labels n) n))
+                    together = rw (add-one n) (regroup (q ∷ n ∷ states ∷ []) (firstNumbers counts (suc n)) (firstNumbers edgeCounts n) (markedBelow rootMarks mostStates) (markedBelow goalMarks mostStates) (joinedUp (stepPairs m labels n) n) (joinedUp (stepSymbols m labels n) n))

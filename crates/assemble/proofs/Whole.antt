@@ -19,21 +19,21 @@ use Rattle.trellis.proofs.Ascending.{numbers, ascending-length}
 use Rattle.trellis.proofs.Paths.{edge-eq}
 use Rattle.trellis.proofs.Vertices.{key-root, key-goal, vertex-below}
 use Rattle.depths.specs.inner.Words.{words, Held}
-use Rattle.depths.specs.inner.Merge.{Sound}
+use Rattle.depths.specs.inner.Merge.{InnerMerged}
 use Rattle.depths.proofs.Words.{held-length, word-root, word-label, word-goal}
-use Rattle.layout.specs.inner.States.{statesOf, Few}
+use Rattle.layout.specs.inner.States.{occurring, Few}
 use Rattle.layout.specs.inner.Takers.{rowEdge, takers}
-use Rattle.layout.specs.inner.Pieces.{SmallMap, stepEdge, stepTakers, stepList, Taken, stepPairs, stepSymbols}
+use Rattle.layout.specs.inner.Pieces.{SmallMap, mapEdge, stepTakers, stepList, Taken, stepPairs, stepSymbols}
 use Rattle.layout.proofs.FirstWords.{takers-edges}
 use Rattle.layout.proofs.Marks.{marked-are}
-use Rattle.assemble.specs.inner.Outer.{Put}
+use Rattle.assemble.specs.inner.Outer.{OuterPut}
 use Rattle.assemble.specs.inner.Numbers.{numbersOf}
 
 six-long : (a b c d e f : List ℕ) → length (a ++ (b ++ (c ++ (d ++ (e ++ f))))) ≡ length a + (length b + (length c + (length d + (length e + length f))))
 six-long a b c d e f = simp length-append
 
 module _ {n : ℕ} {roots labels goals old new inner rootMarks goalMarks counts : List ℕ} (H : Held n roots labels goals)
-    (S : Sound n (words roots labels goals) 1 old inner) (P : Put roots goals n old new inner rootMarks goalMarks counts) where
+    (S : InnerMerged n (words roots labels goals) 1 old inner) (P : OuterPut roots goals n old new inner rootMarks goalMarks counts) where
   abbrev table : List Word
   table = words roots labels goals
 
@@ -42,23 +42,23 @@ module _ {n : ℕ} {roots labels goals old new inner rootMarks goalMarks counts 
 
   -- ---- states are keys
 
-  pub root-states : statesOf roots ≡ keys n table 0
+  pub root-states : occurring roots ≡ keys n table 0
   unfolding keys
   root-states = ap (ascending ltb) (each-same (λ i. getD roots i 0) (key n table 0) (length roots) (length table) (sym size)
       (λ i h. sym (key-root n table i ∙ word-root roots labels goals i (omega (arith, size)))))
 
-  pub goal-states : statesOf goals ≡ keys n table n
+  pub goal-states : occurring goals ≡ keys n table n
   unfolding keys
   goal-states = ap (ascending ltb) (each-same (λ i. getD goals i 0) (key n table n) (length goals) (length table) (H .aimed ∙ sym size)
       (λ i h. sym (key-goal n table i (H .table .some) ∙ word-goal roots labels goals i (omega (arith, size, H .aimed)))))
 
   -- ---- the map
 
-  root-vertex : (i : ℕ) → i < length roots → rank (getD roots i 0) (statesOf roots) ≡ vertexOf n table 0 i
+  root-vertex : (i : ℕ) → i < length roots → rank (getD roots i 0) (occurring roots) ≡ vertexOf n table 0 i
   unfolding vertexOf
   root-vertex i h = ap₂ rank (sym (key-root n table i ∙ word-root roots labels goals i (omega (arith, size)))) root-states
 
-  goal-vertex : (i : ℕ) → i < length roots → rank (getD goals i 0) (statesOf goals) ≡ vertexOf n table n i
+  goal-vertex : (i : ℕ) → i < length roots → rank (getD goals i 0) (occurring goals) ≡ vertexOf n table n i
   unfolding vertexOf
   goal-vertex i h = ap₂ rank (sym (key-goal n table i (H .table .some) ∙ word-goal roots labels goals i (omega (arith, size)))) goal-states
 
@@ -133,7 +133,7 @@ module _ {n : ℕ} {roots labels goals old new inner rootMarks goalMarks counts 
   -- ---- the edges and the numbers, where the table is rectangular
 
   module _ (R : Rectangular n table) where
-    step-edge : (t : ℕ) → t < n → (i : ℕ) → i < length table → stepEdge new labels n t i ≡ edgeOf n table t i
+    step-edge : (t : ℕ) → t < n → (i : ℕ) → i < length table → mapEdge new labels n t i ≡ edgeOf n table t i
     unfolding rowEdge
     step-edge t deep i h =
         let k : i < length roots = omega (arith, size) in
@@ -144,12 +144,12 @@ module _ {n : ℕ} {roots labels goals old new inner rootMarks goalMarks counts 
     pub step-edges : (t : ℕ) → t < n → stepList new labels n t ≡ edgesAt n table t
     unfolding stepList stepTakers
     step-edges t deep =
-        ap (λ w. map (stepEdge new labels n t) (takers (stepEdge new labels n t) w)) (H .labelled ∙ sym size)
-        ∙ takers-edges n table (H .table) R t deep (stepEdge new labels n t) (step-edge t deep)
+        ap (λ w. map (mapEdge new labels n t) (takers (mapEdge new labels n t) w)) (H .labelled ∙ sym size)
+        ∙ takers-edges n table (H .table) R t deep (mapEdge new labels n t) (step-edge t deep)
 
     takers-long : (t : ℕ) → t < n → length (stepTakers new labels n t) ≡ edgeCount n table t
     unfolding edgeCount stepList
-    takers-long t h = sym (length-map (stepTakers new labels n t) (stepEdge new labels n t)) ∙ ap length (step-edges t h)
+    takers-long t h = sym (length-map (stepTakers new labels n t) (mapEdge new labels n t)) ∙ ap length (step-edges t h)
 
     -- all steps' edges, and the two arrays that are made of them
     all-pairs : (t : ℕ) → t ≤ n → joinedUp (stepPairs new labels n) t ≡ flatMap pairOf (joinedUp (edgesAt n table) t)

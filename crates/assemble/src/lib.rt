@@ -4,13 +4,15 @@ ghost use Prim.Native.Nat.{_+_, _*_, _<_, _≤_};
 ghost use lib.ListN.{length};
 ghost use Rattle.trellis.specs.inner.Write.{Wrote};
 ghost use Rattle.layout.specs.inner.States.{Few};
-ghost use Rattle.assemble.specs.inner.Outer.{Asked, RowPut, Put};
-ghost use Rattle.assemble.specs.inner.Numbers.{firstOf, numbersOf, Parts};
+ghost use Rattle.assemble.specs.inner.Outer.{OuterAsked, RowPut, OuterPut};
+ghost use Rattle.assemble.specs.inner.Numbers.{firstNumbers, numbersOf, Parts};
 use layout::states;
+use trellis::MOST_STATES;
+use trellis::MOST_SYMBOLS;
 
 // What is known of an outer depth: its states as marks, and how many there are.
 pub struct Depth {
-    pub marks: [u8; 64],
+    pub marks: [u8; MOST_STATES],
     pub count: u16,
 }
 
@@ -29,15 +31,21 @@ fn put_depth(words: &[u8], map: &mut [u16], place: usize) -> Depth
 
 // Both outer depths, and the vertex counts of all depths.
 pub struct Outer {
-    pub roots: [u8; 64],
-    pub goals: [u8; 64],
-    pub counts: [u16; 9],
+    pub roots: [u8; MOST_STATES],
+    pub goals: [u8; MOST_STATES],
+    pub counts: [u16; MOST_SYMBOLS + 1],
 }
 
 // The rows of depth 0 and depth n into the map; `inner` has the vertex counts of the inner depths.
-pub fn put_outer(roots: &[u8], goals: &[u8], n: usize, map: &mut [u16], inner: [u16; 9]) -> Outer
-    requires { ⌜ Asked (now roots) (now goals) n (now map) inner ⌝ }
-    ensures { λ r. ⌜ Put (now (roots .entry)) (now (goals .entry)) n (now (map .entry)) (now (map .exit)) inner (r .roots) (r .goals) (r .counts) ⌝ }
+pub fn put_outer(
+    roots: &[u8],
+    goals: &[u8],
+    n: usize,
+    map: &mut [u16],
+    inner: [u16; MOST_SYMBOLS + 1],
+) -> Outer
+    requires { ⌜ OuterAsked (now roots) (now goals) n (now map) inner ⌝ }
+    ensures { λ r. ⌜ OuterPut (now (roots .entry)) (now (goals .entry)) n (now (map .entry)) (now (map .exit)) inner (r .roots) (r .goals) (r .counts) ⌝ }
 {
     let first = put_depth(roots, map, 0);
     let last = put_depth(goals, map, n * roots.len());
@@ -56,7 +64,7 @@ pub fn put_outer(roots: &[u8], goals: &[u8], n: usize, map: &mut [u16], inner: [
 // The first `count` numbers of an array, from place `at` on.
 fn put_numbers(source: &[u16], count: usize, section: &mut [u16], at: usize) -> usize
     requires { ⌜ (count ≤ length (now source)) × (at + count ≤ length (now section)) ⌝ }
-    ensures { λ r. ⌜ Wrote (now (section .entry)) at (firstOf (now (source .entry)) count) (now (section .exit)) r ⌝ }
+    ensures { λ r. ⌜ Wrote (now (section .entry)) at (firstNumbers (now (source .entry)) count) (now (section .exit)) r ⌝ }
 {
     let mut i: usize = 0;
     while i < count {

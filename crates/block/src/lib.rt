@@ -8,7 +8,9 @@ ghost use Rattle.trellis.specs.Bounds.{mostSymbols};
 ghost use Rattle.trellis.specs.Lists.{first, one-if};
 ghost use Rattle.block.specs.Received.{erasedAt, costOver, blockDistance, stray, fitsBlock};
 ghost use Rattle.block.specs.inner.Prices.{Clean, Prices};
-ghost use Rattle.block.specs.inner.Loops.{InHeard};
+ghost use Rattle.block.specs.inner.Loops.{HeardOf};
+use trellis::MOST_Q;
+use trellis::MOST_SYMBOLS;
 
 const ERASURE_COST: u32 = 1;
 
@@ -84,11 +86,11 @@ fn price(cost: u32, symbol: u64, weight: u64) -> u64
 }
 
 // What the symbols add, four a step: the cost ranks first, then the symbol.
-pub fn prices(n: usize, received: u16, mask: u8) -> [u64; 32]
+pub fn prices(n: usize, received: u16, mask: u8) -> [u64; MOST_Q * MOST_SYMBOLS]
     requires { ⌜ n ≤ mostSymbols ⌝ }
     ensures { λ r. ⌜ Prices n received mask r ⌝ }
 {
-    let mut prices = [0u64; 32];
+    let mut prices = [0u64; MOST_Q * MOST_SYMBOLS];
     let mut weight: u64 = 65536;
     let mut t = n;
     while t > 0 {
@@ -124,7 +126,7 @@ fn counted(erased: bool) -> u32
 // The label with 0 where it is erased, and how many symbols are.
 fn heard_of(n: usize, mask: u8, label: u16) -> Heard
     requires { ⌜ n ≤ mostSymbols ⌝ }
-    ensures { λ r. ⌜ InHeard n mask label n (r .label) (r .erased) ⌝ }
+    ensures { λ r. ⌜ HeardOf n mask label n (r .label) (r .erased) ⌝ }
 {
     let mut rest: u16 = 0;
     let mut erased: u32 = 0;

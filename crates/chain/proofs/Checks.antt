@@ -20,7 +20,7 @@ use Rattle.block.proofs.Masks.{clean-of}
 use Rattle.chain.specs.Sections.{sectionAt}
 use Rattle.chain.specs.Frame.{frameBad, blockSection, blockBad}
 use Rattle.chain.specs.inner.Loops.{InBlocks}
-use Rattle.chain.specs.inner.Checked.{AllFound, Framed, BlockGood, Checked}
+use Rattle.chain.specs.inner.Checked.{AllFound, Framed, BlockGood, FrameChecked}
 use Rattle.chain.proofs.Bounds.{within-of, at-least}
 use Rattle.chain.proofs.Starts.{Taken}
 
@@ -151,5 +151,5 @@ block-good {sections} {indices} {received} {erased} {k} l b h =
     }
 
 pub checked : {sections starts : List ℕ} {k : ℕ} {indices received erased : List ℕ} {start end : ℕ} → AllFound sections starts k
-    → FramePassed sections k indices received erased start end → Checked sections starts indices received erased start end
+    → FramePassed sections k indices received erased start end → FrameChecked sections starts indices received erased start end
 checked {k = k} A P = record { k = k; sectionsFound = A; frame = framed-of refl (P .frameGood); good = block-good (P .blocksGood) }

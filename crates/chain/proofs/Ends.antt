@@ -7,10 +7,10 @@ use native.Mathlib.Omega.{arith}
 use lib.ListN.{length, getD}
 use Rattle.trellis.specs.Bounds.{mostStates}
 use Rattle.trellis.specs.Outcome.{success, noPath}
-use Rattle.passes.specs.inner.Blocks.{top, leastFrom, Ready, Picked, Filled}
+use Rattle.passes.specs.inner.Blocks.{unreached, leastFrom, Ready, Picked, Filled}
 use Rattle.passes.specs.inner.Loops.{Named}
 use Rattle.chain.specs.Decoding.{fitted}
-use Rattle.chain.specs.inner.Checked.{Checked}
+use Rattle.chain.specs.inner.Checked.{FrameChecked}
 use Rattle.chain.proofs.Buffers.{Room}
 use Rattle.chain.proofs.Faults.{EndsFor, past-room}
 use Rattle.chain.proofs.Frames.{ready}
@@ -19,14 +19,14 @@ use Rattle.chain.proofs.Meanings.{none-means, path-means}
 
 -- the table is filled, and the states are widened
 pub record Tabled (sections starts indices received erased : List ℕ) (start end : ℕ) (costs labels goals new picks : List ℕ) (from to : ℕ) : Type 0 where
-  pub checks : Checked sections starts indices received erased start end
+  pub checks : FrameChecked sections starts indices received erased start end
   pub room : Room indices costs labels goals
   pub from-is : from ≡ start
   pub to-is : to ≡ end
   pub filled : Filled sections starts indices received erased to 0 costs new picks
 
 pub tabled : {sections starts indices received erased : List ℕ} {start end : ℕ} {costs labels goals new picks : List ℕ} {from to : ℕ}
-    → Checked sections starts indices received erased start end → Room indices costs labels goals → from ≡ start → to ≡ end
+    → FrameChecked sections starts indices received erased start end → Room indices costs labels goals → from ≡ start → to ≡ end
     → Filled sections starts indices received erased to 0 costs new picks
     → Tabled sections starts indices received erased start end costs labels goals new picks from to
 tabled C R p q F = record { checks = C; room = R; from-is = p; to-is = q; filled = F }
@@ -40,7 +40,7 @@ module _ {sections starts indices received erased : List ℕ} {start end : ℕ} 
   from-in =
       omega (arith, B .from-is, B .checks .frame .startBelow, B .checks .frame .some, B .room .forCosts, B .filled .long)
 
-  pub ends-none : getD new from 0 ≡ top
+  pub ends-none : getD new from 0 ≡ unreached
       → EndsFor sections indices received erased start end (λ k. fitted sections k indices received erased start end costs labels goals)
       noPath new labels goals
   ends-none e =
@@ -48,21 +48,21 @@ module _ {sections starts indices received erased : List ℕ} {start end : ℕ} 
       past-room costs labels goals (B .room)
       (λ k. none-found (B .checks) filled-end k labels goals (B .room .forCosts) n, none-means (B .checks) n)
 
-  module _ (n : getD new from 0 ≡ top → ⊥) where
-    opened-end : leastFrom sections starts indices received erased end 0 start < top
+  module _ (n : getD new from 0 ≡ unreached → ⊥) where
+    opened-end : leastFrom sections starts indices received erased end 0 start < unreached
     opened-end = opened (B .checks) filled-end (λ e. n (ap (λ j. getD new j 0) (B .from-is) ∙ e))
 
     pub names-ready : Ready sections starts indices received erased × Picked sections starts indices received erased to 0 picks
-        × (length indices ≤ length labels) × (length indices ≤ length goals) × (from < mostStates) × (leastFrom sections starts indices received erased to 0 from < top)
+        × (length indices ≤ length labels) × (length indices ≤ length goals) × (from < mostStates) × (leastFrom sections starts indices received erased to 0 from < unreached)
     names-ready = (ready (B .checks), B .filled .picked, B .room .forLabels, B .room .forGoals, small, onward)
       where
         small : from < mostStates
         small = omega (arith, B .from-is, B .checks .frame .startBelow)
 
-        onward : leastFrom sections starts indices received erased to 0 from < top
+        onward : leastFrom sections starts indices received erased to 0 from < unreached
         onward =
-            subst (λ x. leastFrom sections starts indices received erased x 0 from < top) (sym (B .to-is))
-            (subst (λ x. leastFrom sections starts indices received erased end 0 x < top) (sym (B .from-is)) opened-end)
+            subst (λ x. leastFrom sections starts indices received erased x 0 from < unreached) (sym (B .to-is))
+            (subst (λ x. leastFrom sections starts indices received erased end 0 x < unreached) (sym (B .from-is)) opened-end)
 
     pub ends-path : {newLabels newGoals : List ℕ} {total : ℕ}
         → Named sections starts indices received erased to from labels newLabels goals newGoals total

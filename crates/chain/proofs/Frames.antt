@@ -16,14 +16,14 @@ use Rattle.section_file.proofs.Usable.{usable-sound}
 use Rattle.block.specs.Received.{blockDistance}
 use Rattle.block.specs.inner.Prices.{Clean}
 use Rattle.block.proofs.Hearing.{block-at-most}
-use Rattle.passes.specs.inner.Blocks.{top, Good, endsIn, sectionOf, wordsOf, distanceOf, leastFrom, pathFrom, Ready}
+use Rattle.passes.specs.inner.Blocks.{unreached, Decodable, endsIn, sectionOfBlock, wordsOfBlock, distanceOf, leastFrom, pathFrom, Ready}
 use Rattle.chain.specs.Sections.{sectionAt}
 use Rattle.chain.specs.Frame.{blockSection, blockWords, wordDistance}
-use Rattle.chain.specs.inner.Checked.{Checked}
+use Rattle.chain.specs.inner.Checked.{FrameChecked}
 use Rattle.chain.proofs.Goodness.{good-of}
 use Rattle.chain.proofs.Starts.{taken-at}
 
-module _ {sections starts indices received erased : List ℕ} {start end : ℕ} (C : Checked sections starts indices received erased start end) where
+module _ {sections starts indices received erased : List ℕ} {start end : ℕ} (C : FrameChecked sections starts indices received erased start end) where
   abbrev words : ℕ → List Word
   words = blockWords sections indices received erased
 
@@ -53,12 +53,12 @@ module _ {sections starts indices received erased : List ℕ} {start end : ℕ} 
       let n = nOf (blockSection sections indices received erased b) in
       omega (arith, block-at-most n (getD received b 0) (getD erased b 0) (w .label), sound-at b .nTo)
 
-  same-section : (b : ℕ) → sectionOf sections starts indices received erased b ≡ blockSection sections indices received erased b
-  unfolding sectionOf sectionAt
+  same-section : (b : ℕ) → sectionOfBlock sections starts indices received erased b ≡ blockSection sections indices received erased b
+  unfolding sectionOfBlock sectionAt
   same-section b = ap (λ x. drop x sections) (C .sectionsFound .found .at (getD indices b 0) (omega (arith, index-below b)))
 
-  same-words : wordsOf sections starts indices received erased ≡ words
-  unfolding wordsOf blockWords
+  same-words : wordsOfBlock sections starts indices received erased ≡ words
+  unfolding wordsOfBlock blockWords
   same-words = λ i b. sectionWords (same-section b i)
 
   same-distance : distanceOf sections starts indices received erased ≡ dist
@@ -73,16 +73,16 @@ module _ {sections starts indices received erased : List ℕ} {start end : ℕ} 
     startsLong = C .sectionsFound .found .long;
     indexBelow = λ b h. let l = index-below b in let f = C .sectionsFound .few in omega arith;
     inside = λ b h. taken-at (C .sectionsFound .found) (index-below b) .inside;
-    good = λ b h. subst Good (sym (same-section b)) (good-of (sound-at b));
+    good = λ b h. subst Decodable (sym (same-section b)) (good-of (sound-at b));
     clean = λ b h. subst (λ l. Clean (nOf l) (getD received b 0) (getD erased b 0)) (sym (same-section b)) (C .good b h .clean);
   }
 
-  pub least-is : (b s : ℕ) → leastFrom sections starts indices received erased end b s ≡ costTable words (endsIn end) dist top (length indices - b) b s
+  pub least-is : (b s : ℕ) → leastFrom sections starts indices received erased end b s ≡ costTable words (endsIn end) dist unreached (length indices - b) b s
   unfolding leastFrom
   least-is b s =
-      ap₂ (λ W D. chainLeast W (endsIn end) D top (length indices - b) b s) same-words same-distance
-      ∙ sym (cost-table words (endsIn end) dist top (length indices - b) b s)
+      ap₂ (λ W D. chainLeast W (endsIn end) D unreached (length indices - b) b s) same-words same-distance
+      ∙ sym (cost-table words (endsIn end) dist unreached (length indices - b) b s)
 
-  pub path-is : (b s : ℕ) → pathFrom sections starts indices received erased end b s ≡ chainTrace words (endsIn end) dist top (length indices - b) b s
+  pub path-is : (b s : ℕ) → pathFrom sections starts indices received erased end b s ≡ chainTrace words (endsIn end) dist unreached (length indices - b) b s
   unfolding pathFrom
-  path-is b s = ap₂ (λ W D. chainTrace W (endsIn end) D top (length indices - b) b s) same-words same-distance
+  path-is b s = ap₂ (λ W D. chainTrace W (endsIn end) D unreached (length indices - b) b s) same-words same-distance

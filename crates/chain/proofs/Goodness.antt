@@ -10,7 +10,7 @@ use Rattle.section_file.specs.inner.Sound.{Sound}
 use Rattle.section_file.proofs.Words.{words-ascend}
 use Rattle.sweep.specs.inner.Rows.{Fits}
 use Rattle.trellis.proofs.Laid.{before-none, before-more}
-use Rattle.passes.specs.inner.Blocks.{Good}
+use Rattle.passes.specs.inner.Blocks.{Decodable}
 
 -- the step of an edge
 record StepOf (l : List ℕ) (n i : ℕ) : Type 0 where
@@ -63,7 +63,7 @@ module _ {l : List ℕ} (S : Sound l) where
     toSmall = λ i h. let T = step-of l (nOf l) i h in omega (arith, to-below (T .at) i (T .below) (T .from) (T .to), S .verticesTo (suc (T .at)) (T .below));
   }
 
-  pub good-of : Good l
+  pub good-of : Decodable l
   good-of = record {
     fits = fits-of;
     some = S .nFrom;

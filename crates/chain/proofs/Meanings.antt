@@ -24,15 +24,15 @@ use Rattle.paths.proofs.First.{best-first, first-in}
 use Rattle.paths.specs.inner.Ordered.{Ordered}
 use Rattle.paths.proofs.Winner.{of-paths, in-paths, word-of, best-wins}
 use Rattle.section_file.proofs.Words.{words-ascend, root-below, goal-below}
-use Rattle.passes.specs.inner.Blocks.{top, endsIn, aheadOf, leastFrom, pathFrom, Filled}
+use Rattle.passes.specs.inner.Blocks.{unreached, endsIn, aheadOf, leastFrom, pathFrom, Filled}
 use Rattle.passes.specs.inner.Loops.{Named}
 use Rattle.chain.specs.Frame.{blockSection, blockWords, wordDistance}
 use Rattle.chain.specs.Meaning.{Won, Meaning}
-use Rattle.chain.specs.inner.Checked.{Checked}
+use Rattle.chain.specs.inner.Checked.{FrameChecked}
 use Rattle.chain.proofs.Frames.{sound-at, distance-to}
 use Rattle.chain.proofs.Tables.{table-at, best-some, path-right}
 
-module _ {sections starts indices received erased : List ℕ} {start end : ℕ} (C : Checked sections starts indices received erased start end) where
+module _ {sections starts indices received erased : List ℕ} {start end : ℕ} (C : FrameChecked sections starts indices received erased start end) where
   abbrev words : ℕ → List Word
   words = blockWords sections indices received erased
 
@@ -40,7 +40,7 @@ module _ {sections starts indices received erased : List ℕ} {start end : ℕ} 
   dist = wordDistance sections indices received erased
 
   abbrev tableFrom : ℕ → ℕ → ℕ
-  tableFrom b s = costTable words (endsIn end) dist top (length indices - b) b s
+  tableFrom b s = costTable words (endsIn end) dist unreached (length indices - b) b s
 
   abbrev path : List Word
   path = pathFrom sections starts indices received erased end 0 start
@@ -51,7 +51,7 @@ module _ {sections starts indices received erased : List ℕ} {start end : ℕ} 
       → Meaning sections indices received erased start end noPath costs labels goals
   none-means e = record {
     none = λ _ p I.
-        let a = none-listed words (endsIn end) dist top (length indices) 0 start e in
+        let a = none-listed words (endsIn end) dist unreached (length indices) 0 start e in
         List·Memᴰ·not-nil (subst (λ ps. p ∈ ps) a (in-paths words (endsIn end) (length indices) 0 start p I));
     best = λ d z. let y : _≡_ {A = ℕ} 11 0 = ap (λ (x : Outcome). x .number) z in absurd (omega arith);
   }
@@ -62,7 +62,7 @@ module _ {sections starts indices received erased : List ℕ} {start end : ℕ} 
   unfolding blockWords
   ordered b h = words-ascend (sound-at C b)
 
-  -- a path's distance stays far below top
+  -- a path's distance stays far below unreached
   short : (b : ℕ) (ws : List Word) → pathDistance dist b ws ≤ 8 * length ws
   unfolding pathDistance
   short b [] = omega arith
@@ -74,14 +74,14 @@ module _ {sections starts indices received erased : List ℕ} {start end : ℕ} 
   ahead-table {costs} {new} F b s l = go (decLt b (length indices))
     where
       go : Dec (b < length indices) → aheadOf new (length indices) end b s ≡ tableFrom b s
-      go (yes i) = ap (λ c. cond c (getD new (costsABlock * b + s) 0) (cond (eqb s end) 0 top)) (lt-ltb b (length indices) i) ∙ table-at C F b s i l
+      go (yes i) = ap (λ c. cond c (getD new (costsABlock * b + s) 0) (cond (eqb s end) 0 unreached)) (lt-ltb b (length indices) i) ∙ table-at C F b s i l
       go (no i) =
           let z : length indices - b ≡ 0 = omega arith in
-          ap (λ c. cond c (getD new (costsABlock * b + s) 0) (cond (eqb s end) 0 top)) (le-ltb b (length indices) (omega arith))
-          ∙ sym (ap (λ j. costTable words (endsIn end) dist top j b s) z ∙ cost-table words (endsIn end) dist top 0 b s)
+          ap (λ c. cond c (getD new (costsABlock * b + s) 0) (cond (eqb s end) 0 unreached)) (le-ltb b (length indices) (omega arith))
+          ∙ sym (ap (λ j. costTable words (endsIn end) dist unreached j b s) z ∙ cost-table words (endsIn end) dist unreached 0 b s)
 
   module _ {labels newLabels goals newGoals : List ℕ} {total : ℕ}
-      (o : leastFrom sections starts indices received erased end 0 start < top)
+      (o : leastFrom sections starts indices received erased end 0 start < unreached)
       (N : Named sections starts indices received erased end start labels newLabels goals newGoals total) where
     -- the rest of the path is best from the state that it reaches
     record Along (b : ℕ) : Type 0 where
@@ -109,11 +109,11 @@ module _ {sections starts indices received erased : List ℕ} {start end : ℕ} 
         let I = of-paths words (endsIn end) (suc m) b s (w ∷ drop (suc b) path) (first-in (pathDistance dist b) F) in
         let n = length-drop (suc b) path in
         let below = short b (w ∷ drop (suc b) path) in
-        let X = drops words (endsIn end) dist top m b s p (omega (arith, C .frame .many, F .is)) in
+        let X = drops words (endsIn end) dist unreached m b s p (omega (arith, C .frame .many, F .is)) in
         record {
           root-is = I .linked .1;
           next = record { state = w .goal; cost = X .rest; is = X .behind };
-          dropped = ap (λ x. costTable words (endsIn end) dist top x b s) j ∙ X .drop;
+          dropped = ap (λ x. costTable words (endsIn end) dist unreached x b s) j ∙ X .drop;
         }
 
     along : (b : ℕ) → b ≤ length indices → Along b

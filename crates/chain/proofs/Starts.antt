@@ -23,7 +23,7 @@ use Rattle.section_file.specs.declared.Part.{Part}
 use Rattle.section_file.specs.declared.Part.the-variants.{Usable, Unusable}
 use Rattle.section_file.proofs.Usable.{usable-sound}
 use Rattle.chain.specs.Sections.{sectionStart, sectionAt, unusable, sectionsBad, badSectionOf}
-use Rattle.chain.specs.inner.Loops.{Found, InSections, FirstUnusable, partLength}
+use Rattle.chain.specs.inner.Loops.{SectionsFound, InSections, FirstUnusable, partLength}
 use Rattle.chain.specs.inner.Checked.{AllFound}
 use Rattle.chain.proofs.Bounds.{within-of}
 
@@ -190,7 +190,7 @@ module _ {sections starts : List ℕ} {k r : ℕ} {w : Bool} (e : w ≡ within 1
         let b = within-of 1 mostSections k (sym e ∙ not-false w h) in
         record {
           good = simp (sym e, not-false w h, first-is-k, le-ltb k k (omega arith), z);
-          found = record { some = b .0; few = b .1; found = subst (Found sections starts) r-is (F .found) };
+          found = record { some = b .0; few = b .1; found = subst (SectionsFound sections starts) r-is (F .found) };
         }
 
 -- ---- a section, taken from the slice
@@ -202,7 +202,7 @@ pub record Taken (sections starts : List ℕ) (i : ℕ) : Type 0 where
   pub sound-taken : Sound (take (length sections - getD starts i 0) (drop (getD starts i 0) sections))
   pub two : 1 < length (take (length sections - getD starts i 0) (drop (getD starts i 0) sections))
 
-pub taken-at : {sections starts : List ℕ} {k i : ℕ} → Found sections starts k → i < k → Taken sections starts i
+pub taken-at : {sections starts : List ℕ} {k i : ℕ} → SectionsFound sections starts k → i < k → Taken sections starts i
 unfolding sectionAt
 taken-at {sections} {starts} {k} {i} F h =
     let S = usable-sound (sectionAt sections i) (F .usable-before i h) in

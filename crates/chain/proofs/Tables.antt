@@ -1,4 +1,4 @@
--- What the two passes leave is what the definition says. Each place of the table is the definition's cost from there. Where the start state's place is top
+-- What the two passes leave is what the definition says. Each place of the table is the definition's cost from there. Where the start state's place is unreached
 -- there is no path; elsewhere the path that was named is the first of least distance.
 use mathlib.Core.Path.{_≡_, refl, sym, ap, ap₂, _∙_}
 use mathlib.Core.List.{List, map}
@@ -12,21 +12,21 @@ use Rattle.trellis.specs.Word.{Word, word, wordAt}
 use Rattle.trellis.specs.Outcome.{success, noPath}
 use Rattle.trellis.proofs.Lists.{length-run, each-at}
 use Rattle.paths.specs.Choice.{Choice, none, some}
-use Rattle.paths.specs.Chain.{chainPaths, bestPath, costTable, IsPath}
+use Rattle.paths.specs.Chain.{chainPaths, bestPath, costTable, IsChainPath}
 use Rattle.paths.proofs.Chain.{table-le, best-traced, no-path}
 use Rattle.paths.proofs.First.{best-first, first-in}
 use Rattle.paths.proofs.Winner.{of-paths}
-use Rattle.passes.specs.inner.Blocks.{top, endsIn, leastFrom, pathFrom, Filled, Written}
+use Rattle.passes.specs.inner.Blocks.{unreached, endsIn, leastFrom, pathFrom, Filled, Written}
 use Rattle.passes.specs.inner.Loops.{Named}
 use Rattle.chain.specs.Frame.{blockWords, wordDistance}
 use Rattle.chain.specs.Decoding.{left, bestOf, tableOf, found}
 use Rattle.trellis.specs.Lists.{over}
-use Rattle.chain.specs.inner.Checked.{Checked}
+use Rattle.chain.specs.inner.Checked.{FrameChecked}
 use Rattle.chain.proofs.Buffers.{Room}
 use Rattle.trellis.proofs.Buffers.{over-is}
 use Rattle.chain.proofs.Frames.{distance-to, least-is, path-is}
 
-module _ {sections starts indices received erased : List ℕ} {start end : ℕ} (C : Checked sections starts indices received erased start end) where
+module _ {sections starts indices received erased : List ℕ} {start end : ℕ} (C : FrameChecked sections starts indices received erased start end) where
   abbrev words : ℕ → List Word
   words = blockWords sections indices received erased
 
@@ -34,7 +34,7 @@ module _ {sections starts indices received erased : List ℕ} {start end : ℕ} 
   dist = wordDistance sections indices received erased
 
   abbrev tableFrom : ℕ → ℕ → ℕ
-  tableFrom b s = costTable words (endsIn end) dist top (length indices - b) b s
+  tableFrom b s = costTable words (endsIn end) dist unreached (length indices - b) b s
 
   abbrev table : ℕ → List ℕ
   table k = tableOf sections k indices received erased start end
@@ -72,21 +72,21 @@ module _ {sections starts indices received erased : List ℕ} {start end : ℕ} 
         let m = C .frame .some in
         ap (λ j. getD new j 0) (sym a) ∙ F .table .at 0 start (omega arith) (omega arith) (C .frame .startBelow)
 
-    pub best-none : getD new start 0 ≡ top → best ≡ none
+    pub best-none : getD new start 0 ≡ unreached → best ≡ none
     best-none e =
         let z = sub-zero (length indices) in
-        let t : costTable words (endsIn end) dist top (length indices) 0 start ≡ top
-        = ap (λ j. costTable words (endsIn end) dist top j 0 start) (sym z) ∙ sym (least-is C 0 start) ∙ sym start-at ∙ e in
+        let t : costTable words (endsIn end) dist unreached (length indices) 0 start ≡ unreached
+        = ap (λ j. costTable words (endsIn end) dist unreached j 0 start) (sym z) ∙ sym (least-is C 0 start) ∙ sym start-at ∙ e in
         let m = C .frame .many in
-        no-path words (endsIn end) dist top 8 (distance-to C) (length indices) 0 start (omega arith) t
+        no-path words (endsIn end) dist unreached 8 (distance-to C) (length indices) 0 start (omega arith) t
 
     -- there is a path where the table says so
-    pub opened : (getD new start 0 ≡ top → ⊥) → leastFrom sections starts indices received erased end 0 start < top
+    pub opened : (getD new start 0 ≡ unreached → ⊥) → leastFrom sections starts indices received erased end 0 start < unreached
     opened n =
-        go (decLt (leastFrom sections starts indices received erased end 0 start) top) start-at (least-is C 0 start)
-        (table-le words (endsIn end) dist top (length indices - 0) 0 start)
+        go (decLt (leastFrom sections starts indices received erased end 0 start) unreached) start-at (least-is C 0 start)
+        (table-le words (endsIn end) dist unreached (length indices - 0) 0 start)
       where
-        go : {a t : ℕ} → Dec (a < top) → getD new start 0 ≡ a → a ≡ t → t ≤ top → a < top
+        go : {a t : ℕ} → Dec (a < unreached) → getD new start 0 ≡ a → a ≡ t → t ≤ unreached → a < unreached
         go (yes i) c e l = i
         go (no i) c e l = absurd (n (omega arith))
 
@@ -100,16 +100,16 @@ module _ {sections starts indices received erased : List ℕ} {start end : ℕ} 
   -- ---- the path
 
   module _ {labels newLabels goals newGoals : List ℕ} {total : ℕ}
-      (o : leastFrom sections starts indices received erased end 0 start < top)
+      (o : leastFrom sections starts indices received erased end 0 start < unreached)
       (N : Named sections starts indices received erased end start labels newLabels goals newGoals total) where
     pub best-some : best ≡ some total path
     best-some =
         let t = least-is C 0 start in
         let c : tableFrom 0 start ≡ total = sym (N .totalIs ∙ t) in
         ap (λ j. bestPath words (endsIn end) dist j 0 start) (sym (sub-zero (length indices)))
-        ∙ best-traced words (endsIn end) dist top (length indices - 0) 0 start (omega arith) ∙ ap₂ some c (sym (path-is C 0 start))
+        ∙ best-traced words (endsIn end) dist unreached (length indices - 0) 0 start (omega arith) ∙ ap₂ some c (sym (path-is C 0 start))
 
-    pub path-right : IsPath words (endsIn end) (length indices) 0 start path
+    pub path-right : IsChainPath words (endsIn end) (length indices) 0 start path
     unfolding bestPath
     path-right =
         of-paths words (endsIn end) (length indices) 0 start path

@@ -11,7 +11,7 @@ use Rattle.trellis.specs.Word.{Word}
 use Rattle.trellis.specs.Outcome.{Outcome, success, badSection, badBlock, shortBuffer, noPath}
 use Rattle.paths.specs.Choice.{Choice, none, some}
 use Rattle.paths.specs.Chain.{bestPath, costTable}
-use Rattle.passes.specs.inner.Blocks.{top, endsIn}
+use Rattle.passes.specs.inner.Blocks.{unreached, endsIn}
 use Rattle.chain.specs.Sections.{sectionsBad, badSectionOf}
 use Rattle.chain.specs.Frame.{frameBad, blockWords, wordDistance, blockBad}
 
@@ -39,7 +39,7 @@ module _ (sections : List ℕ) (k : ℕ) (indices received erased : List ℕ) (s
   tableOf =
       each
       (λ i.
-      costTable (blockWords sections indices received erased) (endsIn end) (wordDistance sections indices received erased) top
+      costTable (blockWords sections indices received erased) (endsIn end) (wordDistance sections indices received erased) unreached
       (length indices - i / costsABlock) (i / costsABlock) (i % costsABlock))
       (costsABlock * length indices)
 

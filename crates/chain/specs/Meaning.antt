@@ -9,7 +9,7 @@ use Rattle.trellis.specs.Lists.{_∈_}
 use Rattle.trellis.specs.Word.{Word, wordAt}
 use Rattle.trellis.specs.Layout.{sectionWords}
 use Rattle.trellis.specs.Outcome.{Outcome, success, noPath}
-use Rattle.paths.specs.Chain.{chainPaths, pathDistance, IsPath, Winner}
+use Rattle.paths.specs.Chain.{chainPaths, pathDistance, IsChainPath, Winner}
 use Rattle.passes.specs.inner.Blocks.{endsIn, aheadOf}
 use Rattle.chain.specs.Frame.{blockSection, blockWords, wordDistance}
 
@@ -28,5 +28,5 @@ pub record Won (sections indices received erased : List ℕ) (start end d : ℕ)
       ≡ wordDistance sections indices received erased b (wordAt words b) + aheadOf costs (length indices) end (suc b) (wordAt words b .goal)
 
 pub record Meaning (sections indices received erased : List ℕ) (start end : ℕ) (answer : Outcome) (costs labels goals : List ℕ) : Type 0 where
-  pub none : answer ≡ noPath → (p : List Word) → IsPath (blockWords sections indices received erased) (endsIn end) (length indices) 0 start p → ⊥
+  pub none : answer ≡ noPath → (p : List Word) → IsChainPath (blockWords sections indices received erased) (endsIn end) (length indices) 0 start p → ⊥
   pub best : (d : ℕ) → answer ≡ success d → Won sections indices received erased start end d costs labels goals

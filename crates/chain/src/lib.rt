@@ -12,14 +12,20 @@ ghost use Rattle.chain.specs.Frame.{frameBad, blockBad};
 ghost use Rattle.chain.specs.Decoding.{left, neededOf, fitted, framed, decoding};
 ghost use Rattle.chain.specs.Answer.{decodedOutcome};
 ghost use Rattle.chain.specs.Meaning.{Meaning};
-ghost use Rattle.chain.specs.inner.Loops.{Found, FirstUnusable, partLength};
-ghost use Rattle.chain.specs.inner.Checked.{AllFound, Checked};
+ghost use Rattle.chain.specs.inner.Loops.{SectionsFound, FirstUnusable, partLength};
+ghost use Rattle.chain.specs.inner.Checked.{AllFound, FrameChecked};
 use numbers::wide;
 use numbers::widened;
 use passes::NO_PATH;
 use passes::fill_table;
 use passes::name_words;
 use section_file::Part;
+use trellis::COSTS_A_BLOCK;
+use trellis::MOST_BLOCKS;
+use trellis::MOST_SECTIONS;
+
+// The bound on states in the width of a state.
+const MOST_STATES: u8 = trellis::MOST_STATES as u8;
 
 // The distance, or why there is none. A variant for a refusal has the number that document 01 returns with it.
 pub enum Decoded {
@@ -53,7 +59,7 @@ fn length_at(sections: &[u16], at: usize) -> usize
 }
 
 // The first unusable section, or k, and the places where the sections before it and the next one begin.
-fn find_sections(sections: &[u16], k: usize, starts: &mut [usize; 17]) -> usize
+fn find_sections(sections: &[u16], k: usize, starts: &mut [usize; MOST_SECTIONS + 1]) -> usize
     requires { ⌜ (k ≤ mostSections) × (length (now starts) ≡ suc mostSections) ⌝ }
     ensures { λ r. ⌜ FirstUnusable (now (sections .entry)) (now (starts .exit)) k r ⌝ }
 {
@@ -75,7 +81,7 @@ fn find_sections(sections: &[u16], k: usize, starts: &mut [usize; 17]) -> usize
 fn frame_bad(indices: &[u8], received: &[u16], erased: &[u8], start: u8, end: u8) -> bool
     ensures { λ r. ⌜ r ≡ frameBad (now (indices .entry)) (now (received .entry)) (now (erased .entry)) start end ⌝ }
 {
-    if !is_within(1, 256, indices.len()) {
+    if !is_within(1, MOST_BLOCKS, indices.len()) {
         return true;
     }
     if received.len() != indices.len() {
@@ -84,22 +90,22 @@ fn frame_bad(indices: &[u8], received: &[u16], erased: &[u8], start: u8, end: u8
     if erased.len() != indices.len() {
         return true;
     }
-    if start >= 64 {
+    if start >= MOST_STATES {
         return true;
     }
-    end >= 64
+    end >= MOST_STATES
 }
 
 fn block_bad(
     sections: &[u16],
-    starts: &[usize; 17],
+    starts: &[usize; MOST_SECTIONS + 1],
     k: usize,
     indices: &[u8],
     received: &[u16],
     erased: &[u8],
     b: usize,
 ) -> bool
-    requires { ⌜ Found (now sections) (now starts) k × (k ≤ mostSections) × (b < length (now indices)) × (length (now received) ≡ length (now indices)) × (length (now erased) ≡ length (now indices)) ⌝ }
+    requires { ⌜ SectionsFound (now sections) (now starts) k × (k ≤ mostSections) × (b < length (now indices)) × (length (now received) ≡ length (now indices)) × (length (now erased) ≡ length (now indices)) ⌝ }
     ensures { λ r. ⌜ r ≡ blockBad (now (sections .entry)) (now (indices .entry)) (now (received .entry)) (now (erased .entry)) k b ⌝ }
 {
     let i = widened(indices[b]);
@@ -114,13 +120,13 @@ fn block_bad(
 // The first bad block, or the number of blocks.
 fn first_bad(
     sections: &[u16],
-    starts: &[usize; 17],
+    starts: &[usize; MOST_SECTIONS + 1],
     k: usize,
     indices: &[u8],
     received: &[u16],
     erased: &[u8],
 ) -> usize
-    requires { ⌜ Found (now sections) (now starts) k × (k ≤ mostSections) × (length (now received) ≡ length (now indices)) × (length (now erased) ≡ length (now indices)) ⌝ }
+    requires { ⌜ SectionsFound (now sections) (now starts) k × (k ≤ mostSections) × (length (now received) ≡ length (now indices)) × (length (now erased) ≡ length (now indices)) ⌝ }
     ensures { λ r. ⌜ r ≡ first (blockBad (now (sections .entry)) (now (indices .entry)) (now (received .entry)) (now (erased .entry)) k) (length (now (indices .entry))) ⌝ }
 {
     let mut b: usize = 0;
@@ -138,8 +144,8 @@ fn needed(blocks: usize, costs: usize, labels: usize, goals: usize) -> usize
     requires { ⌜ blocks ≤ mostBlocks ⌝ }
     ensures { λ r. ⌜ r ≡ neededOf blocks costs labels goals ⌝ }
 {
-    if costs < 64 * blocks {
-        return 64 * blocks;
+    if costs < COSTS_A_BLOCK * blocks {
+        return COSTS_A_BLOCK * blocks;
     }
     if labels < blocks {
         return blocks;
@@ -151,7 +157,7 @@ fn needed(blocks: usize, costs: usize, labels: usize, goals: usize) -> usize
 // so the promise is for any.
 fn decode_blocks(
     sections: &[u16],
-    starts: &[usize; 17],
+    starts: &[usize; MOST_SECTIONS + 1],
     indices: &[u8],
     received: &[u16],
     erased: &[u8],
@@ -161,7 +167,7 @@ fn decode_blocks(
     labels: &mut [u16],
     goals: &mut [u8],
 ) -> Decoded
-    requires { ⌜ Checked (now sections) (now starts) (now indices) (now received) (now erased) start end ⌝ }
+    requires { ⌜ FrameChecked (now sections) (now starts) (now indices) (now received) (now erased) start end ⌝ }
     ensures whole { λ r. ⌜ ((k : ℕ) → left (decodedOutcome r) (now (costs .exit)) (now (labels .exit)) (now (goals .exit)) ≡ fitted (now (sections .entry)) k (now (indices .entry)) (now (received .entry)) (now (erased .entry)) start end (now (costs .entry)) (now (labels .entry)) (now (goals .entry))) ⌝ }
     ensures meaning { λ r. ⌜ Meaning (now (sections .entry)) (now (indices .entry)) (now (received .entry)) (now (erased .entry)) start end (decodedOutcome r) (now (costs .exit)) (now (labels .exit)) (now (goals .exit)) ⌝ }
 {
@@ -192,7 +198,7 @@ fn decode_blocks(
 // Fault 9, and then what follows where there is none.
 fn decode_frame(
     sections: &[u16],
-    starts: &[usize; 17],
+    starts: &[usize; MOST_SECTIONS + 1],
     k: usize,
     indices: &[u8],
     received: &[u16],
@@ -244,10 +250,10 @@ pub fn decode(
     ensures whole { λ r. ⌜ left (decodedOutcome r) (now (costs .exit)) (now (labels .exit)) (now (goals .exit)) ≡ decoding (now (sections .entry)) k (now (indices .entry)) (now (received .entry)) (now (erased .entry)) start end (now (costs .entry)) (now (labels .entry)) (now (goals .entry)) ⌝ }
     ensures meaning { λ r. ⌜ Meaning (now (sections .entry)) (now (indices .entry)) (now (received .entry)) (now (erased .entry)) start end (decodedOutcome r) (now (costs .exit)) (now (labels .exit)) (now (goals .exit)) ⌝ }
 {
-    if !is_within(1, 16, k) {
+    if !is_within(1, MOST_SECTIONS, k) {
         return Decoded::Section(k);
     }
-    let mut starts = [0usize; 17];
+    let mut starts = [0usize; MOST_SECTIONS + 1];
     let unusable = find_sections(sections, k, &mut starts);
     if unusable < k {
         return Decoded::Section(unusable);

@@ -19,7 +19,7 @@ use Rattle.trellis.proofs.Witness.{witness-first, witness-none}
 use Rattle.trellis.proofs.Least.{same-counts}
 use Rattle.trellis.proofs.Demand.{drawn, demand-3, own-words}
 use Rattle.trellis.proofs.OwnLaid.{own-vertex-count, own-edge-count, own-root, own-goal, own-step-edges}
-use Rattle.table.specs.inner.Good.{Good}
+use Rattle.table.specs.inner.Good.{GoodFile}
 use Rattle.table.proofs.Accepted.{accepted-good}
 use Rattle.merge.specs.Merging.{Merging, left, mapOf, mapLength, written, merged, mergedTable, mergedFile, merging}
 use Rattle.demands.specs.Merged.{Fair, Smallest, Accepted, Refused, Demanded}
@@ -47,7 +47,7 @@ module _ (q n states : ℕ) (table : List Word) where
         sym (own-goal q n states table v (subst (λ u. u < vertexCount n table n) (sym (F .is)) (F .below)));
   }
 
-module _ {file : List ℕ} {q n states : ℕ} {table : List Word} (G : Good file q n states table) (R : Rectangular n table) where
+module _ {file : List ℕ} {q n states : ℕ} {table : List Word} (G : GoodFile file q n states table) (R : Rectangular n table) where
   smallest : Smallest n table (sectionOf q n states table)
   smallest =
       let D = drawn n table (G .table) R in

@@ -14,7 +14,7 @@ use Rattle.trellis.specs.Word.{Word, RectangularAt, Rectangular}
 use Rattle.trellis.specs.Own.{vertexOf, vertexCount}
 use Rattle.depths.specs.inner.Words.{words}
 use Rattle.depths.specs.inner.Rows.{at}
-use Rattle.depths.specs.inner.Merge.{EndingRow, Merging, DepthMerged, DepthDone, lowestOf, countOf, Inner, Found, InnerDone}
+use Rattle.depths.specs.inner.Merge.{EndingRow, DepthAsked, DepthMerged, DepthDone, lowestOf, countOf, Inner, InnerOutcome, InnerDone}
 use Rattle.depths.specs.declared.Depth.{Depth}
 use Rattle.depths.specs.declared.Depth.the-variants.{Merged, Refused}
 use Rattle.depths.proofs.Places.{at-set}
@@ -23,7 +23,7 @@ pub record InDepths (n : ℕ) (table : List Word) (oldMap map oldCounts counts r
   pub some : 0 < t
   pub le : t ≤ n
   pub ends : EndingRow n table t row
-  pub found : Found n table t map counts refused
+  pub found : InnerOutcome n table t map counts refused
   pub before : (j : ℕ) → j < t * length table → at map j ≡ at oldMap j
   pub behind : (j : ℕ) → n * length table ≤ j → at map j ≡ at oldMap j
   pub len : length map ≡ length oldMap
@@ -55,7 +55,7 @@ depths-none {n} {table} {map} {counts} {row} h E k = record {
 }
 
 pub depths-ask : {n : ℕ} {roots labels goals oldMap map oldCounts counts row : List ℕ} {t refused : ℕ} → Inner n roots labels goals oldMap oldCounts
-    → InDepths n (words roots labels goals) oldMap map oldCounts counts row t refused → 1 < t → Merging n (t - 1) roots labels goals row map
+    → InDepths n (words roots labels goals) oldMap map oldCounts counts row t refused → 1 < t → DepthAsked n (t - 1) roots labels goals row map
 depths-ask {n} {roots} {labels} {goals} {oldMap} {map} {oldCounts} {counts} {row} {t} I c h = record {
   held = I .held;
   inner = omega arith;
@@ -67,8 +67,8 @@ depths-ask {n} {roots} {labels} {goals} {oldMap} {map} {oldCounts} {counts} {row
 -- ---- one depth more
 
 module _ (n : ℕ) (table : List Word) (t : ℕ) (map new counts : List ℕ) where
-  found-merged : (refused count : ℕ) → t < length counts → Found n table (suc t) map counts refused → DepthMerged n table t map new count
-      → Found n table t new (set counts t count) refused
+  found-merged : (refused count : ℕ) → t < length counts → InnerOutcome n table (suc t) map counts refused → DepthMerged n table t map new count
+      → InnerOutcome n table t new (set counts t count) refused
   found-merged zero count room F D = record {
     rectangular = λ u p q. now u p q (ℕ-discrete t u);
     vertices = λ u i p q r. there u i p q r (ℕ-discrete t u);
@@ -94,7 +94,7 @@ module _ (n : ℕ) (table : List Word) (t : ℕ) (map new counts : List ℕ) whe
       now u p q (yes e) = subst (λ k. RectangularAt n k table) e (D .rectangular)
       now u p q (no e) = F .sooner u (omega arith) q
 
-found-refused : (n : ℕ) (table : List Word) (t : ℕ) (map counts : List ℕ) → 0 < t → t < n → (RectangularAt n t table → ⊥) → Found n table t map counts t
+found-refused : (n : ℕ) (table : List Word) (t : ℕ) (map counts : List ℕ) → 0 < t → t < n → (RectangularAt n t table → ⊥) → InnerOutcome n table t map counts t
 found-refused n table zero map counts h l f = absurd (omega arith)
 found-refused n table (suc t) map counts h l f = record { from = omega arith; inner = l; fails = f; sooner = λ u p q. absurd (omega arith) }
 
@@ -112,7 +112,7 @@ module _ {n : ℕ} {table : List Word} {oldMap map oldCounts counts row new row�
         le = omega (arith, c .le);
         ends = D .ends;
         found = found-merged n table (t - 1) map new counts refused count (omega (arith, c .nine, c .le))
-            (subst (λ k. Found n table k map counts refused) e (c .found)) (D .outcome);
+            (subst (λ k. InnerOutcome n table k map counts refused) e (c .found)) (D .outcome);
         before = λ j p. R .before j p ∙ c .before j (omega arith);
         behind = λ j p. R .behind j (omega arith) ∙ c .behind j p;
         len = R .len ∙ c .len;
@@ -147,7 +147,7 @@ pub depths-end : {n : ℕ} {table : List Word} {oldMap map oldCounts counts row 
 depths-end {n} {table} {oldMap} {map} {oldCounts} {counts} {row} {t} {refused} c h =
     let e : t ≡ 1 = omega (arith, c .some) in
     record {
-      found = subst (λ k. Found n table k map counts refused) e (c .found);
+      found = subst (λ k. InnerOutcome n table k map counts refused) e (c .found);
       before = λ j p. c .before j (omega (arith, ap (λ k. k * length table) e));
       behind = c .behind;
       len = c .len;

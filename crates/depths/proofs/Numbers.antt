@@ -12,7 +12,7 @@ use lib.Dec.{eqb}
 use Rattle.trellis.specs.Lists.{one-if}
 use Rattle.runs.specs.inner.Runs.{below, numberOf}
 use Rattle.runs.proofs.Counting.{below-le}
-use Rattle.depths.specs.inner.Rows.{at, RowAt, firstWordIn, ToNumber, Numbered}
+use Rattle.depths.specs.inner.Rows.{at, RowAt, firstWordIn, ToNumber, VerticesNumbered}
 use Rattle.depths.proofs.Places.{at-set, upto-next}
 
 pub record InNumbers (place W : ℕ) (firstWord : ℕ → ℕ) (old new : List ℕ) (i count : ℕ) : Type 0 where
@@ -74,7 +74,7 @@ module _ {place W : ℕ} {firstWord : ℕ → ℕ} {old new : List ℕ} {i count
           → at (set (set new (place + i) count) (place + i) (at (set new (place + i) count) (place + own))) j ≡ at new j
       other j q = at-set (set new (place + i) count) (place + i) j (at (set new (place + i) count) (place + own)) q ∙ at-set new (place + i) j count q
 
-  pub numbers-end : W ≤ i → Numbered place W firstWord old new count
+  pub numbers-end : W ≤ i → VerticesNumbered place W firstWord old new count
   numbers-end h =
       let e : i ≡ W = omega (arith, c .iLe) in
       record { row = subst (λ k. RowAt place k (numberOf firstWord) old new) e (c .row); counted = c .counted ∙ ap (below (λ j. eqb (firstWord j) j)) e }

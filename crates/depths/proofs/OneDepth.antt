@@ -19,8 +19,8 @@ use Rattle.runs.proofs.Cuts.{cut, rectangle-of}
 use Rattle.runs.proofs.Keys.{tells-step}
 use Rattle.runs.proofs.Vertices.{rectangular-iff, vertex-is, count-is}
 use Rattle.depths.specs.inner.Words.{words}
-use Rattle.depths.specs.inner.Rows.{at, Row, RowAt, joins, runStart, rowKey, firstWordIn, agreesTest, runsAgreeTest, Backward, ToNumber, Numbered}
-use Rattle.depths.specs.inner.Merge.{Merging, DepthDone}
+use Rattle.depths.specs.inner.Rows.{at, Row, RowAt, joins, runStart, rowKey, firstWordIn, agreesTest, runsAgreeTest, Backward, ToNumber, VerticesNumbered}
+use Rattle.depths.specs.inner.Merge.{DepthAsked, DepthDone}
 use Rattle.depths.specs.declared.Depth.the-variants.{Merged, Refused}
 use Rattle.depths.proofs.Words.{held-length}
 use Rattle.depths.proofs.Starts.{starts-are}
@@ -28,7 +28,7 @@ use Rattle.depths.proofs.Firsts.{firsts-are, ends-now}
 use Rattle.depths.proofs.Agreement.{agrees-iff, agrees-cong, all-iff}
 
 -- M is what was asked, A and B are what the passes left
-module _ {n t : ℕ} {roots labels goals old map row starts : List ℕ} (M : Merging n t roots labels goals old map)
+module _ {n t : ℕ} {roots labels goals old map row starts : List ℕ} (M : DepthAsked n t roots labels goals old map)
     (A : Row (length roots) (runStart (joins roots labels n t)) starts) (B : Row (length labels) (firstLike (rowKey labels n t old)) row) where
   abbrev table : List Word
   table = words roots labels goals
@@ -130,7 +130,7 @@ module _ {n t : ℕ} {roots labels goals old map row starts : List ℕ} (M : Mer
         ∙ sym (count-is G t (M .inner) (M .deep) K R)
 
   pub depth-merged : {new : List ℕ} {count : ℕ} → true ≡ runsAgreeTest (length roots) starts row
-      → Numbered (t * length roots) (length roots) (firstWordIn starts row) map new count → DepthDone n t table row map new (Merged count)
+      → VerticesNumbered (t * length roots) (length roots) (firstWordIn starts row) map new count → DepthDone n t table row map new (Merged count)
   depth-merged {new} {count} e N =
       let D = subst (λ k. RowAt (t * k) k (numberOf (firstWordIn starts row)) map new) (sym size) (N .row) in
       record {

@@ -10,9 +10,12 @@ ghost use Rattle.trellis.specs.Bounds.{mostWords};
 ghost use Rattle.trellis.specs.Lists.{one-if};
 ghost use Rattle.runs.specs.inner.Runs.{firstLike, goesOn};
 ghost use Rattle.depths.specs.inner.Words.{words};
-ghost use Rattle.depths.specs.inner.Rows.{at, Row, Small, Bytes, beginAlike, joins, startBy, runStart, rowKey, firstWordIn, agreesTest, runsAgreeTest, Backward, ToNumber, Numbered};
-ghost use Rattle.depths.specs.inner.Merge.{Merging, DepthDone, lowestOf, countOf, Inner, InnerDone};
+ghost use Rattle.depths.specs.inner.Rows.{at, Row, Small, Bytes, beginAlike, joins, startBy, runStart, rowKey, firstWordIn, agreesTest, runsAgreeTest, Backward, ToNumber, VerticesNumbered};
+ghost use Rattle.depths.specs.inner.Merge.{DepthAsked, DepthDone, lowestOf, countOf, Inner, InnerDone};
 use numbers::wide;
+use trellis::MOST_Q;
+use trellis::MOST_SYMBOLS;
+use trellis::MOST_WORDS;
 
 // Whether words i and j have the same beginning at depth t.
 fn begin_alike(roots: &[u8], labels: &[u16], n: usize, t: usize, i: usize, j: usize) -> bool
@@ -38,7 +41,7 @@ fn run_start(roots: &[u8], labels: &[u16], n: usize, t: usize, i: usize, before:
 }
 
 // The start of each word's run at depth t.
-pub fn put_starts(roots: &[u8], labels: &[u16], n: usize, t: usize, starts: &mut [u16; 1024])
+pub fn put_starts(roots: &[u8], labels: &[u16], n: usize, t: usize, starts: &mut [u16; MOST_WORDS])
     requires { ⌜ (length (now roots) ≤ mostWords) × (length (now labels) ≡ length (now roots)) × (length (now starts) ≡ mostWords) ⌝ }
     ensures { λ _. ⌜ Row (length (now (roots .entry))) (runStart (joins (now (roots .entry)) (now (labels .entry)) n t)) (now (starts .exit)) ⌝ }
 {
@@ -51,19 +54,22 @@ pub fn put_starts(roots: &[u8], labels: &[u16], n: usize, t: usize, starts: &mut
     }
 }
 
-// What was noted for a key, or i where nothing was: 1024 stands for nothing.
+// No word has this index.
+const NOTHING: u16 = MOST_WORDS as u16;
+
+// What was noted for a key, or i where nothing was.
 fn noted(old: u16, i: u16) -> u16
     ensures { λ r. ⌜ r ≡ cond (eqb old mostWords) i old ⌝ }
 {
-    if old == 1024 { i } else { old }
+    if old == NOTHING { i } else { old }
 }
 
 // The row becomes, for each word, the first word with its symbol t and its number in the row.
-pub fn put_firsts(labels: &[u16], n: usize, t: usize, row: &mut [u16; 1024])
+pub fn put_firsts(labels: &[u16], n: usize, t: usize, row: &mut [u16; MOST_WORDS])
     requires { ⌜ (length (now labels) ≤ mostWords) × Small (length (now labels)) (now row) ⌝ }
     ensures { λ _. ⌜ Row (length (now (labels .entry))) (firstLike (rowKey (now (labels .entry)) n t (now (row .entry)))) (now (row .exit)) ⌝ }
 {
-    let mut seen = [1024u16; 4096];
+    let mut seen = [NOTHING; MOST_Q * MOST_WORDS];
     let mut i: usize = 0;
     while i < labels.len() {
         let key = wide(row[i]) * 4 + wide(label::symbol(labels[i], n, t));
@@ -75,7 +81,7 @@ pub fn put_firsts(labels: &[u16], n: usize, t: usize, row: &mut [u16; 1024])
 }
 
 // Whether the word after i is of i's run.
-fn goes_on(starts: &[u16; 1024], w: usize, i: usize) -> bool
+fn goes_on(starts: &[u16; MOST_WORDS], w: usize, i: usize) -> bool
     requires { ⌜ (i < w) × (w ≤ mostWords) ⌝ }
     ensures { λ r. ⌜ r ≡ goesOn w (at (now (starts .entry))) i ⌝ }
 {
@@ -83,7 +89,7 @@ fn goes_on(starts: &[u16; 1024], w: usize, i: usize) -> bool
 }
 
 // The first word of i's vertex.
-fn first_word(starts: &[u16; 1024], firsts: &[u16; 1024], w: usize, i: usize) -> usize
+fn first_word(starts: &[u16; MOST_WORDS], firsts: &[u16; MOST_WORDS], w: usize, i: usize) -> usize
     requires { ⌜ (i < w) × (w ≤ mostWords) × Backward w (now starts) (now firsts) ⌝ }
     ensures { λ r. ⌜ r ≡ firstWordIn (now (starts .entry)) (now (firsts .entry)) i ⌝ }
 {
@@ -92,7 +98,7 @@ fn first_word(starts: &[u16; 1024], firsts: &[u16; 1024], w: usize, i: usize) ->
 }
 
 // Whether i's run agrees at i with the run of its first word.
-fn agrees(starts: &[u16; 1024], firsts: &[u16; 1024], w: usize, i: usize) -> bool
+fn agrees(starts: &[u16; MOST_WORDS], firsts: &[u16; MOST_WORDS], w: usize, i: usize) -> bool
     requires { ⌜ (i < w) × (w ≤ mostWords) × Backward w (now starts) (now firsts) ⌝ }
     ensures { λ r. ⌜ r ≡ agreesTest w (at (now (starts .entry))) (firstWordIn (now (starts .entry)) (now (firsts .entry))) i ⌝ }
 {
@@ -104,7 +110,7 @@ fn agrees(starts: &[u16; 1024], firsts: &[u16; 1024], w: usize, i: usize) -> boo
     goes_on(starts, w, i) == goes_on(starts, w, own + (i - start))
 }
 
-fn runs_agree(starts: &[u16; 1024], firsts: &[u16; 1024], w: usize) -> bool
+fn runs_agree(starts: &[u16; MOST_WORDS], firsts: &[u16; MOST_WORDS], w: usize) -> bool
     requires { ⌜ (w ≤ mostWords) × Backward w (now starts) (now firsts) ⌝ }
     ensures { λ r. ⌜ r ≡ runsAgreeTest w (now (starts .entry)) (now (firsts .entry)) ⌝ }
 {
@@ -128,14 +134,14 @@ fn numbered(count: u16, first: usize, i: usize) -> u16
 
 // The number of each word's vertex, from `place` on; gives how many there are.
 fn put_numbers(
-    starts: &[u16; 1024],
-    firsts: &[u16; 1024],
+    starts: &[u16; MOST_WORDS],
+    firsts: &[u16; MOST_WORDS],
     w: usize,
     map: &mut [u16],
     place: usize,
 ) -> u16
     requires { ⌜ ToNumber w place (now starts) (now firsts) (now map) ⌝ }
-    ensures { λ r. ⌜ Numbered place w (firstWordIn (now (starts .entry)) (now (firsts .entry))) (now (map .entry)) (now (map .exit)) r ⌝ }
+    ensures { λ r. ⌜ VerticesNumbered place w (firstWordIn (now (starts .entry)) (now (firsts .entry))) (now (map .entry)) (now (map .exit)) r ⌝ }
 {
     let mut i: usize = 0;
     let mut count: u16 = 0;
@@ -162,14 +168,14 @@ fn merge_depth(
     goals: &[u8],
     n: usize,
     t: usize,
-    row: &mut [u16; 1024],
+    row: &mut [u16; MOST_WORDS],
     map: &mut [u16],
 ) -> Depth
-    requires { ⌜ Merging n t (now roots) (now labels) (now goals) (now row) (now map) ⌝ }
+    requires { ⌜ DepthAsked n t (now roots) (now labels) (now goals) (now row) (now map) ⌝ }
     ensures { λ r. ⌜ DepthDone n t (words (now (roots .entry)) (now (labels .entry)) (now (goals .entry))) (now (row .exit)) (now (map .entry)) (now (map .exit)) r ⌝ }
 {
     let w = roots.len();
-    let mut starts = [0u16; 1024];
+    let mut starts = [0u16; MOST_WORDS];
     put_starts(roots, labels, n, t, &mut starts);
     put_firsts(labels, n, t, row);
     if !runs_agree(&starts, row, w) {
@@ -185,7 +191,7 @@ fn widen(x: u8) -> u16
 }
 
 // The goals as a row: they tell the endings at depth n apart.
-pub fn put_goals(goals: &[u8], row: &mut [u16; 1024])
+pub fn put_goals(goals: &[u8], row: &mut [u16; MOST_WORDS])
     requires { ⌜ (length (now goals) ≤ mostWords) × (length (now row) ≡ mostWords) ⌝ }
     ensures { λ _. ⌜ Bytes (now (goals .entry)) (now (row .exit)) ⌝ }
 {
@@ -222,12 +228,12 @@ pub fn merge_inner(
     goals: &[u8],
     n: usize,
     map: &mut [u16],
-    counts: &mut [u16; 9],
+    counts: &mut [u16; MOST_SYMBOLS + 1],
 ) -> usize
     requires { ⌜ Inner n (now roots) (now labels) (now goals) (now map) (now counts) ⌝ }
     ensures { λ r. ⌜ InnerDone n (words (now (roots .entry)) (now (labels .entry)) (now (goals .entry))) (now (map .entry)) (now (map .exit)) (now (counts .entry)) (now (counts .exit)) r ⌝ }
 {
-    let mut row = [0u16; 1024];
+    let mut row = [0u16; MOST_WORDS];
     put_goals(goals, &mut row);
     let mut refused: usize = 0;
     let mut t = n;

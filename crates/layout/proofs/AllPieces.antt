@@ -17,7 +17,7 @@ use Rattle.trellis.proofs.Write.{wrote-none, wrote-then, wrote-length, wrote-at
 use Rattle.trellis.proofs.Joined.{lengthsBefore, lengths-suc, lengths-le, joined-length, joined-at as joined-place}
 use Rattle.layout.specs.inner.Takers.{rowEdge, leadsHigher, takers}
 use Rattle.layout.proofs.Steps.{rows-fit}
-use Rattle.layout.specs.inner.Pieces.{SmallMap, stepEdge, stepTakers, stepList, AllTaken, Taken, part, pairsOf, symbolsOf, Words, stepPairs, stepSymbols}
+use Rattle.layout.specs.inner.Pieces.{SmallMap, mapEdge, stepTakers, stepList, AllTaken, Taken, part, pairsOf, symbolsOf, WordsAt, stepPairs, stepSymbols}
 
 -- ---- lists one behind another
 
@@ -73,7 +73,7 @@ module _ {m labels : List ℕ} {n : ℕ} {words counts : List ℕ} (K : Taken m 
   step-word : (k : ℕ) → k < count → getD words (lo + k) 0 ≡ getD (stepTakers m labels n t) k 0
   step-word k l = ap (λ u. getD words (u + k) 0) p ∙ K .holds t h k (omega (arith, count-is))
 
-  pub step-words : Words words lo (lo + count) (length labels)
+  pub step-words : WordsAt words lo (lo + count) (length labels)
   unfolding stepTakers
   step-words = record {
     order = omega arith;
@@ -82,7 +82,7 @@ module _ {m labels : List ℕ} {n : ℕ} {words counts : List ℕ} (K : Taken m 
         let e : lo + (k - lo) ≡ k = omega arith in
         let s = step-word (k - lo) (omega arith) in
         let f : getD words (lo + (k - lo)) 0 ≡ getD words k 0 = ap (λ i. getD words i 0) e in
-        omega (arith, takers-below (stepEdge m labels n t) (length labels) (k - lo) (omega (arith, count-is)));
+        omega (arith, takers-below (mapEdge m labels n t) (length labels) (k - lo) (omega (arith, count-is)));
   }
 
   pub step-part : part words lo (lo + count - lo) ≡ stepTakers m labels n t
@@ -147,22 +147,22 @@ module _ (m labels : List ℕ) (n t row : ℕ) (e : row ≡ t * length labels) w
   pub pairs-are : pairsOf m (length labels) row (stepTakers m labels n t) ≡ stepPairs m labels n t
   unfolding pairsOf stepPairs stepList rowEdge
   pairs-are = ap (λ r. flatMap (λ i. getD m (r + i) 0 ∷ getD m (r + length labels + i) 0 ∷ []) (stepTakers m labels n t)) e
-      ∙ sym (flatMap-map pairOf (stepEdge m labels n t) (stepTakers m labels n t))
+      ∙ sym (flatMap-map pairOf (mapEdge m labels n t) (stepTakers m labels n t))
 
 pub symbols-are : (m labels : List ℕ) (n t : ℕ) → symbolsOf labels n t (stepTakers m labels n t) ≡ stepSymbols m labels n t
 unfolding symbolsOf stepSymbols stepList rowEdge
-symbols-are m labels n t = sym (map-map symbolOf (stepEdge m labels n t) (stepTakers m labels n t))
+symbols-are m labels n t = sym (map-map symbolOf (mapEdge m labels n t) (stepTakers m labels n t))
 
 pub pairs-size : (m labels : List ℕ) (n t : ℕ) → length (stepPairs m labels n t) ≡ 2 * length (stepTakers m labels n t)
 unfolding stepPairs stepList
-pairs-size m labels n t = ap length (flatMap-map pairOf (stepEdge m labels n t) (stepTakers m labels n t)) ∙ length-two (λ i. pairOf (stepEdge m labels n t i)) (stepTakers m labels n t) (λ i. refl)
+pairs-size m labels n t = ap length (flatMap-map pairOf (mapEdge m labels n t) (stepTakers m labels n t)) ∙ length-two (λ i. pairOf (mapEdge m labels n t i)) (stepTakers m labels n t) (λ i. refl)
 
 one-each : (f : ℕ → ℕ) (ks : List ℕ) → length (map f ks) ≡ 1 * length ks
 one-each f ks = let e = length-map ks f in omega arith
 
 pub symbols-size : (m labels : List ℕ) (n t : ℕ) → length (stepSymbols m labels n t) ≡ 1 * length (stepTakers m labels n t)
 unfolding stepSymbols stepList
-symbols-size m labels n t = ap length (map-map symbolOf (stepEdge m labels n t) (stepTakers m labels n t)) ∙ one-each _ (stepTakers m labels n t)
+symbols-size m labels n t = ap length (map-map symbolOf (mapEdge m labels n t) (stepTakers m labels n t)) ∙ one-each _ (stepTakers m labels n t)
 
 -- one step more of each array
 module _ {m labels : List ℕ} {n : ℕ} {words counts : List ℕ} (K : Taken m labels n words counts) {start : ℕ} {old new new′ : List ℕ} {at lo t count end : ℕ} where

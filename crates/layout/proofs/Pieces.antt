@@ -11,7 +11,7 @@ use Rattle.trellis.specs.Label.{symbol}
 use Rattle.trellis.specs.inner.Write.{Wrote}
 use Rattle.trellis.proofs.Lists.{run-snoc, flatMap-append}
 use Rattle.trellis.proofs.Write.{wrote-none, wrote-then, wrote-length}
-use Rattle.layout.specs.inner.Pieces.{part, pairsOf, symbolsOf, Words}
+use Rattle.layout.specs.inner.Pieces.{part, pairsOf, symbolsOf, WordsAt}
 
 -- one word more
 part-more : (l : List ℕ) (lo k : ℕ) → lo ≤ k → part l lo (k + 1 - lo) ≡ part l lo (k - lo) ++ (getD l k 0 ∷ [])
@@ -83,6 +83,6 @@ symbol-more labels n t {l} {old} {new} {lo} {hi} {at} {to} {k} {i} {a} c e p h =
     piece-more (symbols-piece labels n t) c (record { new-is = rw (p, e); end-is = refl }) refl h
 
 -- the word at place k
-pub word-below : {piece : List ℕ → List ℕ} {size words : ℕ} {l old new : List ℕ} {lo hi at to k i : ℕ} → Words l lo hi words → InPiece piece size l lo hi old at new to k
+pub word-below : {piece : List ℕ → List ℕ} {size words : ℕ} {l old new : List ℕ} {lo hi at to k i : ℕ} → WordsAt l lo hi words → InPiece piece size l lo hi old at new to k
     → i ≡ getD l k 0 → k < hi → i < words
 word-below {piece} {size} {words} {l} {old} {new} {lo} {hi} {at} {to} {k} {i} W c e h = omega (arith, e, W .below k (c .low) h)

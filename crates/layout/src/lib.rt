@@ -8,9 +8,12 @@ ghost use lib.Dec.{leb};
 ghost use Rattle.trellis.specs.Bounds.{mostWords};
 ghost use Rattle.trellis.specs.inner.Write.{Wrote};
 ghost use Rattle.trellis.specs.Layout.{joinedUp};
-ghost use Rattle.layout.specs.inner.Pieces.{SmallMap, AllTaken, stepTakers, part, pairsOf, symbolsOf, Words, Taken, stepPairs, stepSymbols};
+ghost use Rattle.layout.specs.inner.Pieces.{SmallMap, AllTaken, stepTakers, part, pairsOf, symbolsOf, WordsAt, Taken, stepPairs, stepSymbols};
 ghost use Rattle.layout.specs.inner.Takers.{rowEdge, raised, takers, SmallRows, ArcOf};
 use numbers::wide;
+use trellis::MOST_Q;
+use trellis::MOST_SYMBOLS;
+use trellis::MOST_WORDS;
 
 pub mod states;
 
@@ -75,7 +78,7 @@ pub fn take_step(
     requires { ⌜ SmallRows (now map) (now labels) row × (at + length (now labels) ≤ length (now out)) ⌝ }
     ensures { λ r. ⌜ Wrote (now (out .entry)) at (takers (rowEdge (now (map .entry)) (now (labels .entry)) n t row) (length (now (labels .entry)))) (now (out .exit)) r ⌝ }
 {
-    let mut high = [0u16; 4096];
+    let mut high = [0u16; MOST_Q * MOST_WORDS];
     let mut to = at;
     let mut i: usize = 0;
     while i < labels.len() {
@@ -93,7 +96,7 @@ pub fn take_step(
 // The first words of all steps' edges, and how many edges each step has.
 pub struct Edges {
     pub total: usize,
-    pub counts: [u16; 8],
+    pub counts: [u16; MOST_SYMBOLS],
 }
 
 // The first words on the edges of all n steps, one step behind another.
@@ -101,7 +104,7 @@ pub fn take_edges(labels: &[u16], n: usize, map: &[u16], out: &mut [u16]) -> Edg
     requires { ⌜ SmallMap (now map) (now labels) n × (8192 ≤ length (now out)) ⌝ }
     ensures { λ r. ⌜ AllTaken (now (map .entry)) (now (labels .entry)) n (now (out .entry)) (now (out .exit)) (r .total) (r .counts) ⌝ }
 {
-    let mut counts = [0u16; 8];
+    let mut counts = [0u16; MOST_SYMBOLS];
     let mut at: usize = 0;
     let mut row: usize = 0;
     let mut t: usize = 0;
@@ -126,7 +129,7 @@ fn put_pairs(
     section: &mut [u16],
     at: usize,
 ) -> usize
-    requires { ⌜ Words (now words) lo hi w × (row + w + w ≤ length (now map)) × (at + 2 * (hi - lo) ≤ length (now section)) ⌝ }
+    requires { ⌜ WordsAt (now words) lo hi w × (row + w + w ≤ length (now map)) × (at + 2 * (hi - lo) ≤ length (now section)) ⌝ }
     ensures { λ r. ⌜ Wrote (now (section .entry)) at (pairsOf (now (map .entry)) w row (part (now (words .entry)) lo (hi - lo))) (now (section .exit)) r ⌝ }
 {
     let mut to = at;
@@ -152,7 +155,7 @@ fn put_symbols(
     section: &mut [u16],
     at: usize,
 ) -> usize
-    requires { ⌜ Words (now words) lo hi (length (now labels)) × (at + (hi - lo) ≤ length (now section)) ⌝ }
+    requires { ⌜ WordsAt (now words) lo hi (length (now labels)) × (at + (hi - lo) ≤ length (now section)) ⌝ }
     ensures { λ r. ⌜ Wrote (now (section .entry)) at (symbolsOf (now (labels .entry)) n t (part (now (words .entry)) lo (hi - lo))) (now (section .exit)) r ⌝ }
 {
     let mut to = at;
@@ -169,7 +172,7 @@ fn put_symbols(
 // The pairs of all steps' edges, one step behind another, from place `at` on. `words` and `counts` are what take_edges left.
 pub fn put_all_pairs(
     words: &[u16],
-    counts: &[u16; 8],
+    counts: &[u16; MOST_SYMBOLS],
     n: usize,
     labels: &[u16],
     map: &[u16],
@@ -198,7 +201,7 @@ pub fn put_all_pairs(
 // The symbols of all steps' edges, in the same order. The map is lent only for the contract to speak of: it decides the first words.
 pub fn put_all_symbols(
     words: &[u16],
-    counts: &[u16; 8],
+    counts: &[u16; MOST_SYMBOLS],
     n: usize,
     labels: &[u16],
     map: &[u16],

@@ -6,7 +6,7 @@ use Rattle.trellis.specs.Outcome.{Outcome, outcome}
 use Rattle.merge.specs.Answer.{outcomeOf, Ends}
 use Rattle.merge.specs.Merging.{Merging}
 use Rattle.merge.specs.declared.Merged.{Merged}
-use Rattle.read_back.specs.ReadingBack.{ReadingBack, leaves}
+use Rattle.read_back.specs.ReadingBack.{ReadingBack, left}
 use Rattle.chain.specs.Decoding.{Decoding, left}
 use Rattle.listing.specs.Listing as printed
 use Rattle.link_kit.specs.Numbers.{stored, fourOf, Numbered}
@@ -42,7 +42,7 @@ merge-left E N = record { answerIs = numbered-by (sym (E .answerIs)) N; mapIs = 
 
 pub read-back-left :
     {o : Outcome} {m : ReadingBack} {number : ℕ} {file values : List ℕ} →
-    leaves o file ≡ m →
+    left o file ≡ m →
     Numbered o number values →
     ReadBackLeft m number file values
 read-back-left e N = record { answerIs = numbered-by (sym (ap (λ m. m .outcome) e)) N; fileIs = ap (λ m. m .file) e }

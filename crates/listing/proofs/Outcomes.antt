@@ -10,6 +10,7 @@ use lib.Seq.{length-take-le}
 use lib.Dec.{ltb}
 use borrow.Author.Tests.{lt-ltb, le-ltb}
 use Rattle.trellis.specs.Outcome.{badLength, success, shortBuffer}
+use Rattle.trellis.specs.Bounds.{mostBytes}
 use Rattle.table.specs.File.{wordCount}
 use Rattle.merge.specs.Answer.{outcomeOf, Ends}
 use Rattle.merge.specs.Merging.{merging}
@@ -17,29 +18,29 @@ use Rattle.merge.specs.declared.Merged.{Merged}
 use Rattle.text.specs.inner.Put.{Put}
 use Rattle.text.proofs.Putting.{front-holds, front-end, front-put}
 use Rattle.listing.specs.Text.{refusalLine, textFrom, merged, textOf}
-use Rattle.listing.specs.Listing.{Listing, listedOutcome, leaves, listing}
-use Rattle.listing.specs.inner.Made.{Made}
+use Rattle.listing.specs.Listing.{Listing, listedOutcome, left, listing}
+use Rattle.listing.specs.inner.Made.{TextMade}
 use Rattle.listing.specs.declared.Listed.{Listed}
 use Rattle.listing.specs.declared.Listed.the-variants.{Text}
 use Rattle.listing.proofs.Lines.{few-values}
 use Rattle.listing.proofs.Short.{text-short, refusal-short}
 
 module _ (file : List ℕ) {old new : List ℕ} {end : ℕ} where
-  pub made-long : 65535 < length file → Put old 0 (refusalLine (badLength 65536)) new end → Made file old new end
+  pub made-long : mostBytes < length file → Put old 0 (refusalLine (badLength (mostBytes + 1))) new end → TextMade file old new end
   unfolding textOf
   made-long h p =
-      let e : textOf file ≡ refusalLine (badLength 65536) = simp (lt-ltb 65535 (length file) h) in
+      let e : textOf file ≡ refusalLine (badLength (mostBytes + 1)) = simp (lt-ltb mostBytes (length file) h) in
       record {
         put = subst (λ r. Put old 0 r new end) (sym e) p;
-        short = subst (λ r. length r ≤ 1024) (sym e) (refusal-short (badLength 65536) (omega arith));
+        short = subst (λ r. length r ≤ 1024) (sym e) (refusal-short (badLength (mostBytes + 1)) (omega arith));
       }
 
-  pub made-merged : {r : Merged} {map section : List ℕ} {words x : ℕ} → length file ≤ 65535
+  pub made-merged : {r : Merged} {map section : List ℕ} {words x : ℕ} → length file ≤ mostBytes
       → Ends (merging file (replicate 9216 0) (replicate 26644 0)) r map section → x ≡ wordCount file → words ≡ x
-      → Put old 0 (textFrom words (outcomeOf r) section) new end → Made file old new end
+      → Put old 0 (textFrom words (outcomeOf r) section) new end → TextMade file old new end
   unfolding textOf merged
   made-merged {r} {map} {section} {words} {x} h E x-is w-is p =
-      let e : textOf file ≡ textFrom (wordCount file) (merged file .answer) (merged file .section) = simp (le-ltb 65535 (length file) h) in
+      let e : textOf file ≡ textFrom (wordCount file) (merged file .answer) (merged file .section) = simp (le-ltb mostBytes (length file) h) in
       let f : textFrom words (outcomeOf r) section ≡ textFrom (wordCount file) (merged file .answer) (merged file .section)
       = ap (λ k. textFrom k (outcomeOf r) section) (w-is ∙ x-is) ∙ ap₂ (λ o l. textFrom (wordCount file) o l) (E .answerIs) (E .sectionIs) in
       record {
@@ -47,7 +48,7 @@ module _ (file : List ℕ) {old new : List ℕ} {end : ℕ} where
         short = text-short file (subst (λ o. length (o .values) ≤ 4) (E .answerIs) (few-values r));
       }
 
-module _ (file : List ℕ) {old made : List ℕ} {end : ℕ} (M : Made file old made end) (room : 1024 ≤ length old) where
+module _ (file : List ℕ) {old made : List ℕ} {end : ℕ} (M : TextMade file old made end) (room : 1024 ≤ length old) where
   fits : length (textOf file) ≤ length old
   fits = omega (arith, M .short)
 
@@ -60,30 +61,30 @@ module _ (file : List ℕ) {old made : List ℕ} {end : ℕ} (M : Made file old 
   pub end-taken : end ≡ length (take end made)
   end-taken = sym (length-take-le end made end-inside)
 
-  pub listed-short : (text : List ℕ) → length text < end → leaves (shortBuffer end) text ≡ listing file text
+  pub listed-short : (text : List ℕ) → length text < end → left (shortBuffer end) text ≡ listing file text
   unfolding listing
   listed-short text h =
       let l : ltb (length text) (length (textOf file)) ≡ true = lt-ltb (length text) (length (textOf file)) (omega (arith, end-is)) in
-      ap (λ k. leaves (shortBuffer k) text) end-is
-      ∙ sym (ap (λ b. cond b (leaves (shortBuffer (length (textOf file))) text) (leaves (success (length (textOf file))) (textOf file ++ drop (length (textOf file)) text))) l)
+      ap (λ k. left (shortBuffer k) text) end-is
+      ∙ sym (ap (λ b. cond b (left (shortBuffer (length (textOf file))) text) (left (success (length (textOf file))) (textOf file ++ drop (length (textOf file)) text))) l)
 
-  pub listed-text : (text : List ℕ) {new : List ℕ} {far : ℕ} → end ≤ length text → Put text 0 (take end made) new far → leaves (success end) new ≡ listing file text
+  pub listed-text : (text : List ℕ) {new : List ℕ} {far : ℕ} → end ≤ length text → Put text 0 (take end made) new far → left (success end) new ≡ listing file text
   unfolding listing
   listed-text text {new} {far} h p =
       let l : ltb (length text) (length (textOf file)) ≡ false = le-ltb (length text) (length (textOf file)) (omega (arith, end-is)) in
       let q : Put text 0 (textOf file) new far = subst (λ t. Put text 0 t new far) (front-holds (M .put) fits) p in
       let n : new ≡ textOf file ++ drop (length (textOf file)) text = front-put q (omega (arith, end-is)) in
-      ap₂ (λ k t. leaves (success k) t) end-is n
-      ∙ sym (ap (λ b. cond b (leaves (shortBuffer (length (textOf file))) text) (leaves (success (length (textOf file))) (textOf file ++ drop (length (textOf file)) text))) l)
+      ap₂ (λ k t. left (success k) t) end-is n
+      ∙ sym (ap (λ b. cond b (left (shortBuffer (length (textOf file))) text) (left (success (length (textOf file))) (textOf file ++ drop (length (textOf file)) text))) l)
 
 -- what callers know: a text that was written stands in the buffer
-pub written-inside : (file text : List ℕ) {new : List ℕ} {r : Listed} {k : ℕ} → leaves (listedOutcome r) new ≡ listing file text → r ≡ Text k → k ≤ length new
+pub written-inside : (file text : List ℕ) {new : List ℕ} {r : Listed} {k : ℕ} → left (listedOutcome r) new ≡ listing file text → r ≡ Text k → k ≤ length new
 unfolding listing
 written-inside file text {new} {r} {k} e f =
-    go (ltb (length text) (length (textOf file))) (ap (λ x. leaves (listedOutcome x) new) (sym f) ∙ e)
+    go (ltb (length text) (length (textOf file))) (ap (λ x. left (listedOutcome x) new) (sym f) ∙ e)
   where
     go : (b : Bool)
-        → leaves (success k) new ≡ cond b (leaves (shortBuffer (length (textOf file))) text) (leaves (success (length (textOf file))) (textOf file ++ drop (length (textOf file)) text))
+        → left (success k) new ≡ cond b (left (shortBuffer (length (textOf file))) text) (left (success (length (textOf file))) (textOf file ++ drop (length (textOf file)) text))
         → k ≤ length new
     go true e = absurd (omega (arith, ap (λ (m : Listing). m .outcome .number) e))
     go false e =

@@ -7,7 +7,7 @@ use native.Mathlib.Omega.{arith}
 use native.Mathlib.Nat.{mul-le-mul, suc-mul}
 use lib.ListN.{length, getD, drop, replicate, length-append, getD-replicate}
 use lib.Dec.{ltb, leb, eqb, lit<}
-use Rattle.trellis.specs.Bounds.{mostSymbols}
+use Rattle.trellis.specs.Bounds.{mostSymbols, mostBytes}
 use Rattle.trellis.specs.Word.{Word}
 use Rattle.trellis.specs.Witness.{Witness, found, nothing, witness}
 use Rattle.trellis.specs.Outcome.{Outcome, badLength}
@@ -122,5 +122,5 @@ module _ (file : List ℕ) where
   pub text-short : length (merged file .answer .values) ≤ 4 → length (textOf file) ≤ 1024
   unfolding textOf textFrom
   text-short h =
-      either-short (ltb 65535 (length file)) _ _ (refusal-short (badLength 65536) (omega arith))
+      either-short (ltb mostBytes (length file)) _ _ (refusal-short (badLength (mostBytes + 1)) (omega arith))
       (either-short (eqb (merged file .answer .number) 0) _ _ (sizes-short (wordCount file) (merged file .section) n-small) (refusal-short (merged file .answer) h))

@@ -18,10 +18,10 @@ pub record Listing : Type 0 where
   pub outcome : Outcome
   pub text : List ℕ
 
-abbrev pub leaves : Outcome → List ℕ → Listing
-leaves o text = record { outcome = o; text = text }
+abbrev pub left : Outcome → List ℕ → Listing
+left o text = record { outcome = o; text = text }
 
 unfoldable pub listing : List ℕ → List ℕ → Listing
 listing file buffer =
-    cond (ltb (length buffer) (length (textOf file))) (leaves (shortBuffer (length (textOf file))) buffer)
-    (leaves (success (length (textOf file))) (over (textOf file) buffer))
+    cond (ltb (length buffer) (length (textOf file))) (left (shortBuffer (length (textOf file))) buffer)
+    (left (success (length (textOf file))) (over (textOf file) buffer))

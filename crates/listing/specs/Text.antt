@@ -1,12 +1,13 @@
 -- The bytes that document 01 prints for a table file: the sizes of the section that merging gives, or the refusal. Everything here computes.
 use mathlib.Core.Bool.{cond}
 use mathlib.Core.List.{List, [], _∷_, _++_}
-use Prim.Native.Nat.{ℕ, zero, suc}
+use Prim.Native.Nat.{ℕ, zero, suc, _+_}
 use lib.ListN.{length, replicate}
 use lib.Dec.{ltb, eqb}
 use Rattle.trellis.specs.Outcome.{Outcome, badLength}
 use Rattle.trellis.specs.Demand.{additions, selections}
 use Rattle.trellis.specs.Layout.{qOf, nOf, statesOf, vertexCountOf, edgeCountOf, joinedUp}
+use Rattle.trellis.specs.Bounds.{mostBytes}
 use Rattle.table.specs.File.{wordCount}
 use Rattle.merge.specs.Merging.{Merging, merging}
 use Rattle.text.specs.Line.{line}
@@ -60,4 +61,4 @@ unfoldable pub merged : List ℕ → Merging
 merged file = merging file (replicate 9216 0) (replicate 26644 0)
 
 unfoldable pub textOf : List ℕ → List ℕ
-textOf file = cond (ltb 65535 (length file)) (refusalLine (badLength 65536)) (textFrom (wordCount file) (merged file .answer) (merged file .section))
+textOf file = cond (ltb mostBytes (length file)) (refusalLine (badLength (mostBytes + 1))) (textFrom (wordCount file) (merged file .answer) (merged file .section))

@@ -9,14 +9,18 @@ ghost use Rattle.trellis.specs.Layout.{nOf, joinedUp};
 ghost use Rattle.merge.specs.Answer.{outcomeOf};
 ghost use Rattle.text.specs.inner.Put.{Put};
 ghost use Rattle.listing.specs.Text.{entering, depthLine, sums, sizesOf, refusalLine, textFrom};
-ghost use Rattle.listing.specs.Listing.{leaves, listedOutcome, listing};
-ghost use Rattle.listing.specs.inner.Made.{Made};
+ghost use Rattle.listing.specs.Listing.{left, listedOutcome, listing};
+ghost use Rattle.listing.specs.inner.Made.{TextMade};
 use merge::Merged;
 use numbers::number;
 use numbers::total;
 use numbers::wide;
 use text::put_bytes;
 use text::put_line;
+use trellis::MOST_BYTES;
+
+// What is returned for input of any length over the bound.
+const TOO_LONG: usize = MOST_BYTES + 1;
 
 // The length of the text, or the length that the buffer would need.
 pub enum Listed {
@@ -113,10 +117,10 @@ fn put_answer(answer: Merged, words: usize, section: &[u16], text: &mut [u8]) ->
 
 // Both buffers are long enough for every table.
 fn put_text(file: &[u8], text: &mut [u8]) -> usize
-    ensures { λ r. ⌜ Made (now (file .entry)) (now (text .entry)) (now (text .exit)) r ⌝ }
+    ensures { λ r. ⌜ TextMade (now (file .entry)) (now (text .entry)) (now (text .exit)) r ⌝ }
 {
-    if file.len() > 65535 {
-        return put_refusal(text, 1, 65536);
+    if file.len() > MOST_BYTES {
+        return put_refusal(text, 1, TOO_LONG);
     }
     let mut map = [0u16; 9216];
     let mut section = [0u16; 26644];
@@ -126,7 +130,7 @@ fn put_text(file: &[u8], text: &mut [u8]) -> usize
 
 // Writes the listing of the table in `file`, or the line of its refusal, to the front of `text`.
 pub fn listing(file: &[u8], text: &mut [u8]) -> Listed
-    ensures { λ r. ⌜ leaves (listedOutcome r) (now (text .exit)) ≡ listing (now (file .entry)) (now (text .entry)) ⌝ }
+    ensures { λ r. ⌜ left (listedOutcome r) (now (text .exit)) ≡ listing (now (file .entry)) (now (text .entry)) ⌝ }
 {
     let mut made = [0u8; 1024];
     let length = put_text(file, &mut made);

@@ -14,19 +14,19 @@ use Rattle.trellis.specs.Outcome.{shortMap}
 use Rattle.trellis.specs.Witness.{witness}
 use Rattle.trellis.proofs.Words.{word-in, word-eq}
 use Rattle.table.specs.File.{accepted, tableFile, fileWords}
-use Rattle.table.specs.inner.Good.{Good}
+use Rattle.table.specs.inner.Good.{GoodFile}
 use Rattle.table.proofs.Accepted.{accepted-good, good-at}
 use Rattle.depths.specs.inner.Words.{words}
 use Rattle.depths.proofs.Words.{word-is, words-length}
 use Rattle.merge.specs.Merging.{mapLength, merged, mergedTable}
-use Rattle.merge.specs.inner.Stages.{Words, Copied}
+use Rattle.merge.specs.inner.Stages.{WordsHeld, Copied}
 use Rattle.merge.specs.Answer.{Ends}
 use Rattle.merge.specs.declared.Merged.{Merged}
 use Rattle.merge.specs.declared.Merged.the-variants.{ShortMap}
 use Rattle.merge.proofs.LastStage.{ends-by}
 
 module _ (file : List ℕ) {q n states count : ℕ} (A : (tableFile file ≡ accepted q n states (fileWords file)) × (count ≡ length (fileWords file))) where
-  G : Good file q n states (fileWords file)
+  G : GoodFile file q n states (fileWords file)
   G = accepted-good file (A .0)
 
   pub count-few : count ≤ mostWords
@@ -96,7 +96,7 @@ module _ (file : List ℕ) {q n states count : ℕ} (A : (tableFile file ≡ acc
         let z : getD (take w goals) i 0 ≡ wordAt (fileWords file) i .goal = getD-take w goals i 0 l ∙ C .goal i (omega arith) ∙ sym (ap (λ (x : Word). x .goal) (good-at file G i k)) in
         omega (arith, G .goalsBelow (wordAt (fileWords file) i) (word-in (fileWords file) i k), G .statesTo)
 
-    pub words-asked : (map : List ℕ) → w * (n + 1) ≤ length map → Words n (take w roots) (take w labels) (take w goals) map
+    pub words-asked : (map : List ℕ) → w * (n + 1) ≤ length map → WordsHeld n (take w roots) (take w labels) (take w goals) map
     words-asked map room = record {
       held = record {
         short = G .nTo;

@@ -11,18 +11,18 @@ use Rattle.trellis.specs.Word.{Word}
 use Rattle.trellis.specs.Witness.{Witness, found, nothing, witness}
 use Rattle.trellis.proofs.Witness.{witness-none}
 use Rattle.depths.specs.inner.Words.{words}
-use Rattle.depths.specs.inner.Merge.{FirstRefused, Found, InnerDone}
+use Rattle.depths.specs.inner.Merge.{FirstRefused, InnerOutcome, InnerDone}
 use Rattle.depths.proofs.Words.{held-length}
 use Rattle.merge.specs.Answer.{outcomeOf, Ends}
 use Rattle.merge.specs.Merging.{mapOf, mapLength, refusalOf, written, merged}
 use Rattle.trellis.specs.Lists.{over}
-use Rattle.merge.specs.inner.Stages.{cleared, Words, Inside, Refused}
+use Rattle.merge.specs.inner.Stages.{cleared, WordsHeld, Inside, RefusedAt}
 use Rattle.merge.specs.declared.Merged.{Merged}
 use Rattle.merge.proofs.MapRows.{map-length}
 use Rattle.trellis.proofs.Buffers.{over-same}
 use Rattle.merge.proofs.LastStage.{ends-by}
 
-module _ {n r : ℕ} {roots labels goals map0 map1 counts0 counts : List ℕ} (A : Words n roots labels goals map0)
+module _ {n r : ℕ} {roots labels goals map0 map1 counts0 counts : List ℕ} (A : WordsHeld n roots labels goals map0)
     (D : InnerDone n (words roots labels goals) map0 map1 counts0 counts r) where
   abbrev table : List Word
   table = words roots labels goals
@@ -30,7 +30,7 @@ module _ {n r : ℕ} {roots labels goals map0 map1 counts0 counts : List ℕ} (A
   size : length table ≡ length roots
   size = held-length (A .held)
 
-  asked : Words n roots labels goals map1
+  asked : WordsHeld n roots labels goals map1
   asked = record { held = A .held; fewRoots = A .fewRoots; fewGoals = A .fewGoals; some = A .some; room = omega (arith, A .room, D .len) }
 
   -- both fronts reach as far as the n + 1 rows
@@ -44,7 +44,7 @@ module _ {n r : ℕ} {roots labels goals map0 map1 counts0 counts : List ℕ} (A
   -- ---- all inner depths are rectangular
 
   pub inside : r ≡ 0 → Inside n roots labels goals map1 counts
-  inside e = record { asked = asked; sound = subst (Found n table 1 map1 counts) e (D .found); nine = D .nine }
+  inside e = record { asked = asked; sound = subst (InnerOutcome n table 1 map1 counts) e (D .found); nine = D .nine }
 
   no-witness : r ≡ 0 → witness n table ≡ nothing
   no-witness e = witness-none n table .1 (λ t p q. inside e .sound .rectangular t p q)
@@ -63,11 +63,11 @@ module _ {n r : ℕ} {roots labels goals map0 map1 counts0 counts : List ℕ} (A
 
   -- ---- or one is not
 
-  first-of : (k : ℕ) → (k ≡ 0 → ⊥) → Found n table 1 map1 counts k → FirstRefused n table 1 k
+  first-of : (k : ℕ) → (k ≡ 0 → ⊥) → InnerOutcome n table 1 map1 counts k → FirstRefused n table 1 k
   first-of zero d f = absurd (d refl)
   first-of (suc k) d f = f
 
-  pub refused : (r ≡ 0 → ⊥) → Refused n r roots labels goals map1
+  pub refused : (r ≡ 0 → ⊥) → RefusedAt n r roots labels goals map1
   refused d = record { asked = asked; first = first-of r d (D .found) }
 
   pub ends-refused : (q states : ℕ) {section map2 : List ℕ} {a : Merged} → (r ≡ 0 → ⊥) → (outcomeOf a ≡ refusalOf (witness n table)) × (map2 ≡ cleared (length roots * (n + 1)) map1)

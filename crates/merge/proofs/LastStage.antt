@@ -15,10 +15,10 @@ use Rattle.trellis.specs.inner.Write.{Wrote}
 use Rattle.trellis.proofs.Write.{wrote-front}
 use Rattle.depths.specs.inner.Words.{words, Held}
 use Rattle.depths.proofs.Words.{held-length}
-use Rattle.layout.specs.inner.Pieces.{SmallMap, stepEdge, stepTakers, AllTaken, Taken}
+use Rattle.layout.specs.inner.Pieces.{SmallMap, mapEdge, stepTakers, AllTaken, Taken}
 use Rattle.layout.proofs.AllPieces.{taken-all, joined-rise}
 use Rattle.layout.proofs.Marks.{bits-of, all-marks}
-use Rattle.assemble.specs.inner.Outer.{Put}
+use Rattle.assemble.specs.inner.Outer.{OuterPut}
 use Rattle.assemble.specs.inner.Numbers.{numbersOf, Parts}
 use Rattle.assemble.proofs.Whole.{complete, few-counts, small, numbers-are, section-length}
 use Rattle.merge.specs.Merging.{Merging, left, mapOf, written}
@@ -70,7 +70,7 @@ ends-by {m} {r} {o} {map} {section} {map′} {section′} e p q s = record {
 }
 
 module _ {n : ℕ} {roots labels goals map0 map1 inner rootMarks goalMarks counts : List ℕ} (I : Inside n roots labels goals map0 inner)
-    (P : Put roots goals n map0 map1 inner rootMarks goalMarks counts) where
+    (P : OuterPut roots goals n map0 map1 inner rootMarks goalMarks counts) where
   abbrev table : List Word
   table = words roots labels goals
 
@@ -111,7 +111,7 @@ module _ {n : ℕ} {roots labels goals map0 map1 inner rootMarks goalMarks count
         omega (
           arith,
           joined-rise (stepTakers map1 labels n) 0 n (H .table .some),
-          takers-some (stepEdge map1 labels n 0) (length labels) (omega (arith, I .asked .some, H .labelled)),
+          takers-some (mapEdge map1 labels n 0) (length labels) (omega (arith, I .asked .some, H .labelled)),
         )
 
     map-whole : map1 ≡ over (mapOf n table) map0

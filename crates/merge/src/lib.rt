@@ -9,8 +9,10 @@ ghost use Rattle.table.specs.File.{accepted, tableFile, fileWords};
 ghost use Rattle.depths.specs.inner.Words.{words};
 ghost use Rattle.merge.specs.Answer.{outcomeOf, Ends};
 ghost use Rattle.merge.specs.Merging.{refusalOf, merging, mergedTable, merged, written};
-ghost use Rattle.merge.specs.inner.Stages.{cleared, Words, Inside, Refused, Copied};
+ghost use Rattle.merge.specs.inner.Stages.{cleared, WordsHeld, Inside, RefusedAt, Copied};
 use numbers::wide;
+use trellis::MOST_SYMBOLS;
+use trellis::MOST_WORDS;
 
 pub enum Merged {
     Section(usize),
@@ -43,7 +45,7 @@ fn finish(
     roots: &[u8],
     labels: &[u16],
     goals: &[u8],
-    inner: [u16; 9],
+    inner: [u16; MOST_SYMBOLS + 1],
     map: &mut [u16],
     section: &mut [u16],
 ) -> Merged
@@ -52,7 +54,7 @@ fn finish(
         (now (map .exit)) (now (section .exit)) ⌝ }
 {
     let outer = assemble::put_outer(roots, goals, n, map, inner);
-    let mut firsts = [0u16; 8192];
+    let mut firsts = [0u16; MOST_SYMBOLS * MOST_WORDS];
     let edges = layout::take_edges(labels, n, map, &mut firsts);
     let counts = outer.counts;
     let needed = 4 + 2 * n + (wide(counts[0]) + wide(counts[n])) + 3 * edges.total;
@@ -65,7 +67,7 @@ fn finish(
 
 // Refusal 6 at the first inner depth that is not rectangular: its witness, and a map of zeros.
 fn refuse(n: usize, t: usize, roots: &[u8], labels: &[u16], goals: &[u8], map: &mut [u16]) -> Merged
-    requires { ⌜ Refused n t (now roots) (now labels) (now goals) (now map) ⌝ }
+    requires { ⌜ RefusedAt n t (now roots) (now labels) (now goals) (now map) ⌝ }
     ensures { λ r. ⌜ (outcomeOf r ≡ refusalOf (witness n (words (now (roots .entry)) (now (labels .entry)) (now (goals .entry))))) × (now (map .exit)
         ≡ cleared (length (now (roots .entry)) * (n + 1)) (now (map .entry))) ⌝ }
 {
@@ -88,11 +90,11 @@ fn merge_words(
     map: &mut [u16],
     section: &mut [u16],
 ) -> Merged
-    requires { ⌜ Words n (now roots) (now labels) (now goals) (now map) ⌝ }
+    requires { ⌜ WordsHeld n (now roots) (now labels) (now goals) (now map) ⌝ }
     ensures { λ r. ⌜ Ends (merged q n states (words (now (roots .entry)) (now (labels .entry)) (now (goals .entry))) (now (map .entry))
         (now (section .entry)) (witness n (words (now (roots .entry)) (now (labels .entry)) (now (goals .entry))))) r (now (map .exit)) (now (section .exit)) ⌝ }
 {
-    let mut counts = [0u16; 9];
+    let mut counts = [0u16; MOST_SYMBOLS + 1];
     let depth = depths::merge_inner(roots, labels, goals, n, map, &mut counts);
     if depth != 0 {
         return refuse(n, depth, roots, labels, goals, map);
@@ -102,18 +104,18 @@ fn merge_words(
 
 // The words of a file, in three arrays: merging goes over them many times, and a word's bytes lie apart in the file.
 struct Lists {
-    roots: [u8; 1024],
-    labels: [u16; 1024],
-    goals: [u8; 1024],
+    roots: [u8; MOST_WORDS],
+    labels: [u16; MOST_WORDS],
+    goals: [u8; MOST_WORDS],
 }
 
 fn copy_words(file: &[u8], count: u16) -> Lists
     requires { ⌜ count ≤ mostWords ⌝ }
     ensures { λ r. ⌜ Copied (now (file .entry)) count (r .roots) (r .labels) (r .goals) ⌝ }
 {
-    let mut roots = [0u8; 1024];
-    let mut labels = [0u16; 1024];
-    let mut goals = [0u8; 1024];
+    let mut roots = [0u8; MOST_WORDS];
+    let mut labels = [0u16; MOST_WORDS];
+    let mut goals = [0u8; MOST_WORDS];
     let mut i: u16 = 0;
     while i < count {
         let at = wide(i);

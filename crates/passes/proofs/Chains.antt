@@ -27,7 +27,7 @@ use Rattle.paths.proofs.Chain.{cost-table, table-le}
 use Rattle.paths.proofs.Blocks.{Uses, least-root, least-else, trace-root}
 use Rattle.paths.proofs.Ranked.{Rankable, Reads, ranked-cost, ranked-path}
 use Rattle.block.specs.Received.{symbolCost, blockDistance}
-use Rattle.passes.specs.inner.Blocks.{top, Good, endsIn, sectionOf, wordsOf, distanceOf, leastFrom, pathFrom, Ready, Table, Pick, Filled, aheadOf}
+use Rattle.passes.specs.inner.Blocks.{unreached, Decodable, endsIn, sectionOfBlock, wordsOfBlock, distanceOf, leastFrom, pathFrom, Ready, CostsFrom, Pick, Filled, aheadOf}
 use Rattle.passes.specs.inner.Loops.{Behind, rankFrom, BlockTable, RootAt}
 use Rattle.passes.proofs.OneSection.{bounded-by, rootOf, root-at}
 use Rattle.paths.proofs.Ordered.{run-ordered}
@@ -36,18 +36,18 @@ use Rattle.paths.proofs.Ordered.{run-ordered}
 
 module _ {sections starts indices received erased : List ℕ} (R : Ready sections starts indices received erased) where
   abbrev part : ℕ → List ℕ
-  part b = sectionOf sections starts indices received erased b
+  part b = sectionOfBlock sections starts indices received erased b
 
   abbrev prices : ℕ → ℕ → ℕ → ℕ
   prices b = symbolCost (nOf (part b)) (getD received b 0) (getD erased b 0)
 
   abbrev pub leastAhead : ℕ → ℕ → ℕ → ℕ → ℕ
-  leastAhead end k b s = chainLeast (wordsOf sections starts indices received erased) (endsIn end) (distanceOf sections starts indices received erased) top k b s
+  leastAhead end k b s = chainLeast (wordsOfBlock sections starts indices received erased) (endsIn end) (distanceOf sections starts indices received erased) unreached k b s
 
   pub uses : (b : ℕ) → b < length indices
-      → Uses (wordsOf sections starts indices received erased) (distanceOf sections starts indices received erased) b (stepEdges (part b)) (nOf (part b))
+      → Uses (wordsOfBlock sections starts indices received erased) (distanceOf sections starts indices received erased) b (stepEdges (part b)) (nOf (part b))
       (each (λ v. v) (vertexCountOf (part b) 0)) (rootState (part b)) (goalState (part b)) (prices b)
-  unfolding wordsOf sectionWords distanceOf blockDistance wordOf
+  unfolding wordsOfBlock sectionWords distanceOf blockDistance wordOf
   uses b h = record {
     words-are = refl;
     roots-ascend = run-ordered (λ v. v) 0 (vertexCountOf (part b) 0) (λ j k a c. R .good b h .rootsAscend j k a (omega arith));
@@ -65,11 +65,11 @@ module _ {sections starts indices received erased : List ℕ} (R : Ready section
       let G = R .good b h in
       record { some = G .some; short = G .fits .nTo; fits = bounded-by (G .fits); small = λ g k. omega (arith, G .goalsBelow g k); ordered = G .wordsAscend }
 
-  least-top : (end k b s : ℕ) → leastAhead end k b s ≤ top
+  least-top : (end k b s : ℕ) → leastAhead end k b s ≤ unreached
   least-top end k b s =
-      let W = wordsOf sections starts indices received erased in
+      let W = wordsOfBlock sections starts indices received erased in
       let D = distanceOf sections starts indices received erased in
-      subst (λ x. x ≤ top) (cost-table W (endsIn end) D top k b s) (table-le W (endsIn end) D top k b s)
+      subst (λ x. x ≤ unreached) (cost-table W (endsIn end) D unreached k b s) (table-le W (endsIn end) D unreached k b s)
 
   pub root-listed : (b v : ℕ) → v < vertexCountOf (part b) 0 → v ∈ each (λ u. u) (vertexCountOf (part b) 0)
   root-listed b v h = in-each (λ u. u) (vertexCountOf (part b) 0) v v h refl
@@ -89,10 +89,10 @@ module _ {sections starts indices received erased : List ℕ} (R : Ready section
     pub index-lt : i < suc mostSections
     pub inside : getD starts i 0 ≤ length sections
     pub part-is : partAt i ≡ part b
-    pub good : Good (partAt i)
+    pub good : Decodable (partAt i)
 
   pub block-at : {b i : ℕ} → b < length indices → i ≡ getD indices b 0 → BlockAt b i
-  unfolding sectionOf
+  unfolding sectionOfBlock
   block-at {b} {i} h e =
       let a = R .indexBelow b h in
       let c : getD starts i 0 ≡ getD starts (getD indices b 0) 0 = ap (λ j. getD starts j 0) e in
@@ -100,22 +100,22 @@ module _ {sections starts indices received erased : List ℕ} (R : Ready section
       let p : partAt i ≡ part b
       = take-all (length sections - getD starts i 0) (drop (getD starts i 0) sections) (le-of-eq (length-drop (getD starts i 0) sections))
       ∙ ap (λ j. drop j sections) c in
-      record { index-lt = omega arith; inside = omega arith; part-is = p; good = subst Good (sym p) (R .good b h) }
+      record { index-lt = omega arith; inside = omega arith; part-is = p; good = subst Decodable (sym p) (R .good b h) }
 
   -- what the table has is what is left to pay
-  pub ahead-is : {end b : ℕ} {costs : List ℕ} → Table sections starts indices received erased end b costs → b ≤ length indices → (s : ℕ) → s < mostStates
+  pub ahead-is : {end b : ℕ} {costs : List ℕ} → CostsFrom sections starts indices received erased end b costs → b ≤ length indices → (s : ℕ) → s < mostStates
       → aheadOf costs (length indices) end b s ≡ leastAhead end (length indices - b) b s
   unfolding leastFrom aheadOf chainLeast least
   ahead-is {end} {b} {costs} D h s k = go (decLt b (length indices))
     where
       go : Dec (b < length indices) → aheadOf costs (length indices) end b s ≡ leastAhead end (length indices - b) b s
-      go (yes l) = ap (λ c. cond c (getD costs (costsABlock * b + s) 0) (cond (eqb s end) 0 top)) (lt-ltb b (length indices) l) ∙ D .at b s (omega arith) l k
+      go (yes l) = ap (λ c. cond c (getD costs (costsABlock * b + s) 0) (cond (eqb s end) 0 unreached)) (lt-ltb b (length indices) l) ∙ D .at b s (omega arith) l k
       go (no l) =
           let e : length indices - b ≡ 0 = omega arith in
-          ap (λ c. cond c (getD costs (costsABlock * b + s) 0) (cond (eqb s end) 0 top)) (le-ltb b (length indices) (omega arith))
+          ap (λ c. cond c (getD costs (costsABlock * b + s) 0) (cond (eqb s end) 0 unreached)) (le-ltb b (length indices) (omega arith))
           ∙ sym (ap (λ j. leastAhead end j b s) e)
 
-  pub behind-is : {end b : ℕ} {costs : List ℕ} → Table sections starts indices received erased end (suc b) costs → b < length indices
+  pub behind-is : {end b : ℕ} {costs : List ℕ} → CostsFrom sections starts indices received erased end (suc b) costs → b < length indices
       → Behind (part b) costs (length indices) end (suc b) (leastAhead end (length indices - suc b) (suc b))
   behind-is {end} {b} D h g k = ahead-is D h (goalState (part b) g) (R .good b h .goalsBelow g k)
 
@@ -133,7 +133,7 @@ module _ {sections starts indices received erased : List ℕ} (R : Ready section
   -- a root's rank has, below its distance, the label and the goal of the first word of least distance
   pick-root : {end b v s pick : ℕ} → b < length indices → v < vertexCountOf (part b) 0 → rootState (part b) v ≡ s
       → pick ≡ rankFrom (part b) (getD received b 0) (getD erased b 0) (leastAhead end (length indices - suc b) (suc b)) v % 4294967296
-      → leastAhead end (suc (length indices - suc b)) b s < top → Pick sections starts indices received erased end b s pick
+      → leastAhead end (suc (length indices - suc b)) b s < unreached → Pick sections starts indices received erased end b s pick
   unfolding pathFrom wordOf
   pick-root {end} {b} {v} {s} {pick} h y e p o = record {
     goalBelow = subst (λ x. x < mostStates) (sym goal-is) (K .goal-lt);
@@ -145,20 +145,20 @@ module _ {sections starts indices received erased : List ℕ} (R : Ready section
       left = omega arith
 
       onward : ℕ → ℕ → ℕ → List Word
-      onward j c u = chainTrace (wordsOf sections starts indices received erased) (endsIn end) (distanceOf sections starts indices received erased) top j c u
+      onward j c u = chainTrace (wordsOfBlock sections starts indices received erased) (endsIn end) (distanceOf sections starts indices received erased) unreached j c u
 
       q : Path
-      q = sectionTrace (stepEdges (part b)) (prices b) top (λ g. leastAhead end (length indices - suc b) (suc b) (goalState (part b) g)) (nOf (part b)) 0 v
+      q = sectionTrace (stepEdges (part b)) (prices b) unreached (λ g. leastAhead end (length indices - suc b) (suc b) (goalState (part b) g)) (nOf (part b)) 0 v
 
-      here : leastAhead end (suc (length indices - suc b)) b (rootState (part b) v) < top
-      here = subst (λ x. leastAhead end (suc (length indices - suc b)) b x < top) (sym e) o
+      here : leastAhead end (suc (length indices - suc b)) b (rootState (part b) v) < unreached
+      here = subst (λ x. leastAhead end (suc (length indices - suc b)) b x < unreached) (sym e) o
 
       K : Reads (rankFrom (part b) (getD received b 0) (getD erased b 0) (leastAhead end (length indices - suc b) (suc b)) v)
-          (sectionLeast (stepEdges (part b)) (prices b) top (λ g. leastAhead end (length indices - suc b) (suc b) (goalState (part b) g)) (nOf (part b)) 0 v)
+          (sectionLeast (stepEdges (part b)) (prices b) unreached (λ g. leastAhead end (length indices - suc b) (suc b) (goalState (part b) g)) (nOf (part b)) 0 v)
           (packOnto 0 (q .symbols)) (goalState (part b) (q .end))
       K =
           ranked-path (uses b h) (rankable b h) (leastAhead end (length indices - suc b) (suc b)) (least-top end (length indices - suc b) (suc b)) v (root-listed b v y)
-          (subst (λ x. x < top) (least-root (uses b h) (endsIn end) top (length indices - suc b) v (root-listed b v y)) here)
+          (subst (λ x. x < unreached) (least-root (uses b h) (endsIn end) unreached (length indices - suc b) v (root-listed b v y)) here)
 
       goal-is : pick % 65536 ≡ goalState (part b) (q .end)
       goal-is = ap (λ x. x % 65536) p ∙ K .goal-is
@@ -174,7 +174,7 @@ module _ {sections starts indices received erased : List ℕ} (R : Ready section
       traced =
           subst (λ x. onward (suc (length indices - suc b)) b x ≡ word (rootState (part b) v) (packOnto 0 (q .symbols)) (goalState (part b) (q .end))
           ∷ onward (length indices - suc b) (suc b) (goalState (part b) (q .end))) e
-          (trace-root (uses b h) (endsIn end) top (length indices - suc b) v (root-listed b v y) here)
+          (trace-root (uses b h) (endsIn end) unreached (length indices - suc b) v (root-listed b v y) here)
 
   -- block b, from the table behind it
   fill-block : {end b i : ℕ} {old mid new midPicks picks : List ℕ} → Filled sections starts indices received erased end (suc b) old mid midPicks → BlockAt b i
@@ -203,7 +203,7 @@ module _ {sections starts indices received erased : List ℕ} (R : Ready section
           subst (λ x. getD new (costsABlock * b + x) 0 ≡ leastAhead end (suc left) b x) e
           (D .root (leastAhead end left (suc b)) (behind-is (I .table) inside) v y
           ∙ ranked-cost (uses b inside) (rankable b inside) (leastAhead end left (suc b)) (least-top end left (suc b)) v
-          ∙ sym (least-root (uses b inside) (endsIn end) top left v (root-listed b v y)))
+          ∙ sym (least-root (uses b inside) (endsIn end) unreached left v (root-listed b v y)))
 
       here : (s : ℕ) → s < mostStates → getD new (costsABlock * b + s) 0 ≡ leastAhead end (suc left) b s
       here s k = go (root-at (part b) s) (decLt (rootOf (part b) s) (vertexCountOf (part b) 0))
@@ -213,7 +213,7 @@ module _ {sections starts indices received erased : List ℕ} (R : Ready section
           go F (yes y) = at-root s (rootOf (part b) s) y (F .is y)
           go F (no y) =
               D .none s k (F .none (omega arith))
-              ∙ sym (least-else (uses b inside) (endsIn end) top left s (none-listed b s (F .none (omega arith))))
+              ∙ sym (least-else (uses b inside) (endsIn end) unreached left s (none-listed b s (F .none (omega arith))))
 
       at : (d s : ℕ) → b ≤ d → d < length indices → s < mostStates → getD new (costsABlock * d + s) 0 ≡ leastAhead end (length indices - d) d s
       at d s a f k = go (ℕ-discrete d b)
@@ -227,7 +227,7 @@ module _ {sections starts indices received erased : List ℕ} (R : Ready section
       kept : (i : ℕ) → costsABlock * length indices ≤ i → getD new i 0 ≡ getD old i 0
       kept i f = D .kept i (inr (omega (arith, inside))) ∙ I .kept i f
 
-      pick-here : (s : ℕ) → leastAhead end (suc left) b s < top → Pick sections starts indices received erased end b s (getD picks (costsABlock * b + s) 0)
+      pick-here : (s : ℕ) → leastAhead end (suc left) b s < unreached → Pick sections starts indices received erased end b s (getD picks (costsABlock * b + s) 0)
       pick-here s o = go (root-at (part b) s) (decLt (rootOf (part b) s) (vertexCountOf (part b) 0))
         where
           go : RootAt (part b) s (rootOf (part b) s) → Dec (rootOf (part b) s < vertexCountOf (part b) 0)
@@ -236,10 +236,10 @@ module _ {sections starts indices received erased : List ℕ} (R : Ready section
               pick-root inside y (F .is y)
               (ap (λ x. getD picks (costsABlock * b + x) 0) (sym (F .is y)) ∙ D .pick (leastAhead end left (suc b)) (behind-is (I .table) inside) (rootOf (part b) s) y) o
           go F (no y) =
-              let e = least-else (uses b inside) (endsIn end) top left s (none-listed b s (F .none (omega arith))) in
+              let e = least-else (uses b inside) (endsIn end) unreached left s (none-listed b s (F .none (omega arith))) in
               absurd (omega arith)
 
-      pick-at : (d s : ℕ) → b ≤ d → d < length indices → s < mostStates → leastAhead end (length indices - d) d s < top
+      pick-at : (d s : ℕ) → b ≤ d → d < length indices → s < mostStates → leastAhead end (length indices - d) d s < unreached
           → Pick sections starts indices received erased end d s (getD picks (costsABlock * d + s) 0)
       pick-at d s a f k o = go (ℕ-discrete d b)
         where
@@ -247,7 +247,7 @@ module _ {sections starts indices received erased : List ℕ} (R : Ready section
           go (yes e) =
               let j : length indices - d ≡ suc (length indices - suc b) = omega arith in
               subst (λ x. Pick sections starts indices received erased end x s (getD picks (costsABlock * x + s) 0)) (sym e)
-              (pick-here s (subst (λ n. leastAhead end n b s < top) j (subst (λ x. leastAhead end (length indices - d) x s < top) e o)))
+              (pick-here s (subst (λ n. leastAhead end n b s < unreached) j (subst (λ x. leastAhead end (length indices - d) x s < unreached) e o)))
           go (no e) =
               subst (Pick sections starts indices received erased end d s) (sym (D .keptPick (costsABlock * d + s) (inr (omega arith))))
               (I .picked .at d s (omega arith) f k o)

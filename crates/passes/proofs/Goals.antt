@@ -16,33 +16,33 @@ use Rattle.paths.specs.inner.Sections.{sectionLeast}
 use Rattle.paths.proofs.Sections.{least-last}
 use Rattle.paths.specs.inner.Ranked.{ranked, topRank, rankedRest}
 use Rattle.sweep.specs.inner.Rows.{Placed, Rows, Swept}
-use Rattle.passes.specs.inner.Blocks.{top, Good, aheadOf}
-use Rattle.passes.specs.inner.Loops.{Behind, InGoals, RowsOver}
+use Rattle.passes.specs.inner.Blocks.{unreached, Decodable, aheadOf}
+use Rattle.passes.specs.inner.Loops.{Behind, GoalsRanked, RowsOver}
 
 -- ---- what is left to pay
 
 module _ (costs : List ℕ) (blocks end b s : ℕ) where
   pub ahead-in : b < blocks → getD costs (costsABlock * b + s) 0 ≡ aheadOf costs blocks end b s
   unfolding aheadOf
-  ahead-in h = sym (ap (λ c. cond c (getD costs (costsABlock * b + s) 0) (cond (eqb s end) 0 top)) (lt-ltb b blocks h))
+  ahead-in h = sym (ap (λ c. cond c (getD costs (costsABlock * b + s) 0) (cond (eqb s end) 0 unreached)) (lt-ltb b blocks h))
 
   pub ahead-end : blocks ≤ b → s ≡ end → 0 ≡ aheadOf costs blocks end b s
   unfolding aheadOf
-  ahead-end h e = sym (ap (λ c. cond c (getD costs (costsABlock * b + s) 0) (cond (eqb s end) 0 top)) (le-ltb b blocks h) ∙ ap (λ c. cond c 0 top) (eq-eqb s end e))
+  ahead-end h e = sym (ap (λ c. cond c (getD costs (costsABlock * b + s) 0) (cond (eqb s end) 0 unreached)) (le-ltb b blocks h) ∙ ap (λ c. cond c 0 unreached) (eq-eqb s end e))
 
-  pub ahead-off : blocks ≤ b → (s ≡ end → ⊥) → top ≡ aheadOf costs blocks end b s
+  pub ahead-off : blocks ≤ b → (s ≡ end → ⊥) → unreached ≡ aheadOf costs blocks end b s
   unfolding aheadOf
-  ahead-off h e = sym (ap (λ c. cond c (getD costs (costsABlock * b + s) 0) (cond (eqb s end) 0 top)) (le-ltb b blocks h) ∙ ap (λ c. cond c 0 top) (ne-eqb s end e))
+  ahead-off h e = sym (ap (λ c. cond c (getD costs (costsABlock * b + s) 0) (cond (eqb s end) 0 unreached)) (le-ltb b blocks h) ∙ ap (λ c. cond c 0 unreached) (ne-eqb s end e))
 
 -- ranked by the state
 module _ (rest : ℕ → ℕ) (s : ℕ) {cost : ℕ} (is : cost ≡ rest s) where
-  pub rank-in : cost < top → cost * 4294967296 + s ≡ rankedRest rest s
+  pub rank-in : cost < unreached → cost * 4294967296 + s ≡ rankedRest rest s
   unfolding rankedRest ranked
-  rank-in h = ap (λ c. c * 4294967296 + s) is ∙ sym (ap (λ b. cond b (rest s * 4294967296 + (0 * 65536 + s)) topRank) (lt-ltb (rest s) top (omega arith)) ∙ omega arith)
+  rank-in h = ap (λ c. c * 4294967296 + s) is ∙ sym (ap (λ b. cond b (rest s * 4294967296 + (0 * 65536 + s)) topRank) (lt-ltb (rest s) unreached (omega arith)) ∙ omega arith)
 
-  pub rank-none : top ≤ cost → topRank ≡ rankedRest rest s
+  pub rank-none : unreached ≤ cost → topRank ≡ rankedRest rest s
   unfolding rankedRest
-  rank-none h = sym (ap (λ b. cond b (ranked (rest s) 0 s) topRank) (le-ltb (rest s) top (omega arith)))
+  rank-none h = sym (ap (λ b. cond b (ranked (rest s) 0 s) topRank) (le-ltb (rest s) unreached (omega arith)))
 
 -- ---- goals as they are read
 
@@ -55,7 +55,7 @@ pub record GoalAt (l : List ℕ) (goals g : ℕ) : Type 0 where
   pub small : getD l (goals + g) 0 < mostStates
   pub place : mostWords * nOf l + g < 9216
 
-pub goal-at : {l : List ℕ} {n roots goals pairs symbols edges g : ℕ} → Good l → Placed l n roots goals pairs symbols edges → g < vertexCountOf l (nOf l)
+pub goal-at : {l : List ℕ} {n roots goals pairs symbols edges g : ℕ} → Decodable l → Placed l n roots goals pairs symbols edges → g < vertexCountOf l (nOf l)
     → GoalAt l goals g
 unfolding goalState
 goal-at {l} {goals = goals} {g = g} G P h =
@@ -73,7 +73,7 @@ goal-at {l} {goals = goals} {g = g} G P h =
     }
 
 -- a goal below their number, as the number is read
-pub goal-read : {l : List ℕ} {n roots goals pairs symbols edges count g : ℕ} → Good l → Placed l n roots goals pairs symbols edges
+pub goal-read : {l : List ℕ} {n roots goals pairs symbols edges count g : ℕ} → Decodable l → Placed l n roots goals pairs symbols edges
     → count ≡ getD l (3 + n) 0 → g < count → GoalAt l goals g
 unfolding vertexCountOf
 goal-read {l} {count = count} G P c h =
@@ -82,11 +82,11 @@ goal-read {l} {count = count} G P c h =
 
 -- ---- row n
 
-pub goals-start : {l costs rows : List ℕ} {blocks end b : ℕ} → length rows ≡ 9216 → InGoals l costs blocks end b rows 0
+pub goals-start : {l costs rows : List ℕ} {blocks end b : ℕ} → length rows ≡ 9216 → GoalsRanked l costs blocks end b rows 0
 goals-start h = record { g-le = omega arith; long = h; at = λ u k. absurd (not-suc-le-zero k) }
 
-pub goals-more : {l costs rows : List ℕ} {blocks end b n goals g s x : ℕ} → Good l → n ≡ nOf l → InGoals l costs blocks end b rows g → GoalAt l goals g
-    → s ≡ getD l (goals + g) 0 → x ≡ rankedRest (aheadOf costs blocks end b) s → InGoals l costs blocks end b (set rows (mostWords * n + g) x) (g + 1)
+pub goals-more : {l costs rows : List ℕ} {blocks end b n goals g s x : ℕ} → Decodable l → n ≡ nOf l → GoalsRanked l costs blocks end b rows g → GoalAt l goals g
+    → s ≡ getD l (goals + g) 0 → x ≡ rankedRest (aheadOf costs blocks end b) s → GoalsRanked l costs blocks end b (set rows (mostWords * n + g) x) (g + 1)
 goals-more {l} {costs} {rows} {blocks} {end} {b} {n} {goals} {g} {s} {x} G e I R p q =
     record { g-le = omega (arith, R .below); long = simp length-set (I .long); at = at }
   where
@@ -103,17 +103,17 @@ goals-more {l} {costs} {rows} {blocks} {end} {b} {n} {goals} {g} {s} {x} G e I R
             ∙ ap (rankedRest (aheadOf costs blocks end b)) (p ∙ R .is ∙ ap (goalState l) (sym z))
         go (no z) = getD-set-other rows (mostWords * n + g) (mostWords * nOf l + h) x 0 (λ w. z (omega arith)) ∙ I .at h (omega arith)
 
-pub goals-end : {l costs rows : List ℕ} {blocks end b n count g : ℕ} → InGoals l costs blocks end b rows g → n ≡ nOf l → count ≡ getD l (3 + n) 0 → count ≤ g
-    → InGoals l costs blocks end b rows (vertexCountOf l (nOf l))
+pub goals-end : {l costs rows : List ℕ} {blocks end b n count g : ℕ} → GoalsRanked l costs blocks end b rows g → n ≡ nOf l → count ≡ getD l (3 + n) 0 → count ≤ g
+    → GoalsRanked l costs blocks end b rows (vertexCountOf l (nOf l))
 unfolding vertexCountOf
 goals-end {l} {costs} {rows} {blocks} {end} {b} {n} {count} {g} I e c h =
     let a : count ≡ getD l (3 + nOf l) 0 = c ∙ ap (λ k. getD l (3 + k) 0) e in
     let z : g ≡ getD l (3 + nOf l) 0 = le-antisymm (I .g-le) (omega arith) in
-    subst (InGoals l costs blocks end b rows) z I
+    subst (GoalsRanked l costs blocks end b rows) z I
 
 -- ---- all rows
 
-pub rows-over : {l prices costs mid new : List ℕ} {blocks end b : ℕ} → InGoals l costs blocks end b mid (vertexCountOf l (nOf l)) → Swept l prices mid new
+pub rows-over : {l prices costs mid new : List ℕ} {blocks end b : ℕ} → GoalsRanked l costs blocks end b mid (vertexCountOf l (nOf l)) → Swept l prices mid new
     → RowsOver l prices costs blocks end b new
 unfolding rankedRest
 rows-over {l} {prices} {costs} {mid} {new} {blocks} {end} {b} I S =
@@ -122,7 +122,7 @@ rows-over {l} {prices} {costs} {mid} {new} {blocks} {end} {b} I S =
     -- what is behind a goal is ranked alike
     alike : (rest : ℕ → ℕ) → Behind l costs blocks end b rest → (g : ℕ) → g < vertexCountOf l (nOf l)
         → rankedRest (aheadOf costs blocks end b) (goalState l g) ≡ rankedRest rest (goalState l g)
-    alike rest B g h = ap (λ x. cond (ltb x top) (ranked x 0 (goalState l g)) topRank) (B g h)
+    alike rest B g h = ap (λ x. cond (ltb x unreached) (ranked x 0 (goalState l g)) topRank) (B g h)
 
     last : (cost : ℕ → ℕ → ℕ) (rest : ℕ → ℕ) → Behind l costs blocks end b rest → Rows l cost (λ g. rankedRest rest (goalState l g)) (nOf l) mid
     last cost rest B = record { at = at }

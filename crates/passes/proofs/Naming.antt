@@ -16,7 +16,7 @@ use Rattle.trellis.specs.Word.{Word, word, wordAt}
 use Rattle.trellis.specs.Layout.{nOf}
 use Rattle.paths.specs.inner.Costs.{least}
 use Rattle.paths.specs.Chain.{chainLeast}
-use Rattle.passes.specs.inner.Blocks.{top, sectionOf, leastFrom, pathFrom, Ready, Pick, Picked, Written}
+use Rattle.passes.specs.inner.Blocks.{unreached, sectionOfBlock, leastFrom, pathFrom, Ready, Pick, Picked, Written}
 use Rattle.passes.specs.inner.Loops.{InWords, Named}
 use Rattle.block.specs.Received.{blockDistance}
 use Rattle.passes.proofs.Chains.{leastAhead, partAt, BlockAt}
@@ -26,7 +26,7 @@ module _ {sections starts indices received erased : List ℕ} (R : Ready section
   abbrev whole : ℕ → ℕ → List Word
   whole end start = pathFrom sections starts indices received erased end 0 start
 
-  pub words-start : {end start : ℕ} {labels goals : List ℕ} → start < mostStates → leastFrom sections starts indices received erased end 0 start < top
+  pub words-start : {end start : ℕ} {labels goals : List ℕ} → start < mostStates → leastFrom sections starts indices received erased end 0 start < unreached
       → InWords sections starts indices received erased end start labels labels goals goals 0 start 0
   words-start h k = record {
     written = record {
@@ -87,10 +87,10 @@ module _ {sections starts indices received erased : List ℕ} (R : Ready section
       drop-is : leastFrom sections starts indices received erased end b s ≡ distance + leastFrom sections starts indices received erased end (suc b) goal
       drop-is =
           let c = pick-drop R h (I .onward) K in
-          let m : n ≡ nOf (sectionOf sections starts indices received erased b) = n-is ∙ ap (λ q. getD q 1 0) (A .part-is) in
-          let u : distance ≡ blockDistance (nOf (sectionOf sections starts indices received erased b)) (getD received b 0) (getD erased b 0) (getD picks (costsABlock * b + s) 0 / 65536)
+          let m : n ≡ nOf (sectionOfBlock sections starts indices received erased b) = n-is ∙ ap (λ q. getD q 1 0) (A .part-is) in
+          let u : distance ≡ blockDistance (nOf (sectionOfBlock sections starts indices received erased b)) (getD received b 0) (getD erased b 0) (getD picks (costsABlock * b + s) 0 / 65536)
           = d .0 ∙ ap (λ k. blockDistance k (getD received b 0) (getD erased b 0) label) m
-          ∙ ap (blockDistance (nOf (sectionOf sections starts indices received erased b)) (getD received b 0) (getD erased b 0)) label-is in
+          ∙ ap (blockDistance (nOf (sectionOfBlock sections starts indices received erased b)) (getD received b 0) (getD erased b 0)) label-is in
           let w : leastFrom sections starts indices received erased end (suc b) goal ≡ leastFrom sections starts indices received erased end (suc b) (getD picks (costsABlock * b + s) 0 % 65536)
           = ap (leastFrom sections starts indices received erased end (suc b)) goal-is in
           omega arith
@@ -129,11 +129,11 @@ module _ {sections starts indices received erased : List ℕ} (R : Ready section
   words-end {end} {start} {b} {s} {total} {labels} {newLabels} {goals} {newGoals} I h =
       let e : b ≡ length indices = omega (arith, I .written .b-le) in
       let a : length indices - b ≡ 0 = omega arith in
-      let l : leastAhead R end (length indices - b) b s ≡ cond (eqb s end) 0 top = ap (λ j. leastAhead R end j b s) a in
-      let z : cond (eqb s end) 0 top ≡ 0 = nothing (eqb s end) (omega (arith, I .onward)) in
+      let l : leastAhead R end (length indices - b) b s ≡ cond (eqb s end) 0 unreached = ap (λ j. leastAhead R end j b s) a in
+      let z : cond (eqb s end) 0 unreached ≡ 0 = nothing (eqb s end) (omega (arith, I .onward)) in
       record { written = subst (λ x. Written sections starts indices received erased end start x labels newLabels goals newGoals) e (I .written); totalIs = omega (arith, I .sum) }
     where
-      nothing : (c : Bool) → cond c 0 top < top → cond c 0 top ≡ 0
+      nothing : (c : Bool) → cond c 0 unreached < unreached → cond c 0 unreached ≡ 0
       nothing true k = refl
       nothing false k = absurd (omega arith)
 

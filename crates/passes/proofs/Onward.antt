@@ -12,24 +12,24 @@ use Rattle.paths.specs.Chain.{costTable, chainTrace}
 use Rattle.paths.proofs.Chain.{cost-table, best-traced, drops}
 use Rattle.block.specs.Received.{blockDistance}
 use Rattle.block.specs.inner.Prices.{Clean}
-use Rattle.passes.specs.inner.Blocks.{top, endsIn, sectionOf, wordsOf, distanceOf, leastFrom, pathFrom, Ready, Pick}
+use Rattle.passes.specs.inner.Blocks.{unreached, endsIn, sectionOfBlock, wordsOfBlock, distanceOf, leastFrom, pathFrom, Ready, Pick}
 use Rattle.passes.proofs.Chains.{leastAhead, partAt, BlockAt}
 
 module _ {sections starts indices received erased : List ℕ} (R : Ready sections starts indices received erased) where
   abbrev part : ℕ → List ℕ
-  part b = sectionOf sections starts indices received erased b
+  part b = sectionOfBlock sections starts indices received erased b
 
   abbrev W : ℕ → List Word
-  W = wordsOf sections starts indices received erased
+  W = wordsOfBlock sections starts indices received erased
 
   abbrev D : ℕ → Word → ℕ
   D = distanceOf sections starts indices received erased
 
   abbrev onwardPath : ℕ → ℕ → ℕ → ℕ → List Word
-  onwardPath end k b s = chainTrace W (endsIn end) D top k b s
+  onwardPath end k b s = chainTrace W (endsIn end) D unreached k b s
 
   -- what the table drops by
-  pub pick-drop : {end b s pick : ℕ} → b < length indices → leastFrom sections starts indices received erased end b s < top
+  pub pick-drop : {end b s pick : ℕ} → b < length indices → leastFrom sections starts indices received erased end b s < unreached
       → Pick sections starts indices received erased end b s pick
       → leastFrom sections starts indices received erased end b s
       ≡ blockDistance (nOf (part b)) (getD received b 0) (getD erased b 0) (pick / 65536) + leastFrom sections starts indices received erased end (suc b) (pick % 65536)
@@ -40,11 +40,11 @@ module _ {sections starts indices received erased : List ℕ} (R : Ready section
       let z : leastAhead R end (length indices - b) b s ≡ leastAhead R end (suc k) b s = ap (λ j. leastAhead R end j b s) left in
       let traced : onwardPath end (suc k) b s ≡ word s (pick / 65536) (pick % 65536) ∷ onwardPath end k (suc b) (pick % 65536)
       = ap (λ j. onwardPath end j b s) (sym left) ∙ P .path in
-      let a = cost-table W (endsIn end) D top (suc k) b s in
-      let l : costTable W (endsIn end) D top (suc k) b s < top = omega arith in
-      let q = best-traced W (endsIn end) D top (suc k) b s l ∙ ap (some (costTable W (endsIn end) D top (suc k) b s)) traced in
-      let X = drops W (endsIn end) D top k b s q l in
-      let c = cost-table W (endsIn end) D top k (suc b) (pick % 65536) in
+      let a = cost-table W (endsIn end) D unreached (suc k) b s in
+      let l : costTable W (endsIn end) D unreached (suc k) b s < unreached = omega arith in
+      let q = best-traced W (endsIn end) D unreached (suc k) b s l ∙ ap (some (costTable W (endsIn end) D unreached (suc k) b s)) traced in
+      let X = drops W (endsIn end) D unreached k b s q l in
+      let c = cost-table W (endsIn end) D unreached k (suc b) (pick % 65536) in
       let x = X .drop in
       omega arith
 

@@ -16,30 +16,30 @@ use Rattle.paths.specs.inner.Ranked.{topRank, rankedCost, rankedRest}
 use Rattle.sweep.specs.inner.Rows.{Placed, Priced}
 use Rattle.block.specs.Received.{symbolCost}
 use Rattle.block.specs.inner.Prices.{Prices}
-use Rattle.passes.specs.inner.Blocks.{top, Good}
-use Rattle.passes.specs.inner.Loops.{Behind, RowsOver, InNone, InRoots, rankFrom, BlockTable}
+use Rattle.passes.specs.inner.Blocks.{unreached, Decodable}
+use Rattle.passes.specs.inner.Loops.{Behind, RowsOver, NoneSoFar, RootsPut, rankFrom, BlockTable}
 
 -- ---- no path
 
-pub none-start : {b : ℕ} {costs : List ℕ} → InNone b costs costs 0
+pub none-start : {b : ℕ} {costs : List ℕ} → NoneSoFar b costs costs 0
 none-start = record { s-le = omega arith; long = refl; none = λ u h. absurd (not-suc-le-zero h); kept = λ i h. refl }
 
-pub none-more : {b s : ℕ} {old new : List ℕ} → InNone b old new s → s < mostStates → costsABlock * b + costsABlock ≤ length old → InNone b old (set new (costsABlock * b + s) top) (s + 1)
+pub none-more : {b s : ℕ} {old new : List ℕ} → NoneSoFar b old new s → s < mostStates → costsABlock * b + costsABlock ≤ length old → NoneSoFar b old (set new (costsABlock * b + s) unreached) (s + 1)
 none-more {b} {s} {old} {new} I h room = record { s-le = omega arith; long = simp length-set (I .long); none = none; kept = kept }
   where
-    none : (u : ℕ) → u < s + 1 → getD (set new (costsABlock * b + s) top) (costsABlock * b + u) 0 ≡ top
+    none : (u : ℕ) → u < s + 1 → getD (set new (costsABlock * b + s) unreached) (costsABlock * b + u) 0 ≡ unreached
     none u k = go (ℕ-discrete u s)
       where
-        go : Dec (u ≡ s) → getD (set new (costsABlock * b + s) top) (costsABlock * b + u) 0 ≡ top
-        go (yes e) = subst (λ w. getD (set new (costsABlock * b + s) top) (costsABlock * b + w) 0 ≡ top) (sym e) (getD-set-same new (costsABlock * b + s) top 0 (omega (arith, I .long)))
-        go (no e) = getD-set-other new (costsABlock * b + s) (costsABlock * b + u) top 0 (λ z. e (omega arith)) ∙ I .none u (omega arith)
+        go : Dec (u ≡ s) → getD (set new (costsABlock * b + s) unreached) (costsABlock * b + u) 0 ≡ unreached
+        go (yes e) = subst (λ w. getD (set new (costsABlock * b + s) unreached) (costsABlock * b + w) 0 ≡ unreached) (sym e) (getD-set-same new (costsABlock * b + s) unreached 0 (omega (arith, I .long)))
+        go (no e) = getD-set-other new (costsABlock * b + s) (costsABlock * b + u) unreached 0 (λ z. e (omega arith)) ∙ I .none u (omega arith)
 
-    kept : (i : ℕ) → (i < costsABlock * b) ⊎ (costsABlock * b + costsABlock ≤ i) → getD (set new (costsABlock * b + s) top) i 0 ≡ getD old i 0
-    kept i (inl k) = getD-set-other new (costsABlock * b + s) i top 0 (λ z. absurd (omega arith)) ∙ I .kept i (inl k)
-    kept i (inr k) = getD-set-other new (costsABlock * b + s) i top 0 (λ z. absurd (omega arith)) ∙ I .kept i (inr k)
+    kept : (i : ℕ) → (i < costsABlock * b) ⊎ (costsABlock * b + costsABlock ≤ i) → getD (set new (costsABlock * b + s) unreached) i 0 ≡ getD old i 0
+    kept i (inl k) = getD-set-other new (costsABlock * b + s) i unreached 0 (λ z. absurd (omega arith)) ∙ I .kept i (inl k)
+    kept i (inr k) = getD-set-other new (costsABlock * b + s) i unreached 0 (λ z. absurd (omega arith)) ∙ I .kept i (inr k)
 
-pub none-end : {b s : ℕ} {old new : List ℕ} → InNone b old new s → mostStates ≤ s → InNone b old new mostStates
-none-end {b} {s} {old} {new} I h = let e : s ≡ mostStates = le-antisymm (I .s-le) h in subst (InNone b old new) e I
+pub none-end : {b s : ℕ} {old new : List ℕ} → NoneSoFar b old new s → mostStates ≤ s → NoneSoFar b old new mostStates
+none-end {b} {s} {old} {new} I h = let e : s ≡ mostStates = le-antisymm (I .s-le) h in subst (NoneSoFar b old new) e I
 
 -- ---- roots
 
@@ -52,7 +52,7 @@ pub record RootIn (l : List ℕ) (roots v : ℕ) : Type 0 where
   pub small : getD l (roots + v) 0 < mostStates
 
 -- a root below their number, as the number is read
-pub root-read : {l : List ℕ} {n roots goals pairs symbols edges count v : ℕ} → Good l → Placed l n roots goals pairs symbols edges
+pub root-read : {l : List ℕ} {n roots goals pairs symbols edges count v : ℕ} → Decodable l → Placed l n roots goals pairs symbols edges
     → count ≡ getD l 3 0 → v < count → RootIn l roots v
 unfolding vertexCountOf rootState
 root-read {l} {roots = roots} {v = v} G P c h =
@@ -63,7 +63,7 @@ root-read {l} {roots = roots} {v = v} G P c h =
     let e = G .fits .rootsIn in
     record { below = b; v-lt = omega arith; inside = omega (arith, P .rootsIs); is = i; small = omega arith }
 
-pub roots-start : {l rows costs picks : List ℕ} {b : ℕ} → InRoots l rows b costs costs picks picks 0
+pub roots-start : {l rows costs picks : List ℕ} {b : ℕ} → RootsPut l rows b costs costs picks picks 0
 roots-start = record {
   v-le = omega arith;
   long = refl;
@@ -75,7 +75,7 @@ roots-start = record {
 }
 
 -- one more place written by a root's state: the roots passed keep theirs, since no two roots are in one state
-module _ {l : List ℕ} (b : ℕ) {v s x : ℕ} (G : Good l) (is : s ≡ rootState l v) (below : v < vertexCountOf l 0) (f : ℕ → ℕ) (x-is : x ≡ f v) where
+module _ {l : List ℕ} (b : ℕ) {v s x : ℕ} (G : Decodable l) (is : s ≡ rootState l v) (below : v < vertexCountOf l 0) (f : ℕ → ℕ) (x-is : x ≡ f v) where
   written : (new : List ℕ) → costsABlock * b + s < length new → ((u : ℕ) → u < v → getD new (costsABlock * b + rootState l u) 0 ≡ f u)
       → (u : ℕ) → u < v + 1 → getD (set new (costsABlock * b + s) x) (costsABlock * b + rootState l u) 0 ≡ f u
   written new room before u k = go (ℕ-discrete u v)
@@ -93,9 +93,9 @@ module _ {l : List ℕ} (b : ℕ) {v s x : ℕ} (G : Good l) (is : s ≡ rootSta
   elsewhere old new before i h =
       getD-set-other new (costsABlock * b + s) i x 0 (λ z. h v (omega arith) (sym (z ∙ ap (λ w. costsABlock * b + w) is))) ∙ before i (λ u k. h u (omega arith))
 
-pub roots-more : {l rows old new oldPicks picks : List ℕ} {roots b v s rank x y : ℕ} → Good l → InRoots l rows b old new oldPicks picks v → RootIn l roots v
+pub roots-more : {l rows old new oldPicks picks : List ℕ} {roots b v s rank x y : ℕ} → Decodable l → RootsPut l rows b old new oldPicks picks v → RootIn l roots v
     → s ≡ getD l (roots + v) 0 → rank ≡ getD rows v 0 → x ≡ rank / 4294967296 → y ≡ rank % 4294967296 → costsABlock * b + costsABlock ≤ length old → costsABlock * b + costsABlock ≤ length oldPicks
-    → InRoots l rows b old (set new (costsABlock * b + s) x) oldPicks (set picks (costsABlock * b + s) y) (v + 1)
+    → RootsPut l rows b old (set new (costsABlock * b + s) x) oldPicks (set picks (costsABlock * b + s) y) (v + 1)
 roots-more {l} {rows} {old} {new} {oldPicks} {picks} {b = b} {v} {s} {rank} {x} {y} G I R p r x-is y-is room roomPicks = record {
   v-le = omega (arith, R .below);
   long = simp length-set (I .long);
@@ -109,12 +109,12 @@ roots-more {l} {rows} {old} {new} {oldPicks} {picks} {b = b} {v} {s} {rank} {x} 
     is : s ≡ rootState l v
     is = p ∙ R .is
 
-pub roots-end : {l rows old new oldPicks picks : List ℕ} {b v count : ℕ} → InRoots l rows b old new oldPicks picks v → count ≡ getD l 3 0 → count ≤ v
-    → InRoots l rows b old new oldPicks picks (vertexCountOf l 0)
+pub roots-end : {l rows old new oldPicks picks : List ℕ} {b v count : ℕ} → RootsPut l rows b old new oldPicks picks v → count ≡ getD l 3 0 → count ≤ v
+    → RootsPut l rows b old new oldPicks picks (vertexCountOf l 0)
 unfolding vertexCountOf
 roots-end {l} {rows} {old} {new} {oldPicks} {picks} {b} {v} I c h =
     let e : v ≡ getD l 3 0 = le-antisymm (I .v-le) (omega arith) in
-    subst (InRoots l rows b old new oldPicks picks) e I
+    subst (RootsPut l rows b old new oldPicks picks) e I
 
 -- ---- the block
 
@@ -125,8 +125,8 @@ priced-by {l} {prices} {n} {received} {mask} e P =
     → Priced l prices (rankedCost (nOf l) (symbolCost (nOf l) received mask))) (sym e)
     (λ f. record { at = f }) (λ t a h. P .at t a (omega arith))
 
-pub block-table : {l prices old mid new oldPicks picks rows : List ℕ} {n received mask blocks end b : ℕ} → Good l → n ≡ nOf l → Prices n received mask prices
-    → RowsOver l prices old blocks end (b + 1) rows → InNone b old mid mostStates → InRoots l rows b mid new oldPicks picks (vertexCountOf l 0)
+pub block-table : {l prices old mid new oldPicks picks rows : List ℕ} {n received mask blocks end b : ℕ} → Decodable l → n ≡ nOf l → Prices n received mask prices
+    → RowsOver l prices old blocks end (b + 1) rows → NoneSoFar b old mid mostStates → RootsPut l rows b mid new oldPicks picks (vertexCountOf l 0)
     → BlockTable l received mask blocks end b old new oldPicks picks
 block-table {l} {prices} {old} {mid} {new} {oldPicks} {picks} {rows} {n} {received} {mask} {blocks} {end} {b} G e P R N I = record {
   long = I .long ∙ N .long;

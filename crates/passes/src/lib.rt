@@ -7,12 +7,18 @@ ghost use Rattle.trellis.specs.Bounds.{mostStates, mostBlocks, costsABlock};
 ghost use Rattle.trellis.specs.Layout.{nOf, vertexCountOf};
 ghost use Rattle.paths.specs.inner.Ranked.{rankedRest};
 ghost use Rattle.sweep.specs.inner.Rows.{Placed};
-ghost use Rattle.passes.specs.inner.Blocks.{top, Good, Ready, Picked, Filled, aheadOf, leastFrom};
-ghost use Rattle.passes.specs.inner.Loops.{InGoals, RowsOver, InNone, InRoots, BlockTable, Named};
+ghost use Rattle.passes.specs.inner.Blocks.{unreached, Decodable, Ready, Picked, Filled, aheadOf, leastFrom};
+ghost use Rattle.passes.specs.inner.Loops.{GoalsRanked, RowsOver, NoneSoFar, RootsPut, BlockTable, Named};
 use numbers::wide;
 use numbers::widened;
 use sweep::Places;
 use sweep::TOP;
+use trellis::COSTS_A_BLOCK;
+use trellis::MOST_BLOCKS;
+use trellis::MOST_Q;
+use trellis::MOST_SECTIONS;
+use trellis::MOST_SYMBOLS;
+use trellis::MOST_WORDS;
 
 // No path, in a cost table.
 pub const NO_PATH: u32 = 4294967295;
@@ -23,7 +29,7 @@ fn ahead(costs: &[u32], blocks: usize, end: usize, b: usize, s: usize) -> u32
     ensures { λ r. ⌜ r ≡ aheadOf (now (costs .entry)) blocks end b s ⌝ }
 {
     if b < blocks {
-        return costs[64 * b + s];
+        return costs[COSTS_A_BLOCK * b + s];
     }
     if s == end { 0 } else { NO_PATH }
 }
@@ -48,11 +54,11 @@ fn put_goals(
     blocks: usize,
     end: usize,
     b: usize,
-    rows: &mut [u64; 9216],
+    rows: &mut [u64; (MOST_SYMBOLS + 1) * MOST_WORDS],
 )
-    requires { ⌜ Good (now l) × Placed (now l) (at .n) (at .roots) (at .goals) (at .pairs) (at .symbols) (at .edges)
+    requires { ⌜ Decodable (now l) × Placed (now l) (at .n) (at .roots) (at .goals) (at .pairs) (at .symbols) (at .edges)
         × (costsABlock * blocks ≤ length (now costs)) × (blocks ≤ mostBlocks) × (length (now rows) ≡ 9216) ⌝ }
-    ensures { λ _. ⌜ InGoals (now (l .entry)) (now (costs .entry)) blocks end b (now (rows .exit)) (vertexCountOf (now (l .entry)) (nOf (now (l .entry)))) ⌝ }
+    ensures { λ _. ⌜ GoalsRanked (now (l .entry)) (now (costs .entry)) blocks end b (now (rows .exit)) (vertexCountOf (now (l .entry)) (nOf (now (l .entry)))) ⌝ }
 {
     let n = at.n;
     let goals = at.goals;
@@ -60,7 +66,7 @@ fn put_goals(
     let mut g: usize = 0;
     while g < count {
         let s = wide(l[goals + g]);
-        rows[1024 * n + g] = ranked_ahead(costs, blocks, end, b, s);
+        rows[MOST_WORDS * n + g] = ranked_ahead(costs, blocks, end, b, s);
         g += 1;
     }
 }
@@ -68,14 +74,14 @@ fn put_goals(
 fn fill_rows(
     l: &[u16],
     at: Places,
-    prices: &[u64; 32],
+    prices: &[u64; MOST_Q * MOST_SYMBOLS],
     costs: &[u32],
     blocks: usize,
     end: usize,
     b: usize,
-    rows: &mut [u64; 9216],
+    rows: &mut [u64; (MOST_SYMBOLS + 1) * MOST_WORDS],
 )
-    requires { ⌜ Good (now l) × Placed (now l) (at .n) (at .roots) (at .goals) (at .pairs) (at .symbols) (at .edges)
+    requires { ⌜ Decodable (now l) × Placed (now l) (at .n) (at .roots) (at .goals) (at .pairs) (at .symbols) (at .edges)
         × (costsABlock * blocks ≤ length (now costs)) × (blocks ≤ mostBlocks) × (length (now rows) ≡ 9216) ⌝ }
     ensures { λ _. ⌜ RowsOver (now (l .entry)) (now (prices .entry)) (now (costs .entry)) blocks end b (now (rows .exit)) ⌝ }
 {
@@ -86,11 +92,11 @@ fn fill_rows(
 // No path so far from any state before block b.
 fn put_none(b: usize, costs: &mut [u32])
     requires { ⌜ (costsABlock * b + costsABlock ≤ length (now costs)) × (b ≤ mostBlocks) ⌝ }
-    ensures { λ _. ⌜ InNone b (now (costs .entry)) (now (costs .exit)) mostStates ⌝ }
+    ensures { λ _. ⌜ NoneSoFar b (now (costs .entry)) (now (costs .exit)) mostStates ⌝ }
 {
     let mut s: usize = 0;
-    while s < 64 {
-        costs[64 * b + s] = NO_PATH;
+    while s < COSTS_A_BLOCK {
+        costs[COSTS_A_BLOCK * b + s] = NO_PATH;
         s += 1;
     }
 }
@@ -111,14 +117,14 @@ fn low(rank: u64) -> u32
 fn put_roots(
     l: &[u16],
     at: Places,
-    rows: &[u64; 9216],
+    rows: &[u64; (MOST_SYMBOLS + 1) * MOST_WORDS],
     b: usize,
     costs: &mut [u32],
-    picks: &mut [u32; 16384],
+    picks: &mut [u32; COSTS_A_BLOCK * MOST_BLOCKS],
 )
-    requires { ⌜ Good (now l) × Placed (now l) (at .n) (at .roots) (at .goals) (at .pairs) (at .symbols) (at .edges)
+    requires { ⌜ Decodable (now l) × Placed (now l) (at .n) (at .roots) (at .goals) (at .pairs) (at .symbols) (at .edges)
         × (costsABlock * b + costsABlock ≤ length (now costs)) × (b < mostBlocks) × (length (now picks) ≡ (costsABlock * mostBlocks)) ⌝ }
-    ensures { λ _. ⌜ InRoots (now (l .entry)) (now (rows .entry)) b (now (costs .entry)) (now (costs .exit)) (now (picks .entry)) (now (picks .exit)) (vertexCountOf (now (l .entry)) 0) ⌝ }
+    ensures { λ _. ⌜ RootsPut (now (l .entry)) (now (rows .entry)) b (now (costs .entry)) (now (costs .exit)) (now (picks .entry)) (now (picks .exit)) (vertexCountOf (now (l .entry)) 0) ⌝ }
 {
     let roots = at.roots;
     let count = wide(l[3]);
@@ -126,8 +132,8 @@ fn put_roots(
     while v < count {
         let s = wide(l[roots + v]);
         let rank = rows[v];
-        costs[64 * b + s] = high(rank);
-        picks[64 * b + s] = low(rank);
+        costs[COSTS_A_BLOCK * b + s] = high(rank);
+        picks[COSTS_A_BLOCK * b + s] = low(rank);
         v += 1;
     }
 }
@@ -140,11 +146,11 @@ fn table_block(
     blocks: usize,
     end: usize,
     b: usize,
-    rows: &mut [u64; 9216],
+    rows: &mut [u64; (MOST_SYMBOLS + 1) * MOST_WORDS],
     costs: &mut [u32],
-    picks: &mut [u32; 16384],
+    picks: &mut [u32; COSTS_A_BLOCK * MOST_BLOCKS],
 )
-    requires { ⌜ Good (now l) × (costsABlock * blocks ≤ length (now costs)) × (blocks ≤ mostBlocks) × (b < blocks) × (length (now rows) ≡ 9216) × (length (now picks) ≡ (costsABlock * mostBlocks)) ⌝ }
+    requires { ⌜ Decodable (now l) × (costsABlock * blocks ≤ length (now costs)) × (blocks ≤ mostBlocks) × (b < blocks) × (length (now rows) ≡ 9216) × (length (now picks) ≡ (costsABlock * mostBlocks)) ⌝ }
     ensures { λ _. ⌜ BlockTable (now (l .entry)) received mask blocks end b (now (costs .entry)) (now (costs .exit)) (now (picks .entry)) (now (picks .exit))
         × (length (now (rows .exit)) ≡ 9216) ⌝ }
 {
@@ -158,20 +164,20 @@ fn table_block(
 // Backward: the cost table of all blocks, and their picks.
 pub fn fill_table(
     sections: &[u16],
-    starts: &[usize; 17],
+    starts: &[usize; MOST_SECTIONS + 1],
     indices: &[u8],
     received: &[u16],
     erased: &[u8],
     end: usize,
     costs: &mut [u32],
-) -> [u32; 16384]
+) -> [u32; COSTS_A_BLOCK * MOST_BLOCKS]
     requires { ⌜ Ready (now sections) (now starts) (now indices) (now received) (now erased) × (costsABlock * length (now indices) ≤ length (now costs)) ⌝ }
     ensures { λ r. ⌜ Filled (now (sections .entry)) (now (starts .entry)) (now (indices .entry)) (now (received .entry)) (now (erased .entry)) end 0
         (now (costs .entry)) (now (costs .exit)) r ⌝ }
 {
     let blocks = indices.len();
-    let mut rows = [TOP; 9216];
-    let mut picks = [0u32; 16384];
+    let mut rows = [TOP; (MOST_SYMBOLS + 1) * MOST_WORDS];
+    let mut picks = [0u32; COSTS_A_BLOCK * MOST_BLOCKS];
     let mut b = blocks;
     while b > 0 {
         b -= 1;
@@ -209,20 +215,20 @@ fn goal_of(pick: u32) -> u8
 // Forward: the labels and goals of the first path of least distance, and that distance.
 pub fn name_words(
     sections: &[u16],
-    starts: &[usize; 17],
+    starts: &[usize; MOST_SECTIONS + 1],
     indices: &[u8],
     received: &[u16],
     erased: &[u8],
     start: usize,
     end: usize,
-    picks: &[u32; 16384],
+    picks: &[u32; COSTS_A_BLOCK * MOST_BLOCKS],
     labels: &mut [u16],
     goals: &mut [u8],
 ) -> u32
     requires { ⌜ Ready (now sections) (now starts) (now indices) (now received) (now erased)
         × Picked (now sections) (now starts) (now indices) (now received) (now erased) end 0 (now picks)
         × (length (now indices) ≤ length (now labels)) × (length (now indices) ≤ length (now goals)) × (start < mostStates)
-        × (leastFrom (now sections) (now starts) (now indices) (now received) (now erased) end 0 start < top) ⌝ }
+        × (leastFrom (now sections) (now starts) (now indices) (now received) (now erased) end 0 start < unreached) ⌝ }
     ensures { λ r. ⌜ Named (now (sections .entry)) (now (starts .entry)) (now (indices .entry)) (now (received .entry)) (now (erased .entry)) end start
         (now (labels .entry)) (now (labels .exit)) (now (goals .entry)) (now (goals .exit)) r ⌝ }
 {
@@ -233,7 +239,7 @@ pub fn name_words(
     while b < blocks {
         let at = starts[widened(indices[b])];
         let l = &sections[at..];
-        let pick = picks[64 * b + s];
+        let pick = picks[COSTS_A_BLOCK * b + s];
         let label = label_of(pick);
         let goal = goal_of(pick);
         labels[b] = label;

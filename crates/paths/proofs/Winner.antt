@@ -14,7 +14,7 @@ use Rattle.trellis.specs.Lists.{_∈_}
 use Rattle.trellis.specs.Word.{Word, Before, wordAt}
 use Rattle.paths.specs.Choice.{some}
 use Rattle.paths.specs.inner.Graph.{paths}
-use Rattle.paths.specs.Chain.{rootedAt, chainGraph, chainPaths, pathDistance, bestPath, Linked, IsPath, ChainBefore, Winner}
+use Rattle.paths.specs.Chain.{rootedAt, chainGraph, chainPaths, pathDistance, bestPath, Linked, IsChainPath, ChainBefore, Winner}
 use Rattle.paths.proofs.First.{best-first, first-in, first-least}
 use Rattle.paths.proofs.Ordered.{of-keep, in-keep, of-flatMap, in-flatMap, ordered-keep, ordered-map, ordered-flatMap, first-in-order}
 use Rattle.paths.specs.inner.Ordered.{Ordered, ended, leads}
@@ -22,24 +22,24 @@ use Rattle.paths.specs.inner.Ordered.{Ordered, ended, leads}
 module _ (words : ℕ → List Word) (ends : ℕ → Bool) where
   -- ---- the paths are the linked lists of words
 
-  longer : {k b s : ℕ} {p : List Word} {w : Word} → w ∈ words b → w .root ≡ s → IsPath words ends k (suc b) (w .goal) p → IsPath words ends (suc k) b s (w ∷ p)
+  longer : {k b s : ℕ} {p : List Word} {w : Word} → w ∈ words b → w .root ≡ s → IsChainPath words ends k (suc b) (w .goal) p → IsChainPath words ends (suc k) b s (w ∷ p)
   longer m e I = record { long = ap suc (I .long); linked = (m, e, I .linked) }
 
-  pub of-paths : (k b s : ℕ) (p : List Word) → p ∈ chainPaths words ends k b s → IsPath words ends k b s p
+  pub of-paths : (k b s : ℕ) (p : List Word) → p ∈ chainPaths words ends k b s → IsChainPath words ends k b s p
   unfolding chainPaths paths rootedAt
   of-paths zero b s p m = go (ends s) refl m
     where
-      go : (t : Bool) → ends s ≡ t → p ∈ cond t ([] ∷ []) [] → IsPath words ends zero b s p
-      go true e l = let i : p ≡ [] = List·Memᴰ·eq-of-singleton l in subst (IsPath words ends zero b s) (sym i) (record { long = refl; linked = e })
+      go : (t : Bool) → ends s ≡ t → p ∈ cond t ([] ∷ []) [] → IsChainPath words ends zero b s p
+      go true e l = let i : p ≡ [] = List·Memᴰ·eq-of-singleton l in subst (IsChainPath words ends zero b s) (sym i) (record { long = refl; linked = e })
       go false e l = absurd (List·Memᴰ·not-nil l)
   of-paths (suc k) b s p m =
       let z = of-flatMap (λ w. map (λ ws. w ∷ ws) (chainPaths words ends k (suc b) (w .goal))) (rootedAt s (words b)) p m in
       let w = z .source in
       let r = of-keep (λ w. eqb (w .root) s) (words b) w (z .listed) in
       let x = Memᴰ·of-map (λ ws. w ∷ ws) (chainPaths words ends k (suc b) (w .goal)) (z .holds) in
-      subst (IsPath words ends (suc k) b s) (x .2) (longer (r .listed) (eqb→eq (w .root) s (r .passes)) (of-paths k (suc b) (w .goal) (x .0) (x .1)))
+      subst (IsChainPath words ends (suc k) b s) (x .2) (longer (r .listed) (eqb→eq (w .root) s (r .passes)) (of-paths k (suc b) (w .goal) (x .0) (x .1)))
 
-  pub in-paths : (k b s : ℕ) (p : List Word) → IsPath words ends k b s p → p ∈ chainPaths words ends k b s
+  pub in-paths : (k b s : ℕ) (p : List Word) → IsChainPath words ends k b s p → p ∈ chainPaths words ends k b s
   unfolding chainPaths paths rootedAt
   in-paths zero b s [] I = subst (λ t. _∈_ {A = List Word} [] (cond t ([] ∷ []) [])) (sym (I .linked)) (List·Memᴰ·head refl)
   in-paths zero b s (w ∷ p) I = let l = I .long in absurd (omega arith)

@@ -57,7 +57,7 @@ Linked words ends b s [] = ends s ≡ true
 Linked words ends b s (w ∷ ws) = (w ∈ words b) × (w .root ≡ s) × Linked words ends (suc b) (w .goal) ws
 
 -- so it is a path of k words
-pub record IsPath (words : ℕ → List Word) (ends : ℕ → Bool) (k b s : ℕ) (p : List Word) : Type 0 where
+pub record IsChainPath (words : ℕ → List Word) (ends : ℕ → Bool) (k b s : ℕ) (p : List Word) : Type 0 where
   pub long : length p ≡ k
   pub linked : Linked words ends b s p
 

@@ -6,7 +6,7 @@ use mathlib.Core.List.{List, [], _∷_, _++_, flatMap}
 use Prim.Native.Nat.{ℕ, zero, suc, _+_, _*_, _/_, _%_, _<_}
 use native.Mathlib.Omega.{arith}
 use native.Mathlib.Nat.{add-zero, add-suc, suc-add, zero-add}
-use lib.ListN.{length, getD, drop}
+use lib.ListN.{length, getD}
 use lib.Seq.{ext-getD}
 use lib.Dec.{ltb}
 use borrow.Author.Tests.{le-ltb, eq-eqb}
@@ -19,12 +19,12 @@ use Rattle.trellis.proofs.Lists.{length-run, run-at}
 use Rattle.trellis.proofs.OwnLaid.{own-q, own-n, own-states, own-length}
 use Rattle.label.proofs.Packing.{label-packed}
 use Rattle.table.specs.File.{byteAt, twoBytes, wordCount, fileWord, fileWords, accepted, tableFile}
-use Rattle.table.specs.inner.Good.{Good}
+use Rattle.table.specs.inner.Good.{GoodFile}
 use Rattle.table.proofs.Accepted.{accepted-good}
 use Rattle.section_file.proofs.Own.{Fitting, own-usable}
 use Rattle.section_file.proofs.OwnWords.{own-section-words}
 use Rattle.read_back.specs.TableBytes.{bytesOf, pairBytes, labelBytes, tableBytes}
-use Rattle.read_back.specs.ReadingBack.{leaves, isSection, readingBack}
+use Rattle.read_back.specs.ReadingBack.{left, isSection, readingBack}
 
 -- ---- the file from its bytes
 
@@ -68,7 +68,7 @@ module _ (file : List ℕ) (bytes : (i : ℕ) → getD file i 0 < 256) where
       ∙ ap (λ l. at (5 + 2 * wordCount file + 2 * i) ∷ at (5 + 2 * wordCount file + 2 * i + 1) ∷ l) (labels-are (suc i) c ∙ ap (λ k. run (λ i. byteAt file i) k (2 * c)) e)
       ∙ sym (two-more (λ i. byteAt file i) (5 + 2 * wordCount file + 2 * i) c)
 
-  module _ {q n S : ℕ} {words : List Word} (G : Good file q n S words) where
+  module _ {q n S : ℕ} {words : List Word} (G : GoodFile file q n S words) where
     count-bytes : bytesOf (length words) ≡ at 3 ∷ at 4 ∷ []
     unfolding wordCount
     count-bytes =
@@ -98,7 +98,7 @@ module _ (file : List ℕ) (bytes : (i : ℕ) → getD file i 0 < 256) where
 
 -- ---- an accepted table fits
 
-pub good-fits : {file : List ℕ} {q n S : ℕ} {words : List Word} → Good file q n S words → Rectangular n words → Fitting q n S words
+pub good-fits : {file : List ℕ} {q n S : ℕ} {words : List Word} → GoodFile file q n S words → Rectangular n words → Fitting q n S words
 good-fits {file} {q} {n} {S} {words} G R = record {
   qFrom = G .qFrom;
   qTo = G .qTo;
@@ -124,11 +124,11 @@ module _ (q n S : ℕ) (words : List Word) (A : Fitting q n S words) where
       let e = eq-eqb (sectionLength (sectionOf q n S words)) (length (sectionOf q n S words)) (own-length q n S words) in
       rw (u, e)
 
-  -- what reading our section back leaves in a buffer
+  -- what reading our section back left in a buffer
   pub own-read-back : (buffer : List ℕ)
       → readingBack (sectionOf q n S words) buffer
-      ≡ cond (ltb (length buffer) (5 + 4 * length words)) (leaves (shortBuffer (5 + 4 * length words)) buffer)
-      (leaves (success (5 + 4 * length words)) (over (tableBytes q n S words) buffer))
+      ≡ cond (ltb (length buffer) (5 + 4 * length words)) (left (shortBuffer (5 + 4 * length words)) buffer)
+      (left (success (5 + 4 * length words)) (over (tableBytes q n S words) buffer))
   unfolding readingBack
   own-read-back buffer =
       let e = own-is-section in
@@ -142,10 +142,10 @@ module _ (q n S : ℕ) (words : List Word) (A : Fitting q n S words) where
 -- of a file that is accepted as a rectangular table
 pub read-back-again : (file : List ℕ) → ((i : ℕ) → getD file i 0 < 256) → {q n S : ℕ} {words : List Word} → tableFile file ≡ accepted q n S words → Rectangular n words → (buffer : List ℕ)
     → readingBack (sectionOf q n S words) buffer
-    ≡ cond (ltb (length buffer) (length file)) (leaves (shortBuffer (length file)) buffer) (leaves (success (length file)) (over file buffer))
+    ≡ cond (ltb (length buffer) (length file)) (left (shortBuffer (length file)) buffer) (left (success (length file)) (over file buffer))
 read-back-again file bytes {q} {n} {S} {words} a R buffer =
     let G = accepted-good file a in
     let l = G .lengthIs in
     let b = bytes-again file bytes G in
     own-read-back q n S words (good-fits G R) buffer
-    ∙ ap₂ (λ k f. cond (ltb (length buffer) k) (leaves (shortBuffer k) buffer) (leaves (success k) (over f buffer))) (sym l) b
+    ∙ ap₂ (λ k f. cond (ltb (length buffer) k) (left (shortBuffer k) buffer) (left (success k) (over f buffer))) (sym l) b

@@ -15,7 +15,7 @@ use Rattle.trellis.proofs.Laid.{before-few}
 use Rattle.section_file.specs.inner.Sound.{Sound}
 use Rattle.section_file.specs.inner.Answer.{edgeAt}
 use Rattle.read_back.specs.inner.Levels.{begun, level, code, coded, grownCodes}
-use Rattle.read_back.specs.inner.Growing.{Made, StepIn, Gathered, FirstLevel, RootCodes}
+use Rattle.read_back.specs.inner.Growing.{PutBehind, StepIn, Gathered, FirstLevel, RootCodes}
 use Rattle.read_back.proofs.Levels.{levels-rise, level-coded}
 use Rattle.read_back.proofs.Sections.{step-edges, step-in}
 
@@ -87,7 +87,7 @@ module _ {s : List ℕ} (g : Sound s) {n : ℕ} (n-is : n ≡ nOf s) where
     next-count : length (flatMap (grownCodes (run (edgeAt s (pairs + 2 * before) (symbols + before)) 0 count)) (take have codes)) ≡ length (level s (suc t))
     next-count = ap length next-codes ∙ length-map (level s (suc t)) coded
 
-    module _ {start new : List ℕ} {r : ℕ} (m : Made (flatMap (grownCodes (run (edgeAt s (pairs + 2 * before) (symbols + before)) 0 count)) (take have codes)) start 0 new r) where
+    module _ {start new : List ℕ} {r : ℕ} (m : PutBehind (flatMap (grownCodes (run (edgeAt s (pairs + 2 * before) (symbols + before)) 0 count)) (take have codes)) start 0 new r) where
       pub depth-next : r ≤ mostWords → Depth s n new r (before + count) (t + 1)
       unfolding edgesBefore
       depth-next b = record {

@@ -17,13 +17,13 @@ use Rattle.trellis.specs.Own.{Edge, edge}
 use Rattle.trellis.specs.Section.{leaving}
 use Rattle.trellis.proofs.Lists.{run-snoc, flatMap-append}
 use Rattle.label.specs.inner.Labels.{appended}
-use Rattle.read_back.specs.inner.Levels.{code, vertexOf, labelOf, furtherCode}
-use Rattle.read_back.specs.inner.Growing.{Made, BeginsAt, Starts, FirstLevel, RootCodes}
+use Rattle.read_back.specs.inner.Levels.{code, codeVertex, codeLabel, furtherCode}
+use Rattle.read_back.specs.inner.Growing.{PutBehind, BeginsAt, Starts, FirstLevel, RootCodes}
 use Rattle.read_back.proofs.Lists.{run-cons, run-none, leaving-yes, leaving-no, leaving-none}
 
 -- ---- one beginning further along one edge
 
-pub further-is : (c symbol vertex : ℕ) {w x y z : ℕ} → (w ≡ vertex) × (w < 65536) → x ≡ labelOf c → y ≡ appended x symbol → (z ≡ y) × (z < 65536)
+pub further-is : (c symbol vertex : ℕ) {w x y z : ℕ} → (w ≡ vertex) × (w < 65536) → x ≡ codeLabel c → y ≡ appended x symbol → (z ≡ y) × (z < 65536)
     → (c / 67108864 * 1024 + w) * 65536 + z ≡ furtherCode c (edge 0 symbol vertex)
 further-is c symbol vertex p q r t = ap₂ (λ v a. (c / 67108864 * 1024 + v) * 65536 + a) (p .0) (t .0 ∙ r ∙ ap (λ a. appended a symbol) q)
 
@@ -108,9 +108,9 @@ noted-all {e} {count} {starts} {k} n h = record {
   };
 }
 
-pub begins-of : {e : ℕ → Edge} {count : ℕ} {starts : List ℕ} (c : ℕ) {v r : ℕ} → Starts e count starts → v ≡ vertexOf c → (r ≡ getD starts v 0) × (r < 65536) → BeginsAt e count (vertexOf c) r
+pub begins-of : {e : ℕ → Edge} {count : ℕ} {starts : List ℕ} (c : ℕ) {v r : ℕ} → Starts e count starts → v ≡ codeVertex c → (r ≡ getD starts v 0) × (r < 65536) → BeginsAt e count (codeVertex c) r
 begins-of {e} {count} {starts} c {v} {r} s q w =
-    subst (BeginsAt e count (vertexOf c)) (sym (w .0 ∙ ap (λ u. getD starts u 0) q)) (s .at (vertexOf c) (omega arith))
+    subst (BeginsAt e count (codeVertex c)) (sym (w .0 ∙ ap (λ u. getD starts u 0) q)) (s .at (codeVertex c) (omega arith))
 
 -- ---- one beginning
 
@@ -159,7 +159,7 @@ module _ {f : Edge → ℕ} {e : ℕ → Edge} {count v : ℕ} {old : List ℕ} 
       above = λ g. omega (arith, rise k (k + 1) (omega arith) g);
     })
 
-    pub putting-over : e k .from ≡ v → mostWords ≤ filled → Made (map f (leaving v (run e 0 count))) old made new 1025
+    pub putting-over : e k .from ≡ v → mostWords ≤ filled → PutBehind (map f (leaving v (run e 0 count))) old made new 1025
     putting-over q r = record {
       long = p .long;
       filled = λ b. absurd (omega arith);
@@ -168,7 +168,7 @@ module _ {f : Edge → ℕ} {e : ℕ → Edge} {count v : ℕ} {old : List ℕ} 
     }
 
   module _ {new : List ℕ} {filled k : ℕ} (p : Putting f e count v old made new filled k) where
-    done-by : leaving v (run e k (count - k)) ≡ [] → Made (map f (leaving v (run e 0 count))) old made new filled
+    done-by : leaving v (run e k (count - k)) ≡ [] → PutBehind (map f (leaving v (run e 0 count))) old made new filled
     done-by q = record {
       long = p .long;
       filled = λ b. sym (append-nil (take filled new)) ∙ ap (λ es. take filled new ++ map f es) (sym q) ∙ p .left;
@@ -176,10 +176,10 @@ module _ {f : Edge → ℕ} {e : ℕ → Edge} {count v : ℕ} {old : List ℕ} 
       over = λ b. absurd (omega (arith, p .room));
     }
 
-    pub putting-done : count ≤ k → Made (map f (leaving v (run e 0 count))) old made new filled
+    pub putting-done : count ≤ k → PutBehind (map f (leaving v (run e 0 count))) old made new filled
     putting-done h = done-by (ap (leaving v) (run-none e k count h) ∙ leaving-none v)
 
-    pub putting-stops : k < count → (e k .from ≡ v → ⊥) → ((j k : ℕ) → j ≤ k → k < count → e j .from ≤ e k .from) → Made (map f (leaving v (run e 0 count))) old made new filled
+    pub putting-stops : k < count → (e k .from ≡ v → ⊥) → ((j k : ℕ) → j ≤ k → k < count → e j .from ≤ e k .from) → PutBehind (map f (leaving v (run e 0 count))) old made new filled
     putting-stops h q rise = done-by (none-later e v k (count - k) (λ j a b r. later j a (omega arith) r))
       where
         later : (j : ℕ) → k ≤ j → j < count → e j .from ≡ v → ⊥
@@ -200,7 +200,7 @@ module _ {f : ℕ → List ℕ} {old : List ℕ} {have : ℕ} where
   unfolding flatMap
   growing-start l = record { inside = omega arith; room = omega arith; long = l; filled = refl; count = refl }
 
-  module _ {new newer : List ℕ} {made i r : ℕ} (g : Growing f old have new made i) (h : i < have) (l : have ≤ length old) (m : Made (f (getD old i 0)) new made newer r) where
+  module _ {new newer : List ℕ} {made i r : ℕ} (g : Growing f old have new made i) (h : i < have) (l : have ≤ length old) (m : PutBehind (f (getD old i 0)) new made newer r) where
     one-more : flatMap f (take (i + 1) old) ≡ flatMap f (take i old) ++ f (getD old i 0)
     unfolding flatMap
     one-more =
@@ -219,7 +219,7 @@ module _ {f : ℕ → List ℕ} {old : List ℕ} {have : ℕ} where
       count = m .count b ∙ ap (λ k. k + length (f (getD old i 0))) (g .count) ∙ sym more-count;
     }
 
-    pub growing-over : {start : List ℕ} → mostWords < r → Made (flatMap f (take have old)) start 0 newer r
+    pub growing-over : {start : List ℕ} → mostWords < r → PutBehind (flatMap f (take have old)) start 0 newer r
     growing-over b = record {
       long = m .long;
       filled = λ c. absurd (omega arith);
@@ -234,7 +234,7 @@ module _ {f : ℕ → List ℕ} {old : List ℕ} {have : ℕ} where
             let u = ap length (ap (flatMap f) t ∙ flatMap-append f (take j old) (getD old j 0 ∷ [])) ∙ length-append (flatMap f (take j old)) (flatMap f (getD old j 0 ∷ [])) in
             omega (arith, part k (suc j) (omega arith))
 
-  pub growing-all : {start new : List ℕ} {made i : ℕ} → Growing f old have new made i → have ≤ i → Made (flatMap f (take have old)) start 0 new made
+  pub growing-all : {start new : List ℕ} {made i : ℕ} → Growing f old have new made i → have ≤ i → PutBehind (flatMap f (take have old)) start 0 new made
   growing-all {start} {new} {made} {i} g h =
       let e : i ≡ have = omega (arith, g .inside) in
       record {

@@ -23,7 +23,7 @@ use Rattle.paths.proofs.Sections.{listed-of}
 use Rattle.section_file.specs.Usable.{stepEdge}
 use Rattle.section_file.specs.inner.Sound.{Sound}
 use Rattle.section_file.proofs.Words.{edge-from}
-use Rattle.read_back.specs.inner.Levels.{Begun, begun, further, grown, finished, level, code, coded, rootOf, vertexOf, labelOf, furtherCode, grownCodes}
+use Rattle.read_back.specs.inner.Levels.{Begun, begun, further, grown, finished, level, code, coded, codeRoot, codeVertex, codeLabel, furtherCode, grownCodes}
 use Rattle.read_back.proofs.Lists.{map-same, flatMap-same, flatMap-one, flatMap-more, map-flatMap, flatMap-flatMap}
 
 -- ---- words
@@ -111,13 +111,13 @@ module _ {l : List ℕ} (s : Sound l) where
 -- ---- numbers
 
 module _ (b : Begun) (v : b .vertex < mostWords) (x : b .label < 65536) where
-  pub root-coded : rootOf (coded b) ≡ b .root
+  pub root-coded : codeRoot (coded b) ≡ b .root
   root-coded = omega arith
 
-  pub vertex-coded : vertexOf (coded b) ≡ b .vertex
+  pub vertex-coded : codeVertex (coded b) ≡ b .vertex
   vertex-coded = omega arith
 
-  pub label-coded : labelOf (coded b) ≡ b .label
+  pub label-coded : codeLabel (coded b) ≡ b .label
   label-coded = omega arith
 
 label-small : (t : ℕ) {x : ℕ} → t ≤ mostSymbols → x < 4 ^ t → x < 65536

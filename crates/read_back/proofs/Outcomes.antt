@@ -1,4 +1,4 @@
--- The ways that reading back ends, each from the tests that lead there: what the code leaves is what the definition says. The words found are the
+-- The ways that reading back ends, each from the tests that lead there: what the code left is what the definition says. The words found are the
 -- section's words, and of words whose numbers fit, the bytes put into the buffer are those of the table file.
 use mathlib.Core.Path.{_≡_, sym, ap, ap₂, _∙_}
 use mathlib.Core.Bool.{Bool, true, false, not}
@@ -15,9 +15,9 @@ use Rattle.trellis.specs.Layout.{qOf, nOf, statesOf, goalsPlace, goalState, sec
 use Rattle.section_file.specs.inner.Sound.{Sound}
 use Rattle.section_file.proofs.Usable.{usable-sound}
 use Rattle.read_back.specs.TableBytes.{bytesOf, pairBytes, labelBytes, tableBytes}
-use Rattle.read_back.specs.ReadingBack.{leaves, isSection, readingBack}
-use Rattle.read_back.specs.inner.Levels.{Begun, finished, level, coded, rootOf, vertexOf}
-use Rattle.read_back.specs.inner.Growing.{PlacesOf, Gathered, byteOf, pairOfCode, labelOfCode, fileOfCodes}
+use Rattle.read_back.specs.ReadingBack.{left, isSection, readingBack}
+use Rattle.read_back.specs.inner.Levels.{Begun, finished, level, coded, codeRoot, codeVertex}
+use Rattle.read_back.specs.inner.Growing.{FilledPlaces, Gathered, byteOf, pairOfCode, labelOfCode, fileOfCodes}
 use Rattle.read_back.proofs.Lists.{flatMap-same}
 use Rattle.trellis.proofs.Lists.{flatMap-map}
 use Rattle.read_back.proofs.Writing.{table-length}
@@ -36,8 +36,8 @@ module _ {s : List ℕ} (g : Sound s) where
       let F = fits b m in
       let v = fit-vertex g (nOf s) (omega arith) F in
       let x = fit-label g (nOf s) (omega arith) F in
-      let r : rootOf (coded b) ≡ b .root = root-coded b v x in
-      let k : getD s (goals + vertexOf (coded b)) 0 ≡ goalState s (b .vertex) = ap₂ (λ a w. getD s (a + w) 0) e (vertex-coded b v x) in
+      let r : codeRoot (coded b) ≡ b .root = root-coded b v x in
+      let k : getD s (goals + codeVertex (coded b)) 0 ≡ goalState s (b .vertex) = ap₂ (λ a w. getD s (a + w) 0) e (vertex-coded b v x) in
       let small : goalState s (b .vertex) < 256 = omega (arith, g .goalsBelow (b .vertex) (F .vertexBelow), g .statesTo) in
       ap₂ (λ a d. a ∷ d ∷ []) (ap byteOf r ∙ mod-eq-of-lt (omega (arith, F .rootSmall))) (ap byteOf k ∙ mod-eq-of-lt small)
 
@@ -67,7 +67,7 @@ module _ {s : List ℕ} (g : Sound s) where
 -- ---- the ways out
 
 module _ (s f : List ℕ) {b : Bool} (b-is : b ≡ isSection s) where
-  pub ends-unusable : not b ≡ true → leaves (badSection 0) f ≡ readingBack s f
+  pub ends-unusable : not b ≡ true → left (badSection 0) f ≡ readingBack s f
   unfolding readingBack
   ends-unusable t = let e = sym b-is ∙ not-true b t in rw e
 
@@ -81,7 +81,7 @@ module _ (s f : List ℕ) {b : Bool} (b-is : b ≡ isSection s) where
     same-count : length (level s n) ≡ length (sectionWords s)
     same-count = ap (λ k. length (level s k)) n-is ∙ sym (words-count s)
 
-    pub ends-many : mostWords < count → leaves tooManyWords f ≡ readingBack s f
+    pub ends-many : mostWords < count → left tooManyWords f ≡ readingBack s f
     unfolding readingBack
     ends-many h =
         let e = section-yes in
@@ -92,7 +92,7 @@ module _ (s f : List ℕ) {b : Bool} (b-is : b ≡ isSection s) where
       count-words : count ≡ length (sectionWords s)
       count-words = G .count-is h ∙ same-count
 
-      pub ends-short : length f < 5 + 4 * count → leaves (shortBuffer (5 + 4 * count)) f ≡ readingBack s f
+      pub ends-short : length f < 5 + 4 * count → left (shortBuffer (5 + 4 * count)) f ≡ readingBack s f
       unfolding readingBack
       ends-short k =
           let e = section-yes in
@@ -100,8 +100,8 @@ module _ (s f : List ℕ) {b : Bool} (b-is : b ≡ isSection s) where
           let m = lt-ltb (length f) (5 + 4 * length (sectionWords s)) (omega (arith, count-words)) in
           rw (e, d, m, count-words)
 
-      pub ends-file : {goals pairs symbols : ℕ} {new : List ℕ} → 5 + 4 * count ≤ length f → PlacesOf s goals pairs symbols
-          → new ≡ fileOfCodes s goals codes count ++ drop (5 + 4 * count) f → leaves (success (5 + 4 * count)) new ≡ readingBack s f
+      pub ends-file : {goals pairs symbols : ℕ} {new : List ℕ} → 5 + 4 * count ≤ length f → FilledPlaces s goals pairs symbols
+          → new ≡ fileOfCodes s goals codes count ++ drop (5 + 4 * count) f → left (success (5 + 4 * count)) new ≡ readingBack s f
       unfolding readingBack
       ends-file k p q =
           let e = section-yes in

@@ -21,7 +21,7 @@ use Rattle.trellis.proofs.Bools.{left-true, right-true}
 use Rattle.trellis.proofs.Laid.{before-few}
 use Rattle.section_file.proofs.Steps.{edges-at}
 use Rattle.read_back.specs.ReadingBack.{isSection}
-use Rattle.read_back.specs.inner.Growing.{StepIn, PlacesOf}
+use Rattle.read_back.specs.inner.Growing.{StepIn, FilledPlaces}
 use Rattle.read_back.proofs.Lists.{run-shift}
 
 -- ---- places
@@ -40,7 +40,7 @@ module _ {s : List ℕ} (g : Sound s) where
     unfolding sectionLength symbolsPlace
     pairs-inside = omega (arith, pairs-are, whole)
 
-    pub places-are : PlacesOf s (4 + 2 * n + v) (4 + 2 * n + v + w) (4 + 2 * n + v + w + 2 * ((length s - (4 + 2 * n + v + w)) / 3))
+    pub places-are : FilledPlaces s (4 + 2 * n + v) (4 + 2 * n + v + w) (4 + 2 * n + v + w + 2 * ((length s - (4 + 2 * n + v + w)) / 3))
     unfolding sectionLength symbolsPlace vertexCountOf
     places-are =
         let few = before-few s (g .edgesTo) (nOf s) (omega arith) in

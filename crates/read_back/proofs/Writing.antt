@@ -14,7 +14,7 @@ use Rattle.trellis.proofs.Lists.{flatMap-append, length-two}
 use Rattle.trellis.proofs.Write.{wrote-none, wrote-then, wrote-front, wrote-length}
 use Rattle.trellis.specs.Word.{Word}
 use Rattle.read_back.specs.TableBytes.{tableBytes, pairBytes, labelBytes}
-use Rattle.read_back.specs.inner.Levels.{rootOf, vertexOf, labelOf}
+use Rattle.read_back.specs.inner.Levels.{codeRoot, codeVertex, codeLabel}
 use Rattle.read_back.specs.inner.Growing.{byteOf, pairOfCode, labelOfCode, fileOfCodes}
 
 -- ---- two bytes for each number
@@ -48,13 +48,13 @@ module _ {f : ℕ → List ℕ} {old : List ℕ} {start : ℕ} {codes : List ℕ
   pub pieces-all : {new : List ℕ} {at i : ℕ} → Pieces f old start codes count new at i → count ≤ i → Wrote old start (flatMap f (take count codes)) new at
   pieces-all {new} {at} {i} p h = let e : i ≡ count = omega (arith, p .inside) in subst (λ k. Wrote old start (flatMap f (take k codes)) new at) e (p .so-far)
 
-pub pair-is : (s : List ℕ) (goals c : ℕ) {r a v x w b : ℕ} → r ≡ rootOf c → a ≡ byteOf r → v ≡ vertexOf c → x ≡ getD s (goals + v) 0 → (w ≡ x) × (w < 65536) → b ≡ byteOf w
+pub pair-is : (s : List ℕ) (goals c : ℕ) {r a v x w b : ℕ} → r ≡ codeRoot c → a ≡ byteOf r → v ≡ codeVertex c → x ≡ getD s (goals + v) 0 → (w ≡ x) × (w < 65536) → b ≡ byteOf w
     → pairOfCode s goals c ≡ a ∷ b ∷ []
 pair-is s goals c p q r t u d = sym (ap₂ (λ a b. a ∷ b ∷ []) (q ∙ ap byteOf p) (d ∙ ap byteOf (u .0 ∙ t ∙ ap (λ v. getD s (goals + v) 0) r)))
 
-pub label-is : (c : ℕ) {x w a b : ℕ} → x ≡ labelOf c → (w ≡ x) × (w < 65536) → a ≡ byteOf w → b ≡ byteOf (w / 256) → labelOfCode c ≡ a ∷ b ∷ []
+pub label-is : (c : ℕ) {x w a b : ℕ} → x ≡ codeLabel c → (w ≡ x) × (w < 65536) → a ≡ byteOf w → b ≡ byteOf (w / 256) → labelOfCode c ≡ a ∷ b ∷ []
 label-is c {x} {w} p u q d =
-    let e : w ≡ labelOf c = u .0 ∙ p in
+    let e : w ≡ codeLabel c = u .0 ∙ p in
     let small : byteOf (w / 256) ≡ w / 256 = mod-eq-of-lt (omega (arith, u .1)) in
     sym (ap₂ (λ a b. a ∷ b ∷ []) (q ∙ ap byteOf e) (d ∙ small ∙ ap (λ y. y / 256) e))
 

@@ -1,5 +1,5 @@
 -- What reading a section back leaves: document 01's outcome and the whole buffer, by its checks 8, 12 and 10 in that order.
--- Every refusal leaves the buffer as it was; success writes the table file of the section's words in front and nothing behind it.
+-- Every refusal left the buffer as it was; success writes the table file of the section's words in front and nothing behind it.
 use mathlib.Core.Bool.{Bool, not, cond, _&&_}
 use mathlib.Core.List.{List}
 use Prim.Native.Nat.{ℕ, _+_, _*_}
@@ -26,8 +26,8 @@ pub record ReadingBack : Type 0 where
   pub outcome : Outcome
   pub file : List ℕ
 
-abbrev pub leaves : Outcome → List ℕ → ReadingBack
-leaves o file = record { outcome = o; file = file }
+abbrev pub left : Outcome → List ℕ → ReadingBack
+left o file = record { outcome = o; file = file }
 
 -- usable, with no numbers left over
 unfoldable pub isSection : List ℕ → Bool
@@ -39,7 +39,7 @@ fileLength words = 5 + 4 * length words
 unfoldable pub readingBack : List ℕ → List ℕ → ReadingBack
 readingBack section file =
     let words = sectionWords section in
-    cond (not (isSection section)) (leaves (badSection 0) file)
-    (cond (ltb mostWords (length words)) (leaves tooManyWords file)
-    (cond (ltb (length file) (fileLength words)) (leaves (shortBuffer (fileLength words)) file)
-    (leaves (success (fileLength words)) (over (tableBytes (qOf section) (nOf section) (statesOf section) words) file))))
+    cond (not (isSection section)) (left (badSection 0) file)
+    (cond (ltb mostWords (length words)) (left tooManyWords file)
+    (cond (ltb (length file) (fileLength words)) (left (shortBuffer (fileLength words)) file)
+    (left (success (fileLength words)) (over (tableBytes (qOf section) (nOf section) (statesOf section) words) file))))

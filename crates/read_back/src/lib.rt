@@ -1,5 +1,5 @@
 // Reading a section back into the table file of its words, for any numbers and any buffer, by document 01's checks 8, 12 and 10.
-// Words are found depth by depth: each beginning goes on along every edge that leaves its vertex, and since no path of a usable section breaks off,
+// Words are found depth by depth: each beginning goes on along every edge that left its vertex, and since no path of a usable section breaks off,
 // more than 1,024 beginnings at any depth are more than 1,024 words.
 ghost use mathlib.Core.Path.{_≡_};
 ghost use mathlib.Core.List.{[], _∷_, _++_, flatMap};
@@ -12,14 +12,18 @@ ghost use Rattle.trellis.specs.Own.{edge};
 ghost use Rattle.trellis.specs.Layout.{nOf, pairsPlace, symbolsPlace, sectionLength};
 ghost use Rattle.section_file.specs.inner.Answer.{edgeAt};
 ghost use Rattle.section_file.specs.inner.Sound.{Sound};
-ghost use Rattle.read_back.specs.ReadingBack.{readBackOutcome, leaves, isSection, readingBack};
-ghost use Rattle.read_back.specs.inner.Levels.{rootOf, vertexOf, labelOf, furtherCode, grownCodes};
-ghost use Rattle.read_back.specs.inner.Growing.{Made, StepIn, BeginsAt, Starts, PlacesOf, Gathered, FirstLevel, RootCodes, byteOf, pairOfCode, labelOfCode, fileOfCodes};
+ghost use Rattle.read_back.specs.ReadingBack.{readBackOutcome, left, isSection, readingBack};
+ghost use Rattle.read_back.specs.inner.Levels.{codeRoot, codeVertex, codeLabel, furtherCode, grownCodes};
+ghost use Rattle.read_back.specs.inner.Growing.{PutBehind, StepIn, BeginsAt, Starts, FilledPlaces, Gathered, FirstLevel, RootCodes, byteOf, pairOfCode, labelOfCode, fileOfCodes};
 use label::append;
 use numbers::number;
 use numbers::wide;
 use section_file::Part;
 use section_file::usable_at;
+use trellis::MOST_WORDS;
+
+// One word more than a table has.
+const TOO_MANY: usize = MOST_WORDS + 1;
 
 pub enum ReadBack {
     File(usize),
@@ -47,19 +51,19 @@ fn byte(x: usize) -> u8
 }
 
 fn root_of(c: u32) -> usize
-    ensures { λ r. ⌜ r ≡ rootOf c ⌝ }
+    ensures { λ r. ⌜ r ≡ codeRoot c ⌝ }
 {
     (c / 67108864) as usize
 }
 
 fn vertex_of(c: u32) -> usize
-    ensures { λ r. ⌜ r ≡ vertexOf c ⌝ }
+    ensures { λ r. ⌜ r ≡ codeVertex c ⌝ }
 {
     (c / 65536 % 1024) as usize
 }
 
 fn label_of(c: u32) -> u16
-    ensures { λ r. ⌜ r ≡ labelOf c ⌝ }
+    ensures { λ r. ⌜ r ≡ codeLabel c ⌝ }
 {
     (c % 65536) as u16
 }
@@ -73,11 +77,11 @@ fn further(c: u32, symbol: u16, vertex: u16) -> u32
 }
 
 // Where the edges of each vertex begin. Going down, the last note of a vertex is its first edge.
-fn starts_of(s: &[u16], pairs: usize, symbols: usize, count: usize) -> [u16; 1024]
+fn starts_of(s: &[u16], pairs: usize, symbols: usize, count: usize) -> [u16; MOST_WORDS]
     requires { ⌜ StepIn (now s) pairs symbols count ⌝ }
     ensures { λ r. ⌜ Starts (edgeAt (now (s .entry)) pairs symbols) count r ⌝ }
 {
-    let mut starts = [count as u16; 1024];
+    let mut starts = [count as u16; MOST_WORDS];
     let mut k = count;
     while k > 0 {
         k -= 1;
@@ -87,7 +91,7 @@ fn starts_of(s: &[u16], pairs: usize, symbols: usize, count: usize) -> [u16; 102
     starts
 }
 
-// Puts the beginning c, one step further along each edge that leaves its vertex, behind the first `made` numbers.
+// Puts the beginning c, one step further along each edge that left its vertex, behind the first `made` numbers.
 fn grow_one(
     s: &[u16],
     pairs: usize,
@@ -96,10 +100,10 @@ fn grow_one(
     start: usize,
     c: u32,
     made: usize,
-    codes: &mut [u32; 1024],
+    codes: &mut [u32; MOST_WORDS],
 ) -> usize
-    requires { ⌜ StepIn (now s) pairs symbols count × BeginsAt (edgeAt (now s) pairs symbols) count (vertexOf c) start × (made ≤ mostWords) × (length (now codes) ≡ mostWords) ⌝ }
-    ensures { λ r. ⌜ Made (grownCodes (run (edgeAt (now (s .entry)) pairs symbols) 0 count) c) (now (codes .entry)) made (now (codes .exit)) r ⌝ }
+    requires { ⌜ StepIn (now s) pairs symbols count × BeginsAt (edgeAt (now s) pairs symbols) count (codeVertex c) start × (made ≤ mostWords) × (length (now codes) ≡ mostWords) ⌝ }
+    ensures { λ r. ⌜ PutBehind (grownCodes (run (edgeAt (now (s .entry)) pairs symbols) 0 count) c) (now (codes .entry)) made (now (codes .exit)) r ⌝ }
 {
     let vertex = vertex_of(c);
     let mut filled = made;
@@ -108,8 +112,8 @@ fn grow_one(
         if wide(number(s, pairs + 2 * k)) != vertex {
             return filled;
         }
-        if filled >= 1024 {
-            return 1025;
+        if filled >= MOST_WORDS {
+            return TOO_MANY;
         }
         codes[filled] = further(c, number(s, symbols + k), number(s, pairs + 1 + 2 * k));
         filled += 1;
@@ -124,12 +128,12 @@ fn grow(
     pairs: usize,
     symbols: usize,
     count: usize,
-    old: &[u32; 1024],
+    old: &[u32; MOST_WORDS],
     have: usize,
-    codes: &mut [u32; 1024],
+    codes: &mut [u32; MOST_WORDS],
 ) -> usize
     requires { ⌜ StepIn (now s) pairs symbols count × (have ≤ mostWords) × (length (now old) ≡ mostWords) × (length (now codes) ≡ mostWords) ⌝ }
-    ensures { λ r. ⌜ Made (flatMap (grownCodes (run (edgeAt (now (s .entry)) pairs symbols) 0 count)) (take have (now (old .entry)))) (now (codes .entry)) 0 (now (codes .exit)) r ⌝ }
+    ensures { λ r. ⌜ PutBehind (flatMap (grownCodes (run (edgeAt (now (s .entry)) pairs symbols) 0 count)) (take have (now (old .entry)))) (now (codes .entry)) 0 (now (codes .exit)) r ⌝ }
 {
     let starts = starts_of(s, pairs, symbols, count);
     let mut made: usize = 0;
@@ -138,7 +142,7 @@ fn grow(
         let c = old[i];
         let start = wide(starts[vertex_of(c)]);
         made = grow_one(s, pairs, symbols, count, start, c, made, codes);
-        if made > 1024 {
+        if made > MOST_WORDS {
             return made;
         }
         i += 1;
@@ -147,7 +151,7 @@ fn grow(
 }
 
 // The vertices of depth 0, each with its root.
-fn first_level(s: &[u16], roots: usize, count: usize, codes: &mut [u32; 1024])
+fn first_level(s: &[u16], roots: usize, count: usize, codes: &mut [u32; MOST_WORDS])
     requires { ⌜ FirstLevel (now s) roots count × (length (now codes) ≡ mostWords) ⌝ }
     ensures { λ _. ⌜ RootCodes (now (s .entry)) roots count (now (codes .exit)) ⌝ }
 {
@@ -161,7 +165,7 @@ fn first_level(s: &[u16], roots: usize, count: usize, codes: &mut [u32; 1024])
 // The section fills the slice, so behind the place of the pairs stand three numbers an edge.
 fn places_of(s: &[u16], n: usize) -> Places
     requires { ⌜ Sound (now s) × (sectionLength (now s) ≡ length (now s)) × (n ≡ nOf (now s)) ⌝ }
-    ensures { λ r. ⌜ PlacesOf (now (s .entry)) (r .goals) (r .pairs) (r .symbols) ⌝ }
+    ensures { λ r. ⌜ FilledPlaces (now (s .entry)) (r .goals) (r .pairs) (r .symbols) ⌝ }
 {
     let goals = 4 + 2 * n + wide(number(s, 3));
     let pairs = goals + wide(number(s, 3 + n));
@@ -174,7 +178,7 @@ fn places_of(s: &[u16], n: usize) -> Places
 }
 
 // Finds the section's words, depth by depth.
-fn gather(s: &[u16], n: usize, pairs: usize, symbols: usize, codes: &mut [u32; 1024]) -> usize
+fn gather(s: &[u16], n: usize, pairs: usize, symbols: usize, codes: &mut [u32; MOST_WORDS]) -> usize
     requires { ⌜ Sound (now s) × (n ≡ nOf (now s)) × (pairs ≡ pairsPlace (now s)) × (symbols ≡ symbolsPlace (now s)) × (pairs ≤ 10000) × (symbols ≤ 50000) × (length (now codes) ≡ mostWords) ⌝ }
     ensures { λ r. ⌜ Gathered (now (s .entry)) n (now (codes .exit)) r ⌝ }
 {
@@ -194,7 +198,7 @@ fn gather(s: &[u16], n: usize, pairs: usize, symbols: usize, codes: &mut [u32; 1
             have,
             codes,
         );
-        if have > 1024 {
+        if have > MOST_WORDS {
             return have;
         }
         before += count;
@@ -215,7 +219,13 @@ fn put_sizes(s: &[u16], count: usize, file: &mut [u8])
     file[4] = byte(count / 256);
 }
 
-fn put_pairs(s: &[u16], goals: usize, codes: &[u32; 1024], count: usize, file: &mut [u8]) -> usize
+fn put_pairs(
+    s: &[u16],
+    goals: usize,
+    codes: &[u32; MOST_WORDS],
+    count: usize,
+    file: &mut [u8],
+) -> usize
     requires { ⌜ (goals ≤ 10000) × (count ≤ mostWords) × (5 + 2 * count ≤ length (now file)) × (length (now codes) ≡ mostWords) ⌝ }
     ensures { λ r. ⌜ Wrote (now (file .entry)) 5 (flatMap (pairOfCode (now (s .entry)) goals) (take count (now (codes .entry)))) (now (file .exit)) r ⌝ }
 {
@@ -231,7 +241,7 @@ fn put_pairs(s: &[u16], goals: usize, codes: &[u32; 1024], count: usize, file: &
     at
 }
 
-fn put_labels(codes: &[u32; 1024], count: usize, start: usize, file: &mut [u8]) -> usize
+fn put_labels(codes: &[u32; MOST_WORDS], count: usize, start: usize, file: &mut [u8]) -> usize
     requires { ⌜ (start ≤ 10000) × (count ≤ mostWords) × (start + 2 * count ≤ length (now file)) × (length (now codes) ≡ mostWords) ⌝ }
     ensures { λ r. ⌜ Wrote (now (file .entry)) start (flatMap labelOfCode (take count (now (codes .entry)))) (now (file .exit)) r ⌝ }
 {
@@ -247,7 +257,7 @@ fn put_labels(codes: &[u32; 1024], count: usize, start: usize, file: &mut [u8]) 
     at
 }
 
-fn put_file(s: &[u16], goals: usize, codes: &[u32; 1024], count: usize, file: &mut [u8])
+fn put_file(s: &[u16], goals: usize, codes: &[u32; MOST_WORDS], count: usize, file: &mut [u8])
     requires { ⌜ (goals ≤ 10000) × (count ≤ mostWords) × (5 + 4 * count ≤ length (now file)) × (length (now codes) ≡ mostWords) ⌝ }
     ensures { λ _. ⌜ now (file .exit) ≡ fileOfCodes (now (s .entry)) goals (now (codes .entry)) count ++ drop (5 + 4 * count) (now (file .entry)) ⌝ }
 {
@@ -268,16 +278,16 @@ fn is_section(s: &[u16]) -> bool
 }
 
 pub fn read_back(section: &[u16], file: &mut [u8]) -> ReadBack
-    ensures { λ r. ⌜ leaves (readBackOutcome r) (now (file .exit)) ≡ readingBack (now (section .entry)) (now (file .entry)) ⌝ }
+    ensures { λ r. ⌜ left (readBackOutcome r) (now (file .exit)) ≡ readingBack (now (section .entry)) (now (file .entry)) ⌝ }
 {
     if !is_section(section) {
         return ReadBack::Unusable;
     }
     let n = wide(number(section, 1));
     let at = places_of(section, n);
-    let mut codes = [0u32; 1024];
+    let mut codes = [0u32; MOST_WORDS];
     let count = gather(section, n, at.pairs, at.symbols, &mut codes);
-    if count > 1024 {
+    if count > MOST_WORDS {
         return ReadBack::TooMany;
     }
     let needed = 5 + 4 * count;

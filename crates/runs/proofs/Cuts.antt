@@ -18,16 +18,16 @@ use Rattle.trellis.proofs.Labels.{four-pos, front-mono}
 use Rattle.trellis.proofs.Words.{word-in, index, beginning-root, beginning-front, beginning-eq, ending-back, ending-goal, ending-eq, joined-beginning, joined-ending, joined-is, rectangular-by}
 use Rattle.trellis.proofs.Witness.{begins-yes, begins-of, ends-yes, ends-of}
 use Rattle.runs.specs.inner.Runs.{Cut, Shared, Rectangle}
-use Rattle.runs.specs.inner.Cuts.{above, beginningNumber, endingNumber, beginningAt, endingAt}
+use Rattle.runs.specs.inner.Cuts.{aboveGoals, beginningNumber, endingNumber, beginningAt, endingAt}
 use Rattle.trellis.proofs.Bools.{eqb-of, same-test}
 
-above-pos : (table : List Word) → 0 < above table
-unfolding above
+above-pos : (table : List Word) → 0 < aboveGoals table
+unfolding aboveGoals
 above-pos [] = omega arith
 above-pos (w ∷ table) = omega (arith, above-pos table)
 
-goal-below : (table : List Word) (i : ℕ) → i < length table → wordAt table i .goal < above table
-unfolding above
+goal-below : (table : List Word) (i : ℕ) → i < length table → wordAt table i .goal < aboveGoals table
+unfolding aboveGoals
 goal-below [] i h = absurd (not-suc-le-zero h)
 goal-below (w ∷ table) zero h = omega (arith, above-pos table)
 goal-below (w ∷ table) (suc i) h = omega (arith, goal-below table i (omega arith))
@@ -101,7 +101,7 @@ module _ {n : ℕ} {table : List Word} (G : Table n table) (t : ℕ) (h : t ≤ 
 
   pub same-ending : (i j : ℕ) → i < length table → j < length table → endingAt n table t i ≡ endingAt n table t j
       → ending n t (wordAt table i) ≡ ending n t (wordAt table j)
-  same-ending i j a b e = number-ending n t (wordAt table i) (wordAt table j) (above table) (goal-below table i a) (goal-below table j b) e
+  same-ending i j a b e = number-ending n t (wordAt table i) (wordAt table j) (aboveGoals table) (goal-below table i a) (goal-below table j b) e
 
   -- ---- the tests that the witness search makes, on numbers
 
@@ -114,14 +114,14 @@ module _ {n : ℕ} {table : List Word} (G : Table n table) (t : ℕ) (h : t ≤ 
   pub ends-eq : (i j : ℕ) → i < length table → j < length table
       → sameEnding n t (wordAt table i) (wordAt table j) ≡ eqb (endingAt n table t i) (endingAt n table t j)
   ends-eq i j a b = same-test (sameEnding n t (wordAt table i) (wordAt table j)) (eqb (endingAt n table t i) (endingAt n table t j))
-      (λ u. eqb-of (ending-number n t (wordAt table i) (wordAt table j) (above table) (ends-yes n t (wordAt table i) (wordAt table j) u)))
+      (λ u. eqb-of (ending-number n t (wordAt table i) (wordAt table j) (aboveGoals table) (ends-yes n t (wordAt table i) (wordAt table j) u)))
       (λ u. ends-of n t (wordAt table i) (wordAt table j) (same-ending i j a b (eqb→eq (endingAt n table t i) (endingAt n table t j) u)))
 
   pub cut : Cut (length table) (beginningAt n table t) (endingAt n table t)
   cut = record {
     rises = λ i j a b. go i j a b (ℕ-discrete i j);
     within = λ i j a b e.
-        later n t (above table) (wordAt table i) (wordAt table j) (goal-below table i (omega arith)) (same-beginning i j (omega arith) b e) (G .ascends i j a b);
+        later n t (aboveGoals table) (wordAt table i) (wordAt table j) (goal-below table i (omega arith)) (same-beginning i j (omega arith) b e) (G .ascends i j a b);
   }
     where
       go : (i j : ℕ) → i ≤ j → j < length table → Dec (i ≡ j) → beginningAt n table t i ≤ beginningAt n table t j
@@ -145,7 +145,7 @@ module _ {n : ℕ} {table : List Word} (G : Table n table) (t : ℕ) (h : t ≤ 
         at = x .at;
         inside = x .below;
         begins = ap (beginningNumber n t) (x .is) ∙ beginning-number n t w (wordAt table i) (joined-beginning n t (wordAt table i) (wordAt table j));
-        ends = ap (endingNumber n t (above table)) (x .is) ∙ ending-number n t w (wordAt table j) (above table) (joined-ending n t (wordAt table i) (wordAt table j));
+        ends = ap (endingNumber n t (aboveGoals table)) (x .is) ∙ ending-number n t w (wordAt table j) (aboveGoals table) (joined-ending n t (wordAt table i) (wordAt table j));
       }
 
   -- ---- rectangular, in numbers
@@ -156,4 +156,4 @@ module _ {n : ℕ} {table : List Word} (G : Table n table) (t : ℕ) (h : t ≤ 
 
   pub of-rectangle : Rectangle (length table) (beginningAt n table t) (endingAt n table t) → RectangularAt n t table
   of-rectangle R = rectangular-by n t table (λ i j k a b c e f. shared-joined k j c b
-      (R i j k a b c (beginning-number n t (wordAt table i) (wordAt table j) e) (ending-number n t (wordAt table i) (wordAt table k) (above table) f)))
+      (R i j k a b c (beginning-number n t (wordAt table i) (wordAt table j) e) (ending-number n t (wordAt table i) (wordAt table k) (aboveGoals table) f)))

@@ -12,7 +12,7 @@ use Rattle.trellis.specs.Word.{Word, wordAt, Table}
 use Rattle.trellis.proofs.Labels.{back-suc, back-step, symbol-back}
 use Rattle.trellis.proofs.Words.{ending-back, ending-goal, ending-eq}
 use Rattle.runs.specs.inner.Runs.{firstLike, Tells}
-use Rattle.runs.specs.inner.Cuts.{above, endingAt, stepKey}
+use Rattle.runs.specs.inner.Cuts.{aboveGoals, endingAt, stepKey}
 use Rattle.runs.proofs.FirstLike.{like-is, like-eq}
 use Rattle.runs.proofs.Cuts.{same-ending, ending-number}
 
@@ -42,7 +42,7 @@ module _ {n : ℕ} {table : List Word} (G : Table n table) (t : ℕ) (deep : t <
       → endingAt n table t i ≡ endingAt n table t j
   end-longer i j a b p q =
       let E = same-ending G (suc t) deep i j a b q in
-      ending-number n t (wordAt table i) (wordAt table j) (above table) (ending-eq
+      ending-number n t (wordAt table i) (wordAt table j) (aboveGoals table) (ending-eq
       (back-suc n t (wordAt table i .label) deep ∙ ap₂ (λ x y. x * 4 ^ (n - suc t) + y) p (ending-back E) ∙ sym (back-suc n t (wordAt table j .label) deep))
       (ending-goal E))
 
@@ -53,7 +53,7 @@ module _ {n : ℕ} {table : List Word} (G : Table n table) (t : ℕ) (deep : t <
       → endingAt n table (suc t) i ≡ endingAt n table (suc t) j
   end-shorter i j a b e =
       let E = same-ending G t (omega arith) i j a b e in
-      ending-number n (suc t) (wordAt table i) (wordAt table j) (above table)
+      ending-number n (suc t) (wordAt table i) (wordAt table j) (aboveGoals table)
       (ending-eq (back-step n t (wordAt table i .label) (wordAt table j .label) deep (ending-back E)) (ending-goal E))
 
   pub tells-step : (v : ℕ → ℕ) → Tells (length table) (endingAt n table (suc t)) v → Tells (length table) (endingAt n table t) (stepKey n table t v)
@@ -70,6 +70,6 @@ no-symbols n x y = let e : n - n ≡ 0 = omega arith in rw e (mod-one x ∙ sym 
 
 pub tells-goals : {n : ℕ} {table : List Word} → Table n table → Tells (length table) (endingAt n table n) (λ i. wordAt table i .goal)
 tells-goals {n} {table} G i j a b = (
-  λ e. ending-number n n (wordAt table i) (wordAt table j) (above table) (ending-eq (no-symbols n (wordAt table i .label) (wordAt table j .label)) e),
+  λ e. ending-number n n (wordAt table i) (wordAt table j) (aboveGoals table) (ending-eq (no-symbols n (wordAt table i .label) (wordAt table j .label)) e),
   λ e. ending-goal (same-ending G n (omega arith) i j a b e),
 )

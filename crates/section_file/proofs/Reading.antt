@@ -14,7 +14,7 @@ use Rattle.trellis.specs.Own as own
 use Rattle.trellis.specs.Layout.{qOf, nOf, statesOf, vertexCountOf, edgeCountOf, edgesBefore, rootsPlace, goalsPlace, pairsPlace, symbolsPlace, sectionLength, rootState, goalState}
 use Rattle.section_file.specs.Usable.{higher, rising, inside, above, sizesRight, countsRight, statesRight}
 use Rattle.section_file.specs.inner.Places.{PlacesOf, Counted}
-use Rattle.section_file.specs.inner.Answer.{edgeAt, held, meant}
+use Rattle.section_file.specs.inner.Answer.{edgeAt, heldEdge, meantEdge}
 use Rattle.section_file.specs.declared.Edge.{Edge}
 
 -- ---- bounds
@@ -139,10 +139,10 @@ module _ (l : List ℕ) {n roots goals s : ℕ} (c : Counted l n) (r-is : roots 
 -- ---- edges
 
 pub edge-is : (l : List ℕ) (pairs symbols k : ℕ) {x a y : ℕ} → x ≡ getD l (pairs + 2 * k) 0 → a ≡ getD l (symbols + k) 0 → y ≡ getD l (pairs + 1 + 2 * k) 0
-    → record { from = x; symbol = a; to = y } ≡ held (edgeAt l pairs symbols k)
+    → record { from = x; symbol = a; to = y } ≡ heldEdge (edgeAt l pairs symbols k)
 edge-is l pairs symbols k p q r = simp (p, q, r)
 
-module _ (l : List ℕ) (pairs symbols q froms tos k : ℕ) {e : Edge} (is : e ≡ held (edgeAt l pairs symbols k)) where
+module _ (l : List ℕ) (pairs symbols q froms tos k : ℕ) {e : Edge} (is : e ≡ heldEdge (edgeAt l pairs symbols k)) where
   pub from-outside : froms ≤ e .from → false ≡ inside (edgeAt l pairs symbols) q froms tos k
   unfolding inside
   from-outside h = rw is at (outside e h)
@@ -165,26 +165,26 @@ module _ (l : List ℕ) (pairs symbols q froms tos k : ℕ) {e : Edge} (is : e �
       whole e h g = simp (lt-ltb _ _ h, lt-ltb _ _ g)
 
 module _ (e f : Edge) where
-  pub from-less : e .from < f .from → true ≡ own.edgeLess (meant e) (meant f)
+  pub from-less : e .from < f .from → true ≡ own.edgeLess (meantEdge e) (meantEdge f)
   unfolding lower
   from-less h = simp (lt-ltb _ _ h)
 
   module _ (h : f .from ≤ e .from) where
-    pub from-other : (e .from ≡ f .from → ⊥) → false ≡ own.edgeLess (meant e) (meant f)
+    pub from-other : (e .from ≡ f .from → ⊥) → false ≡ own.edgeLess (meantEdge e) (meantEdge f)
     unfolding lower
     from-other d = simp (le-ltb _ _ h, ne-eqb _ _ d)
 
     module _ (d : e .from ≡ f .from) where
-      pub symbol-less : e .symbol < f .symbol → true ≡ own.edgeLess (meant e) (meant f)
+      pub symbol-less : e .symbol < f .symbol → true ≡ own.edgeLess (meantEdge e) (meantEdge f)
       unfolding lower
       symbol-less k = simp (le-ltb _ _ h, eq-eqb _ _ d, lt-ltb _ _ k)
 
       module _ (k : f .symbol ≤ e .symbol) where
-        pub symbol-other : (e .symbol ≡ f .symbol → ⊥) → false ≡ own.edgeLess (meant e) (meant f)
+        pub symbol-other : (e .symbol ≡ f .symbol → ⊥) → false ≡ own.edgeLess (meantEdge e) (meantEdge f)
         unfolding lower
         symbol-other g = simp (le-ltb _ _ h, eq-eqb _ _ d, le-ltb _ _ k, ne-eqb _ _ g)
 
-        pub less-by-to : e .symbol ≡ f .symbol → ltb (e .to) (f .to) ≡ own.edgeLess (meant e) (meant f)
+        pub less-by-to : e .symbol ≡ f .symbol → ltb (e .to) (f .to) ≡ own.edgeLess (meantEdge e) (meantEdge f)
         unfolding lower
         less-by-to g = simp (le-ltb _ _ h, eq-eqb _ _ d, le-ltb _ _ k, eq-eqb _ _ g)
 
@@ -193,7 +193,7 @@ module _ (l : List ℕ) (pairs symbols : ℕ) where
   unfolding above
   no-edge-before e = rw e
 
-  pub above-is : (k : ℕ) {e f : Edge} {b : Bool} → (k ≡ 0 → ⊥) → e ≡ held (edgeAt l pairs symbols (k - 1)) → f ≡ held (edgeAt l pairs symbols k) → b ≡ own.edgeLess (meant e) (meant f)
+  pub above-is : (k : ℕ) {e f : Edge} {b : Bool} → (k ≡ 0 → ⊥) → e ≡ heldEdge (edgeAt l pairs symbols (k - 1)) → f ≡ heldEdge (edgeAt l pairs symbols k) → b ≡ own.edgeLess (meantEdge e) (meantEdge f)
       → b ≡ above (edgeAt l pairs symbols) k
   unfolding above
   above-is zero h d g i = absurd (h refl)

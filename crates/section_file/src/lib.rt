@@ -9,7 +9,7 @@ ghost use Rattle.trellis.specs.Layout.{nOf, pairsPlace, symbolsPlace};
 ghost use Rattle.section_file.specs.Usable.{inside, above, sizesRight, countsRight, stepRight};
 ghost use Rattle.trellis.specs.Lists.{all, within};
 ghost use Rattle.section_file.specs.inner.Places.{PlacesOf, Counted, StepAt};
-ghost use Rattle.section_file.specs.inner.Answer.{partOf, edgeAt, held, meant};
+ghost use Rattle.section_file.specs.inner.Answer.{partOf, edgeAt, heldEdge, meantEdge};
 
 mod states;
 mod twins;
@@ -20,6 +20,17 @@ use numbers::wide;
 use states::states_right;
 use twins::covers;
 use twins::twins_right;
+
+// Document 01's bounds as numbers of the width that they are compared in.
+const LEAST_Q: u16 = trellis::LEAST_Q as u16;
+
+const MOST_Q: u16 = trellis::MOST_Q as u16;
+
+const MOST_SYMBOLS: u16 = trellis::MOST_SYMBOLS as u16;
+
+const MOST_STATES: u16 = trellis::MOST_STATES as u16;
+
+const MOST_WORDS: u16 = trellis::MOST_WORDS as u16;
 
 // The part of a slice that a usable section takes up is as long as its counts say.
 pub enum Part {
@@ -50,13 +61,13 @@ fn is_within(low: u16, high: u16, x: u16) -> bool
 fn sizes_right(l: &[u16]) -> bool
     ensures { λ r. ⌜ r ≡ sizesRight (now (l .entry)) ⌝ }
 {
-    if !is_within(2, 4, number(l, 0)) {
+    if !is_within(LEAST_Q, MOST_Q, number(l, 0)) {
         return false;
     }
-    if !is_within(1, 8, number(l, 1)) {
+    if !is_within(1, MOST_SYMBOLS, number(l, 1)) {
         return false;
     }
-    is_within(1, 64, number(l, 2))
+    is_within(1, MOST_STATES, number(l, 2))
 }
 
 // Whether the numbers from a place on are all 1 to 1,024.
@@ -66,7 +77,7 @@ fn all_counts(l: &[u16], at: usize, count: usize) -> bool
 {
     let mut t: usize = 0;
     while t < count {
-        if !is_within(1, 1024, number(l, at + t)) {
+        if !is_within(1, MOST_WORDS, number(l, at + t)) {
             return false;
         }
         t += 1;
@@ -105,7 +116,7 @@ fn places_of(l: &[u16], n: usize) -> Places
 
 fn edge_at(l: &[u16], pairs: usize, symbols: usize, k: usize) -> Edge
     requires { ⌜ (pairs ≤ 4000000) × (symbols ≤ 4000000) × (k ≤ mostWords) ⌝ }
-    ensures { λ r. ⌜ r ≡ held (edgeAt (now (l .entry)) pairs symbols k) ⌝ }
+    ensures { λ r. ⌜ r ≡ heldEdge (edgeAt (now (l .entry)) pairs symbols k) ⌝ }
 {
     Edge {
         from: number(l, pairs + 2 * k),
@@ -159,7 +170,7 @@ fn all_inside(
 }
 
 fn is_less(e: Edge, f: Edge) -> bool
-    ensures { λ r. ⌜ r ≡ edgeLess (meant e) (meant f) ⌝ }
+    ensures { λ r. ⌜ r ≡ edgeLess (meantEdge e) (meantEdge f) ⌝ }
 {
     if e.from < f.from {
         return true;

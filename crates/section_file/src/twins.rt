@@ -10,12 +10,14 @@ ghost use Rattle.section_file.specs.Usable.{covered, noTwins};
 ghost use Rattle.section_file.specs.inner.Places.{Vertices, Symbols, Marks};
 use numbers::number;
 use numbers::wide;
+use trellis::MOST_Q;
+use trellis::MOST_WORDS;
 
-fn marks(l: &[u16], at: usize, count: usize) -> [u8; 1024]
+fn marks(l: &[u16], at: usize, count: usize) -> [u8; MOST_WORDS]
     requires { ⌜ Vertices (now l) at count ⌝ }
     ensures { λ r. ⌜ Marks (λ k. getD (now (l .entry)) (at + 2 * k) 0) count r ⌝ }
 {
-    let mut marks = [0u8; 1024];
+    let mut marks = [0u8; MOST_WORDS];
     let mut k: usize = 0;
     while k < count {
         let v = wide(number(l, at + 2 * k));
@@ -57,7 +59,7 @@ fn without_twins(l: &[u16], one: usize, symbols: usize, other: usize, count: usi
     requires { ⌜ Vertices (now l) one count × Vertices (now l) other count × Symbols (now l) symbols count ⌝ }
     ensures { λ r. ⌜ r ≡ noTwins (λ k. getD (now (l .entry)) (one + 2 * k) 0) (λ k. getD (now (l .entry)) (symbols + k) 0) (λ k. getD (now (l .entry)) (other + 2 * k) 0) count ⌝ }
 {
-    let mut seen = [0u16; 4096];
+    let mut seen = [0u16; MOST_Q * MOST_WORDS];
     let mut k: usize = 0;
     while k < count {
         let slot = 4 * wide(number(l, one + 2 * k)) + wide(number(l, symbols + k));

@@ -14,39 +14,39 @@ use Rattle.paths.specs.inner.Costs.{plus, minAll}
 use Rattle.paths.specs.inner.Sections.{sectionLeast}
 use Rattle.paths.proofs.Capped.{min-same-in}
 use Rattle.paths.proofs.Sections.{across, least-step}
-use Rattle.sweep.specs.inner.Rows.{top, Fits, Placed, Priced, Rows, Swept}
-use Rattle.sweep.specs.inner.Loops.{through, InClear, Lowered, InSweep}
+use Rattle.sweep.specs.inner.Rows.{noCost, Fits, Placed, Priced, Rows, Swept}
+use Rattle.sweep.specs.inner.Loops.{through, RowCleared, Lowered, InSweep}
 use Rattle.sweep.proofs.Edges.{edges-are, known}
 use Rattle.trellis.proofs.Laid.{before-more}
 
 -- what an edge of step t gives
 pub through-is : {l prices rows : List ℕ} {cost : ℕ → ℕ → ℕ} {number : ℕ → ℕ} {t : ℕ} → Fits l → t < nOf l → Priced l prices cost → Rows l cost number (suc t) rows
-    → (v : ℕ) (e : Edge) → e ∈ leaving v (stepEdges l t) → through prices rows t e ≡ across (stepEdges l) cost top number (nOf l - suc t) t e
+    → (v : ℕ) (e : Edge) → e ∈ leaving v (stepEdges l t) → through prices rows t e ≡ across (stepEdges l) cost noCost number (nOf l - suc t) t e
 through-is {l} {t = t} F h P R v e m =
     let K = known F h e m in
-    ap₂ (plus top) (P .at t (e .symbol) h (K .symbol-lt)) (R .at (suc t) (e .to) (omega arith) (omega arith) (K .to-in))
+    ap₂ (plus noCost) (P .at t (e .symbol) h (K .symbol-lt)) (R .at (suc t) (e .to) (omega arith) (omega arith) (K .to-in))
 
 rows-step : {l prices cleared new : List ℕ} {cost : ℕ → ℕ → ℕ} {number : ℕ → ℕ} {t lo hi : ℕ} → Fits l → t < nOf l → lo ≡ edgesBefore l t → hi ≡ edgesBefore l (suc t)
     → Priced l prices cost → Rows l cost number (suc t) cleared → Lowered l prices t lo hi cleared new → Rows l cost number t new
 rows-step {l} {prices} {cleared} {new} {cost} {number} {t} {lo} {hi} F h p q P R L = record { at = at }
   where
-    here : (v : ℕ) → v < vertexCountOf l t → getD new (mostWords * t + v) 0 ≡ sectionLeast (stepEdges l) cost top number (nOf l - t) t v
+    here : (v : ℕ) → v < vertexCountOf l t → getD new (mostWords * t + v) 0 ≡ sectionLeast (stepEdges l) cost noCost number (nOf l - t) t v
     here v k =
         let e : nOf l - t ≡ suc (nOf l - suc t) = omega arith in
-        L .at v k ∙ ap (λ es. minAll top (through prices cleared t) (leaving v es)) (edges-are l t p q)
-        ∙ min-same-in top (leaving v (stepEdges l t)) (through-is F h P R v)
-        ∙ sym (ap (λ j. sectionLeast (stepEdges l) cost top number j t v) e ∙ least-step (stepEdges l) cost top number (nOf l - suc t) t v)
+        L .at v k ∙ ap (λ es. minAll noCost (through prices cleared t) (leaving v es)) (edges-are l t p q)
+        ∙ min-same-in noCost (leaving v (stepEdges l t)) (through-is F h P R v)
+        ∙ sym (ap (λ j. sectionLeast (stepEdges l) cost noCost number j t v) e ∙ least-step (stepEdges l) cost noCost number (nOf l - suc t) t v)
 
-    at : (u v : ℕ) → t ≤ u → u ≤ nOf l → v < vertexCountOf l u → getD new (mostWords * u + v) 0 ≡ sectionLeast (stepEdges l) cost top number (nOf l - u) u v
+    at : (u v : ℕ) → t ≤ u → u ≤ nOf l → v < vertexCountOf l u → getD new (mostWords * u + v) 0 ≡ sectionLeast (stepEdges l) cost noCost number (nOf l - u) u v
     at u v a b k = go (decLe (suc t) u)
       where
-        go : Dec (suc t ≤ u) → getD new (mostWords * u + v) 0 ≡ sectionLeast (stepEdges l) cost top number (nOf l - u) u v
+        go : Dec (suc t ≤ u) → getD new (mostWords * u + v) 0 ≡ sectionLeast (stepEdges l) cost noCost number (nOf l - u) u v
         go (yes c) = L .kept (mostWords * u + v) (omega arith) ∙ R .at u v c b k
         go (no c) =
             let e : t ≡ u = omega arith in
-            subst (λ w. v < vertexCountOf l w → getD new (mostWords * w + v) 0 ≡ sectionLeast (stepEdges l) cost top number (nOf l - w) w v) e (here v) k
+            subst (λ w. v < vertexCountOf l w → getD new (mostWords * w + v) 0 ≡ sectionLeast (stepEdges l) cost noCost number (nOf l - w) w v) e (here v) k
 
-rows-kept : {l old new : List ℕ} {cost : ℕ → ℕ → ℕ} {number : ℕ → ℕ} {t count : ℕ} → InClear t count old new count → Rows l cost number (suc t) old → Rows l cost number (suc t) new
+rows-kept : {l old new : List ℕ} {cost : ℕ → ℕ → ℕ} {number : ℕ → ℕ} {t count : ℕ} → RowCleared t count old new count → Rows l cost number (suc t) old → Rows l cost number (suc t) new
 rows-kept I R = record { at = λ u v a b k. I .kept (mostWords * u + v) (omega arith) ∙ R .at u v a b k }
 
 -- ---- the loop over the steps
@@ -87,7 +87,7 @@ last-fits {l} {n = n} {t} {hi} {count} e I h p =
     omega arith
 
 pub sweep-more : {l prices old rows cleared new : List ℕ} {n t hi lo count : ℕ} → Fits l → n ≡ nOf l → InSweep l prices old rows n t hi → 0 < t
-    → LastStep l (t - 1) lo hi → InClear (t - 1) count rows cleared count → Lowered l prices (t - 1) lo hi cleared new → InSweep l prices old new n (t - 1) lo
+    → LastStep l (t - 1) lo hi → RowCleared (t - 1) count rows cleared count → Lowered l prices (t - 1) lo hi cleared new → InSweep l prices old new n (t - 1) lo
 sweep-more {l} {prices} {old} {rows} {cleared} {new} {n} {t} F e I h S C L =
     let a : t ≡ suc (t - 1) = omega arith in
     record {

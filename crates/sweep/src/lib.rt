@@ -6,16 +6,19 @@ ghost use lib.ListN.{length};
 ghost use Rattle.trellis.specs.Bounds.{mostWords, mostSymbols};
 ghost use Rattle.trellis.specs.Layout.{allEdges};
 ghost use Rattle.paths.specs.inner.Costs.{plus};
-ghost use Rattle.sweep.specs.inner.Rows.{top, Fits, Placed, Swept};
-ghost use Rattle.sweep.specs.inner.Loops.{InStep, Reads, EdgeAt, InClear, Clear, Lowered};
+ghost use Rattle.sweep.specs.inner.Rows.{noCost, Fits, Placed, Swept};
+ghost use Rattle.sweep.specs.inner.Loops.{InStep, Reads, EdgeAt, RowCleared, Clear, Lowered};
 use numbers::wide;
+use trellis::MOST_Q;
+use trellis::MOST_SYMBOLS;
+use trellis::MOST_WORDS;
 
 // No path.
 pub const TOP: u64 = 18446744073709551615;
 
 // d more to pay; from TOP on there is no path.
 fn pay(d: u64, x: u64) -> u64
-    ensures { λ r. ⌜ r ≡ plus top d x ⌝ }
+    ensures { λ r. ⌜ r ≡ plus noCost d x ⌝ }
 {
     if x > TOP - d { TOP } else { d + x }
 }
@@ -73,13 +76,13 @@ fn edge_at(l: &[u16], pairs: usize, symbols: usize, i: usize) -> Edge
 }
 
 // No path yet from the first vertices of depth t.
-fn clear(t: usize, count: usize, rows: &mut [u64; 9216])
+fn clear(t: usize, count: usize, rows: &mut [u64; (MOST_SYMBOLS + 1) * MOST_WORDS])
     requires { ⌜ (t ≤ mostSymbols) × (count ≤ mostWords) × (length (now rows) ≡ 9216) ⌝ }
-    ensures { λ _. ⌜ InClear t count (now (rows .entry)) (now (rows .exit)) count ⌝ }
+    ensures { λ _. ⌜ RowCleared t count (now (rows .entry)) (now (rows .exit)) count ⌝ }
 {
     let mut v: usize = 0;
     while v < count {
-        rows[1024 * t + v] = TOP;
+        rows[MOST_WORDS * t + v] = TOP;
         v += 1;
     }
 }
@@ -92,8 +95,8 @@ fn lower(
     lo: usize,
     hi: usize,
     t: usize,
-    prices: &[u64; 32],
-    rows: &mut [u64; 9216],
+    prices: &[u64; MOST_Q * MOST_SYMBOLS],
+    rows: &mut [u64; (MOST_SYMBOLS + 1) * MOST_WORDS],
 )
     requires { ⌜ Reads (now l) pairs symbols × InStep (now l) t lo hi × Clear (now l) t (now rows) ⌝ }
     ensures { λ _. ⌜ Lowered (now (l .entry)) (now (prices .entry)) t lo hi (now (rows .entry)) (now (rows .exit)) ⌝ }
@@ -101,9 +104,9 @@ fn lower(
     let mut i = lo;
     while i < hi {
         let e = edge_at(l, pairs, symbols, i);
-        let from = 1024 * t + e.from;
+        let from = MOST_WORDS * t + e.from;
         let symbol = 4 * t + wide(e.symbol);
-        let to = 1024 * (t + 1) + e.to;
+        let to = MOST_WORDS * (t + 1) + e.to;
         let here = pay(prices[symbol], rows[to]);
         rows[from] = lesser(rows[from], here);
         i += 1;
@@ -111,7 +114,12 @@ fn lower(
 }
 
 // All rows, from the row of depth n.
-pub fn sweep(l: &[u16], at: Places, prices: &[u64; 32], rows: &mut [u64; 9216])
+pub fn sweep(
+    l: &[u16],
+    at: Places,
+    prices: &[u64; MOST_Q * MOST_SYMBOLS],
+    rows: &mut [u64; (MOST_SYMBOLS + 1) * MOST_WORDS],
+)
     requires { ⌜ Fits (now l) × Placed (now l) (at .n) (at .roots) (at .goals) (at .pairs) (at .symbols) (at .edges) × (length (now rows) ≡ 9216) ⌝ }
     ensures { λ _. ⌜ Swept (now (l .entry)) (now (prices .entry)) (now (rows .entry)) (now (rows .exit)) ⌝ }
 {

@@ -20,7 +20,7 @@ use Rattle.trellis.proofs.ThreeNumbers.{lower-yes}
 use Rattle.trellis.proofs.Words.{ascends-all}
 use Rattle.table.specs.File.{byteAt, wordCount, fileWord, fileWords, lengthBad, outside, sizeOutside, wordOutside, wordBad, isBefore, orderBad}
 use Rattle.table.specs.File.{firstSize, firstBad, firstNotAbove, TableFile, refused, accepted, tableFile, fileOutcome}
-use Rattle.table.specs.inner.Good.{Passes, Good}
+use Rattle.table.specs.inner.Good.{Passes, GoodFile}
 use Rattle.table.proofs.Search.{none-passes, nothing-found}
 use Rattle.table.proofs.Checks.{words-length}
 
@@ -133,7 +133,7 @@ module _ (file : List ℕ) where
               rw (word-at-is i a, word-at-is (suc i) b) (above-at i b));
         }
 
-    pub passes-good : Good file (byteAt file 0) (byteAt file 1) (byteAt file 2) (fileWords file)
+    pub passes-good : GoodFile file (byteAt file 0) (byteAt file 1) (byteAt file 2) (fileWords file)
     passes-good =
         let l = words-length file in
         let e = length-right in
@@ -165,7 +165,7 @@ module _ (file : List ℕ) where
   pub accepted-passes : {q n S : ℕ} {words : List Word} → tableFile file ≡ accepted q n S words → Passes file
   accepted-passes e = zero-passes (ap (λ t. fileOutcome t .number) e)
 
-  pub accepted-good : {q n S : ℕ} {words : List Word} → tableFile file ≡ accepted q n S words → Good file q n S words
+  pub accepted-good : {q n S : ℕ} {words : List Word} → tableFile file ≡ accepted q n S words → GoodFile file q n S words
   accepted-good {q} {n} {S} {words} e =
       let p = accepted-passes e in
       let x = passes-accepted p in
@@ -176,5 +176,5 @@ module _ (file : List ℕ) where
       rw (a, b, d, f) (passes-good p)
 
   -- word i of an accepted table, as the code reads it
-  pub good-at : {q n S : ℕ} {words : List Word} → Good file q n S words → (i : ℕ) → i < length words → wordAt words i ≡ fileWord file i
+  pub good-at : {q n S : ℕ} {words : List Word} → GoodFile file q n S words → (i : ℕ) → i < length words → wordAt words i ≡ fileWord file i
   good-at g i h = let l = g .countIs in let k : i < wordCount file = omega arith in rw (g .wordsAre) (word-at-is i k)

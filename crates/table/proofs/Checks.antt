@@ -12,7 +12,7 @@ use Rattle.trellis.specs.Word as trellis
 use Rattle.trellis.proofs.Lists.{length-run}
 use Rattle.table.specs.File.{byteAt, wordCount, fileWord, fileWords, lengthBad, wordOutside, wordBad, isBefore, orderBad}
 use Rattle.table.specs.File.{firstSize, firstBad, firstNotAbove, tableFile, fileOutcome}
-use Rattle.table.specs.inner.Answer.{checkedOutcome, held, meant}
+use Rattle.table.specs.inner.Answer.{checkedOutcome, heldWord, meantWord}
 use Rattle.table.specs.declared.Word.{Word}
 use Rattle.table.specs.declared.Checked.the-variants.{Table, Length, Size, Word as BadWord, Order}
 use Rattle.table.proofs.Search.{Clear, clear-start, clear-next, clear-found, clear-all}
@@ -34,7 +34,7 @@ module _ (q n S : ℕ) (w : trellis.Word) where
     by-label k e = simp (lt-ltb _ _ h, lt-ltb _ _ k, e)
 
 pub word-bad-is : (file : List ℕ) (i : ℕ) {q n S : ℕ} {w : Word} {b : Bool} → q ≡ byteAt file 0 → n ≡ byteAt file 1 → S ≡ byteAt file 2
-    → w ≡ held (fileWord file i) → b ≡ wordOutside q n S (meant w) → b ≡ wordBad file i
+    → w ≡ heldWord (fileWord file i) → b ≡ wordOutside q n S (meantWord w) → b ≡ wordBad file i
 unfolding wordBad
 word-bad-is file i d e f g h = h ∙ simp (d, e, f, g)
 
@@ -44,32 +44,32 @@ word-bad-is file i d e f g h = h ∙ simp (d, e, f, g)
 pub record Ascending (file : List ℕ) (w : Word) (i : ℕ) : Type 0 where
   pub clear : Clear (orderBad file) (wordCount file) i
   pub some : 0 < i
-  pub last : w ≡ held (fileWord file (i - 1))
+  pub last : w ≡ heldWord (fileWord file (i - 1))
 
 pub no-words : (file : List ℕ) {m : ℕ} → m ≡ wordCount file → m ≡ 0 → 0 ≡ firstNotAbove file
 no-words file d e = clear-all clear-start (omega arith)
 
-order-bad-is : (file : List ℕ) (i : ℕ) {v w : Word} {b : Bool} → 0 < i → v ≡ held (fileWord file (i - 1)) → w ≡ held (fileWord file i)
-    → b ≡ isBefore (meant v) (meant w) → not b ≡ orderBad file i
+order-bad-is : (file : List ℕ) (i : ℕ) {v w : Word} {b : Bool} → 0 < i → v ≡ heldWord (fileWord file (i - 1)) → w ≡ heldWord (fileWord file i)
+    → b ≡ isBefore (meantWord v) (meantWord w) → not b ≡ orderBad file i
 unfolding orderBad
 order-bad-is file zero h d e f = absurd (omega arith)
 order-bad-is file (suc i) h d e f = let q : suc i - 1 ≡ i = omega arith in simp (f, d, e, q)
 
 module _ {file : List ℕ} where
-  pub ascending-start : {w : Word} → 0 < wordCount file → w ≡ held (fileWord file 0) → Ascending file w 1
+  pub ascending-start : {w : Word} → 0 < wordCount file → w ≡ heldWord (fileWord file 0) → Ascending file w 1
   unfolding orderBad
   ascending-start h e = record { clear = clear-next clear-start h refl; some = omega arith; last = e }
 
-  pub ascending-next : {v w : Word} {i : ℕ} {b : Bool} → Ascending file v i → i < wordCount file → w ≡ held (fileWord file i)
-      → b ≡ isBefore (meant v) (meant w) → not b ≡ false → Ascending file w (i + 1)
+  pub ascending-next : {v w : Word} {i : ℕ} {b : Bool} → Ascending file v i → i < wordCount file → w ≡ heldWord (fileWord file i)
+      → b ≡ isBefore (meantWord v) (meantWord w) → not b ≡ false → Ascending file w (i + 1)
   ascending-next {v} {w} {i} r h e f t = record {
     clear = clear-next (r .clear) h (sym (order-bad-is file i (r .some) (r .last) e f) ∙ t);
     some = omega arith;
     last = let q : i + 1 - 1 ≡ i = omega arith in rw q e;
   }
 
-  pub ascending-found : {v w : Word} {i : ℕ} {b : Bool} → Ascending file v i → i < wordCount file → w ≡ held (fileWord file i)
-      → b ≡ isBefore (meant v) (meant w) → not b ≡ true → i ≡ firstNotAbove file
+  pub ascending-found : {v w : Word} {i : ℕ} {b : Bool} → Ascending file v i → i < wordCount file → w ≡ heldWord (fileWord file i)
+      → b ≡ isBefore (meantWord v) (meantWord w) → not b ≡ true → i ≡ firstNotAbove file
   ascending-found {v} {w} {i} r h e f t = clear-found (r .clear) h (sym (order-bad-is file i (r .some) (r .last) e f) ∙ t)
 
   pub ascending-all : {v : Word} {i : ℕ} → Ascending file v i → wordCount file ≤ i → i ≡ firstNotAbove file

@@ -17,7 +17,7 @@ use Rattle.trellis.proofs.Lists.{in-each}
 use Rattle.trellis.proofs.ThreeNumbers.{lower-of}
 use Rattle.table.specs.File.{byteAt, wordCount, fileWord, fileWords, lengthBad, outside, sizeOutside, wordOutside, wordBad, isBefore, orderBad}
 use Rattle.table.specs.File.{TableFile, refused, accepted, tableFile, fileOutcome}
-use Rattle.table.specs.inner.Good.{Passes, Good}
+use Rattle.table.specs.inner.Good.{Passes, GoodFile}
 use Rattle.table.specs.inner.Answer.{checkedOutcome, isTable}
 use Rattle.table.specs.declared.Checked.{Checked}
 use Rattle.table.specs.declared.Checked.the-variants.{Table, Length, Size, Word as BadWord, Order}
@@ -63,7 +63,7 @@ module _ (file : List ℕ) where
   in-words i h = in-each (fileWord file) (wordCount file) i (fileWord file i) h refl
 
   -- the sizes and the words are those of the file, and nothing else is free in `Good`
-  module _ (g : Good file (byteAt file 0) (byteAt file 1) (byteAt file 2) (fileWords file)) where
+  module _ (g : GoodFile file (byteAt file 0) (byteAt file 1) (byteAt file 2) (fileWords file)) where
     good-sizes : (place : ℕ) → place < 4 → sizeOutside file place ≡ false
     unfolding sizeOutside
     good-sizes zero h = not-outside (byteAt file 0) leastQ mostQ (g .qFrom) (g .qTo)
@@ -97,8 +97,8 @@ module _ (file : List ℕ) where
       wordsAscend = good-order;
     }
 
-  module _ {q n S : ℕ} {words : List Word} (g : Good file q n S words) where
-    same : Good file (byteAt file 0) (byteAt file 1) (byteAt file 2) (fileWords file)
+  module _ {q n S : ℕ} {words : List Word} (g : GoodFile file q n S words) where
+    same : GoodFile file (byteAt file 0) (byteAt file 1) (byteAt file 2) (fileWords file)
     same = rw (g .qIs, g .nIs, g .statesIs, g .wordsAre) at g
 
     pub good-passes : Passes file

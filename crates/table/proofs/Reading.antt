@@ -9,7 +9,7 @@ use lib.Dec.{eqb}
 use borrow.Author.Tests.{lt-ltb, le-ltb}
 use Rattle.trellis.specs.Bounds.{mostStates, mostWords, leastQ, mostQ}
 use Rattle.table.specs.File.{byteAt, twoBytes, wordCount, fileWord, lengthBad, outside, sizeOutside}
-use Rattle.table.specs.inner.Answer.{held, foundAt}
+use Rattle.table.specs.inner.Answer.{heldWord, foundAt}
 use Rattle.table.specs.inner.ReadOn.{placeAfter}
 use Rattle.table.specs.declared.Word.{Word}
 use Rattle.table.specs.declared.Found.the-variants.{Word as Here, Nothing}
@@ -36,7 +36,7 @@ module _ (file : List ℕ) where
   long h a = simp (le-ltb _ _ h, a)
 
   pub held-is : (i : ℕ) {r l g : ℕ} → r ≡ fileWord file i .root → l ≡ fileWord file i .label → g ≡ fileWord file i .goal
-      → record { root = r; label = l; goal = g } ≡ held (fileWord file i)
+      → record { root = r; label = l; goal = g } ≡ heldWord (fileWord file i)
   held-is i a b d = simp (a, b, d)
 
   -- the four sizes, each with its bounds
@@ -65,7 +65,7 @@ module _ (file : List ℕ) where
   unfolding foundAt
   nothing-past a e x h = simp (sym a, e, sym x, le-ltb _ _ h)
 
-  pub here : {i w : ℕ} {b : Bool} {k : Word} → b ≡ lengthBad file → b ≡ false → w ≡ wordCount file → i < w → k ≡ held (fileWord file i)
+  pub here : {i w : ℕ} {b : Bool} {k : Word} → b ≡ lengthBad file → b ≡ false → w ≡ wordCount file → i < w → k ≡ heldWord (fileWord file i)
       → Here k ≡ foundAt file i
   unfolding foundAt
   here a e x h f = simp (sym a, e, sym x, lt-ltb _ _ h, f)

@@ -3,13 +3,24 @@
 ghost use mathlib.Core.Path.{_≡_};
 ghost use Rattle.table.specs.File.{byteAt, twoBytes, wordCount, fileWord, lengthBad, outside, wordOutside, isBefore};
 ghost use Rattle.table.specs.File.{firstSize, firstBad, firstNotAbove, tableFile, fileOutcome};
-ghost use Rattle.table.specs.inner.Answer.{checkedOutcome, held, meant, foundAt};
+ghost use Rattle.table.specs.inner.Answer.{checkedOutcome, heldWord, meantWord, foundAt};
 use label::is_label;
 use label::precedes;
 
 pub mod reader;
 
 use reader::word_through;
+
+// Document 01's bounds as numbers of the width that they are compared in.
+const LEAST_Q: u16 = trellis::LEAST_Q as u16;
+
+const MOST_Q: u16 = trellis::MOST_Q as u16;
+
+const MOST_SYMBOLS: u16 = trellis::MOST_SYMBOLS as u16;
+
+const MOST_STATES: u16 = trellis::MOST_STATES as u16;
+
+const MOST_WORDS: u16 = trellis::MOST_WORDS as u16;
 
 // The answer to a file: its sizes, or why it is refused. A variant for a refusal has the number that document 01 returns with it.
 pub enum Checked {
@@ -79,7 +90,7 @@ fn label_at(file: &[u8], i: u16) -> u16
 
 // The word decoder that a reader calls.
 fn word_of(file: &[u8], i: u16) -> Word
-    ensures { λ r. ⌜ r ≡ held (fileWord (now (file .entry)) i) ⌝ }
+    ensures { λ r. ⌜ r ≡ heldWord (fileWord (now (file .entry)) i) ⌝ }
 {
     Word {
         root: root_at(file, i),
@@ -127,23 +138,23 @@ fn byte_outside(file: &[u8], at: usize, low: u16, high: u16) -> bool
 fn first_size(file: &[u8]) -> usize
     ensures { λ r. ⌜ r ≡ firstSize (now (file .entry)) ⌝ }
 {
-    if byte_outside(file, 0, 2, 4) {
+    if byte_outside(file, 0, LEAST_Q, MOST_Q) {
         return 0;
     }
-    if byte_outside(file, 1, 1, 8) {
+    if byte_outside(file, 1, 1, MOST_SYMBOLS) {
         return 1;
     }
-    if byte_outside(file, 2, 1, 64) {
+    if byte_outside(file, 2, 1, MOST_STATES) {
         return 2;
     }
-    if is_outside(word_count(file), 1, 1024) {
+    if is_outside(word_count(file), 1, MOST_WORDS) {
         return 3;
     }
     4
 }
 
 fn word_outside(w: Word, q: u8, n: u8, states: u8) -> bool
-    ensures { λ r. ⌜ r ≡ wordOutside q n states (meant w) ⌝ }
+    ensures { λ r. ⌜ r ≡ wordOutside q n states (meantWord w) ⌝ }
 {
     if w.root >= states {
         return true;
@@ -173,7 +184,7 @@ fn first_bad(file: &[u8]) -> u16
 }
 
 fn is_before(v: Word, w: Word) -> bool
-    ensures { λ r. ⌜ r ≡ isBefore (meant v) (meant w) ⌝ }
+    ensures { λ r. ⌜ r ≡ isBefore (meantWord v) (meantWord w) ⌝ }
 {
     if v.root < w.root {
         return true;

@@ -2,7 +2,7 @@
 // functions that take a slice and an index.
 ghost use mathlib.Core.Path.{_≡_};
 ghost use Rattle.table.specs.File.{fileWord};
-ghost use Rattle.table.specs.inner.Answer.{held, foundAt};
+ghost use Rattle.table.specs.inner.Answer.{heldWord, foundAt};
 ghost use Rattle.table.specs.inner.ReadOn.{placeAfter};
 use crate::Found;
 use crate::Word;
@@ -37,7 +37,7 @@ pub fn position<'a>(r: Reader<'a>) -> u16
 
 // The word that comes next, without moving on. Past the end it reads bytes that are not there as 0, so that it needs no condition.
 pub fn word_here<'a>(r: Reader<'a>) -> Word
-    ensures { λ w. ⌜ w ≡ held (fileWord (now (r .entry .file)) (r .entry .at)) ⌝ }
+    ensures { λ w. ⌜ w ≡ heldWord (fileWord (now (r .entry .file)) (r .entry .at)) ⌝ }
 {
     word_of(r.file, r.at)
 }
@@ -75,7 +75,7 @@ pub fn next<'s, 'a>(r: &'s mut Reader<'a>) -> Found
 
 // Word i, read through a reader that is placed there: what the rest of the kit calls, since its parameters are plain.
 pub fn word_through(file: &[u8], i: u16) -> Word
-    ensures { λ w. ⌜ w ≡ held (fileWord (now (file .entry)) i) ⌝ }
+    ensures { λ w. ⌜ w ≡ heldWord (fileWord (now (file .entry)) i) ⌝ }
 {
     word_here(placed(file, i))
 }

@@ -25,7 +25,7 @@ use Rattle.depths.proofs.Words.{held-length}
 use Rattle.depths.proofs.Starts.{starts-are}
 use Rattle.depths.proofs.Firsts.{row-small, firsts-are, ends-now}
 use Rattle.witness.specs.inner.Search.{asWitness, FirstIn}
-use Rattle.witness.specs.inner.Rows.{Asked, SearchRows, hasEnding, refutesIn}
+use Rattle.witness.specs.inner.Rows.{InnerDepth, SearchRows, hasEnding, refutesIn}
 use Rattle.witness.specs.declared.Witness.{Witness}
 use Rattle.witness.proofs.Search.{first-cong, first-is}
 use Rattle.witness.proofs.Endings.{ending-yes, ending-of}
@@ -87,14 +87,14 @@ pub record InRows (n t : ℕ) (roots labels goals row : List ℕ) (u : ℕ) : Ty
   pub ends : EndingRow n (words roots labels goals) u row
   pub firsts : u < n → FirstRow (length (words roots labels goals)) row
 
-pub rows-none : {n t : ℕ} {roots labels goals row : List ℕ} → Asked n t roots labels goals → EndingRow n (words roots labels goals) n row
+pub rows-none : {n t : ℕ} {roots labels goals row : List ℕ} → InnerDepth n t roots labels goals → EndingRow n (words roots labels goals) n row
     → InRows n t roots labels goals row n
 rows-none Q E = record { from = omega (arith, Q .deep); le = omega arith; ends = E; firsts = λ h. absurd (omega arith) }
 
-pub rows-small : {n t : ℕ} {roots labels goals row : List ℕ} {u : ℕ} → Asked n t roots labels goals → InRows n t roots labels goals row u → Small (length labels) row
+pub rows-small : {n t : ℕ} {roots labels goals row : List ℕ} {u : ℕ} → InnerDepth n t roots labels goals → InRows n t roots labels goals row u → Small (length labels) row
 rows-small Q c = row-small (Q .held) (c .ends)
 
-pub rows-more : {n t : ℕ} {roots labels goals row new : List ℕ} {u : ℕ} → Asked n t roots labels goals → InRows n t roots labels goals row u
+pub rows-more : {n t : ℕ} {roots labels goals row new : List ℕ} {u : ℕ} → InnerDepth n t roots labels goals → InRows n t roots labels goals row u
     → Row (length labels) (firstLike (rowKey labels n (u - 1) row)) new → t < u → InRows n t roots labels goals new (u - 1)
 rows-more {n} {t} {roots} {labels} {goals} {row} {new} {u} Q c B h =
     let e : u ≡ suc (u - 1) = omega arith in
@@ -107,7 +107,7 @@ rows-more {n} {t} {roots} {labels} {goals} {row} {new} {u} Q c B h =
       firsts = λ l. first-row (length (words roots labels goals)) (stepKey n (words roots labels goals) (u - 1) (at row)) new (firsts-are (Q .held) (u - 1) d E B);
     }
 
-module _ {n t : ℕ} {roots labels goals starts : List ℕ} (Q : Asked n t roots labels goals) (A : Row (length roots) (runStart (joins roots labels n t)) starts) where
+module _ {n t : ℕ} {roots labels goals starts : List ℕ} (Q : InnerDepth n t roots labels goals) (A : Row (length roots) (runStart (joins roots labels n t)) starts) where
   abbrev table : List Word
   table = words roots labels goals
 

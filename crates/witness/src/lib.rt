@@ -10,8 +10,9 @@ ghost use Rattle.trellis.specs.Witness.{witnessAt};
 ghost use Rattle.depths.specs.inner.Words.{words};
 ghost use Rattle.depths.specs.inner.Rows.{at};
 ghost use Rattle.witness.specs.inner.Search.{asWitness, NoneFrom, NoneBefore, Next, FirstIn};
-ghost use Rattle.witness.specs.inner.Rows.{Asked, SearchRows, inRun, hasEnding, refutesIn, Within};
+ghost use Rattle.witness.specs.inner.Rows.{InnerDepth, SearchRows, inRun, hasEnding, refutesIn, Within};
 use numbers::wide;
+use trellis::MOST_WORDS;
 
 pub enum Witness {
     At(usize, usize, usize),
@@ -19,7 +20,7 @@ pub enum Witness {
 }
 
 // Whether l is a word of the run that starts at a.
-fn in_run(starts: &[u16; 1024], w: usize, a: u16, l: usize) -> bool
+fn in_run(starts: &[u16; MOST_WORDS], w: usize, a: u16, l: usize) -> bool
     requires { ⌜ w ≤ mostWords ⌝ }
     ensures { λ r. ⌜ r ≡ inRun (now (starts .entry)) w a l ⌝ }
 {
@@ -27,7 +28,13 @@ fn in_run(starts: &[u16; 1024], w: usize, a: u16, l: usize) -> bool
 }
 
 // Whether the run of k has the ending of j. If j is of that run, it has.
-fn has_ending(starts: &[u16; 1024], firsts: &[u16; 1024], w: usize, k: usize, j: usize) -> bool
+fn has_ending(
+    starts: &[u16; MOST_WORDS],
+    firsts: &[u16; MOST_WORDS],
+    w: usize,
+    k: usize,
+    j: usize,
+) -> bool
     requires { ⌜ SearchRows w (now starts) (now firsts) × (k < w) × (j < w) ⌝ }
     ensures { λ r. ⌜ r ≡ hasEnding (now (starts .entry)) (now (firsts .entry)) w k j ⌝ }
 {
@@ -48,8 +55,8 @@ fn has_ending(starts: &[u16; 1024], firsts: &[u16; 1024], w: usize, k: usize, j:
 
 // Whether words i, j, k refute the table at the rows' depth.
 fn refutes(
-    starts: &[u16; 1024],
-    firsts: &[u16; 1024],
+    starts: &[u16; MOST_WORDS],
+    firsts: &[u16; MOST_WORDS],
     w: usize,
     i: usize,
     j: usize,
@@ -76,7 +83,13 @@ fn more_if_equal(j: usize, x: u16, y: u16) -> usize
 }
 
 // True only if each ending of i's run is in k's. Endings ascend along a run, so one walk along both runs tells.
-fn run_within(starts: &[u16; 1024], firsts: &[u16; 1024], w: usize, i: usize, k: usize) -> bool
+fn run_within(
+    starts: &[u16; MOST_WORDS],
+    firsts: &[u16; MOST_WORDS],
+    w: usize,
+    i: usize,
+    k: usize,
+) -> bool
     requires { ⌜ SearchRows w (now starts) (now firsts) × (i < w) × (k < w) ⌝ }
     ensures { λ r. ⌜ (r ≡ true → Within (now (starts .entry)) (now (firsts .entry)) w i k) ⌝ }
 {
@@ -97,7 +110,13 @@ fn run_within(starts: &[u16; 1024], firsts: &[u16; 1024], w: usize, i: usize, k:
 }
 
 // True only if k has another ending than i, or each ending of i's run is in k's.
-fn within_if_alike(starts: &[u16; 1024], firsts: &[u16; 1024], w: usize, i: usize, k: usize) -> bool
+fn within_if_alike(
+    starts: &[u16; MOST_WORDS],
+    firsts: &[u16; MOST_WORDS],
+    w: usize,
+    i: usize,
+    k: usize,
+) -> bool
     requires { ⌜ SearchRows w (now starts) (now firsts) × (i < w) × (k < w) ⌝ }
     ensures { λ r. ⌜ (r ≡ true → at (now (firsts .entry)) i ≡ at (now (firsts .entry)) k → Within (now (starts .entry)) (now (firsts .entry)) w i k) ⌝ }
 {
@@ -109,7 +128,7 @@ fn within_if_alike(starts: &[u16; 1024], firsts: &[u16; 1024], w: usize, i: usiz
 
 // True only if no witness begins with i, where none begins with an earlier word. If an earlier word has the ending of i and its run has all endings of i's run,
 // then a witness that begins with i would give one that begins with that word. Otherwise all runs with i's ending are looked at.
-fn begins_none(starts: &[u16; 1024], firsts: &[u16; 1024], w: usize, i: usize) -> bool
+fn begins_none(starts: &[u16; MOST_WORDS], firsts: &[u16; MOST_WORDS], w: usize, i: usize) -> bool
     requires { ⌜ SearchRows w (now starts) (now firsts) × (i < w) ⌝ }
     ensures { λ r. ⌜ (r ≡ true → NoneBefore (refutesIn (now (starts .entry)) (now (firsts .entry)) w) w i → NoneFrom (refutesIn (now (starts .entry)) (now (firsts .entry)) w) w i) ⌝ }
 {
@@ -128,7 +147,12 @@ fn begins_none(starts: &[u16; 1024], firsts: &[u16; 1024], w: usize, i: usize) -
 }
 
 // The next word, i or a later one, from which a witness may begin.
-fn next_candidate(starts: &[u16; 1024], firsts: &[u16; 1024], w: usize, i: usize) -> usize
+fn next_candidate(
+    starts: &[u16; MOST_WORDS],
+    firsts: &[u16; MOST_WORDS],
+    w: usize,
+    i: usize,
+) -> usize
     requires { ⌜ SearchRows w (now starts) (now firsts) × NoneBefore (refutesIn (now starts) (now firsts) w) w i ⌝ }
     ensures { λ r. ⌜ Next (refutesIn (now (starts .entry)) (now (firsts .entry)) w) w i r ⌝ }
 {
@@ -143,7 +167,7 @@ fn next_candidate(starts: &[u16; 1024], firsts: &[u16; 1024], w: usize, i: usize
 }
 
 // The first i, then j, then k that refute the table. No j before i's run begins like i, and no k before the first word with i's ending ends like i.
-fn first_witness(starts: &[u16; 1024], firsts: &[u16; 1024], w: usize) -> Witness
+fn first_witness(starts: &[u16; MOST_WORDS], firsts: &[u16; MOST_WORDS], w: usize) -> Witness
     requires { ⌜ SearchRows w (now starts) (now firsts) ⌝ }
     ensures { λ r. ⌜ FirstIn (refutesIn (now (starts .entry)) (now (firsts .entry)) w) w r ⌝ }
 {
@@ -170,12 +194,12 @@ fn first_witness(starts: &[u16; 1024], firsts: &[u16; 1024], w: usize) -> Witnes
 
 // The first words i, j, k that refute the table at the inner depth t.
 pub fn find_witness(roots: &[u8], labels: &[u16], goals: &[u8], n: usize, t: usize) -> Witness
-    requires { ⌜ Asked n t (now roots) (now labels) (now goals) ⌝ }
+    requires { ⌜ InnerDepth n t (now roots) (now labels) (now goals) ⌝ }
     ensures { λ r. ⌜ asWitness t r ≡ witnessAt n (words (now (roots .entry)) (now (labels .entry)) (now (goals .entry))) t ⌝ }
 {
-    let mut starts = [0u16; 1024];
+    let mut starts = [0u16; MOST_WORDS];
     depths::put_starts(roots, labels, n, t, &mut starts);
-    let mut row = [0u16; 1024];
+    let mut row = [0u16; MOST_WORDS];
     depths::put_goals(goals, &mut row);
     let mut u = n;
     while u > t {

@@ -10,14 +10,14 @@ use Rattle.layout.specs.inner.States.{marksBelow, markedBelow, Bits}
 use Rattle.layout.specs.inner.Pieces.{SmallMap, stepTakers, Taken, stepPairs, stepSymbols}
 
 -- the first numbers of an array, count of them
-abbrev pub firstOf : List ℕ → ℕ → List ℕ
-firstOf l count = each (λ k. getD l k 0) count
+abbrev pub firstNumbers : List ℕ → ℕ → List ℕ
+firstNumbers l count = each (λ k. getD l k 0) count
 
 -- document 01's layout of the parts
 unfoldable pub numbersOf : ℕ → ℕ → ℕ → List ℕ → List ℕ → List ℕ → List ℕ → List ℕ → List ℕ → List ℕ
 numbersOf q n states counts edgeCounts rootMarks goalMarks m labels =
     q ∷ n ∷ states ∷
-    (firstOf counts (suc n) ++ (firstOf edgeCounts n ++ (markedBelow rootMarks mostStates ++ (markedBelow goalMarks mostStates
+    (firstNumbers counts (suc n) ++ (firstNumbers edgeCounts n ++ (markedBelow rootMarks mostStates ++ (markedBelow goalMarks mostStates
     ++ (joinedUp (stepPairs m labels n) n ++ joinedUp (stepSymbols m labels n) n)))))
 
 -- the parts fit together, and the buffer has room for them

@@ -2,13 +2,13 @@
 -- counted. The measure is how many symbols are left.
 use borrow.Author.Needs.{needs}
 use Prim.Native.Nat.{_-_}
-use Rattle.block.specs.inner.Loops.{InHeard}
+use Rattle.block.specs.inner.Loops.{HeardOf}
 use Rattle.block.proofs.Hearing.{heard-start, heard-more, heard-end}
 use Rattle.block.proofs.heard_of.Statement.{statement}
 use Rattle.block.proofs.heard_of.Tie as tie
 
 abbrev Inv-loop : tie.InvT-loop
-Inv-loop n mask label rest₀ erased₀ t₀ rest erased t = InHeard n mask label t rest erased
+Inv-loop n mask label rest₀ erased₀ t₀ rest erased t = HeardOf n mask label t rest erased
 
 abbrev μ-loop : tie.MeasureT-loop
 μ-loop n mask label rest₀ erased₀ t₀ rest erased t = n - t

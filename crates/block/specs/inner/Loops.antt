@@ -24,7 +24,7 @@ pub record InPrices (n received mask : ℕ) (prices : List ℕ) (weight t : ℕ)
   pub at : (u a : ℕ) → t ≤ u → u < n → a < 4 → getD prices (4 * u + a) 0 ≡ rankedCost n (symbolCost n received mask) u a
 
 -- the first t symbols of a label, 0 where they are erased, and how many are
-pub record InHeard (n mask label t heard erased : ℕ) : Type 0 where
+pub record HeardOf (n mask label t heard erased : ℕ) : Type 0 where
   pub t-le : t ≤ n
   pub short : heard < 4 ^ t
   pub few : erased ≤ t

@@ -7,13 +7,13 @@ use Rattle.trellis.specs.Bounds.{mostStates, mostSections, mostBlocks}
 use Rattle.trellis.specs.Layout.{nOf}
 use Rattle.block.specs.inner.Prices.{Clean}
 use Rattle.chain.specs.Frame.{blockSection}
-use Rattle.chain.specs.inner.Loops.{Found}
+use Rattle.chain.specs.inner.Loops.{SectionsFound}
 
 -- 1 ≤ K ≤ 16, and all K sections are usable
 pub record AllFound (sections starts : List ℕ) (k : ℕ) : Type 0 where
   pub some : 0 < k
   pub few : k ≤ mostSections
-  pub found : Found sections starts k
+  pub found : SectionsFound sections starts k
 
 -- a frame that is not bad
 pub record Framed (indices received erased : List ℕ) (start end : ℕ) : Type 0 where
@@ -30,7 +30,7 @@ pub record BlockGood (sections indices received erased : List ℕ) (k b : ℕ) :
   pub clean : Clean (nOf (blockSection sections indices received erased b)) (getD received b 0) (getD erased b 0)
 
 -- the sections are found, and neither the frame nor a block is bad
-pub record Checked (sections starts indices received erased : List ℕ) (start end : ℕ) : Type 0 where
+pub record FrameChecked (sections starts indices received erased : List ℕ) (start end : ℕ) : Type 0 where
   pub k : ℕ
   pub sectionsFound : AllFound sections starts k
   pub frame : Framed indices received erased start end

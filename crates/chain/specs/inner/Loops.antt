@@ -13,7 +13,7 @@ use Rattle.chain.specs.Sections.{sectionStart, sectionAt}
 use Rattle.chain.specs.Frame.{blockBad}
 
 -- the first i sections are usable, and the places where they and the next one begin are known
-pub record Found (sections starts : List ℕ) (i : ℕ) : Type 0 where
+pub record SectionsFound (sections starts : List ℕ) (i : ℕ) : Type 0 where
   pub long : length starts ≡ suc mostSections
   pub at : (j : ℕ) → j ≤ i → getD starts j 0 ≡ sectionStart sections j
   pub usable-before : (j : ℕ) → j < i → usable (sectionAt sections j) ≡ true
@@ -21,13 +21,13 @@ pub record Found (sections starts : List ℕ) (i : ℕ) : Type 0 where
 
 pub record InSections (sections starts : List ℕ) (k i at : ℕ) : Type 0 where
   pub i-le : i ≤ k
-  pub found : Found sections starts i
+  pub found : SectionsFound sections starts i
   pub at-is : at ≡ sectionStart sections i
 
 -- section r is the first unusable one, or r is k
 pub record FirstUnusable (sections starts : List ℕ) (k r : ℕ) : Type 0 where
   pub r-le : r ≤ k
-  pub found : Found sections starts r
+  pub found : SectionsFound sections starts r
   pub unusable-at : r < k → usable (sectionAt sections r) ≡ true → ⊥
 
 -- no block before b is bad

@@ -19,7 +19,7 @@ pub record EndingRow (n : ℕ) (table : List Word) (t : ℕ) (row : List ℕ) : 
   pub small : Small (length table) row
   pub tells : Tells (length table) (endingAt n table t) (at row)
 
-pub record Merging (n t : ℕ) (roots labels goals row map : List ℕ) : Type 0 where
+pub record DepthAsked (n t : ℕ) (roots labels goals row map : List ℕ) : Type 0 where
   pub held : Held n roots labels goals
   pub inner : 0 < t
   pub deep : t < n
@@ -62,7 +62,7 @@ pub record Inner (n : ℕ) (roots labels goals map counts : List ℕ) : Type 0 w
   pub nine : length counts ≡ 9
 
 -- at every depth from t on: the table is rectangular, the map has the vertices, and counts has how many there are
-pub record Sound (n : ℕ) (table : List Word) (t : ℕ) (map counts : List ℕ) : Type 0 where
+pub record InnerMerged (n : ℕ) (table : List Word) (t : ℕ) (map counts : List ℕ) : Type 0 where
   pub rectangular : (u : ℕ) → t ≤ u → u < n → RectangularAt n u table
   pub vertices : (u i : ℕ) → t ≤ u → u < n → i < length table → at map (u * length table + i) ≡ vertexOf n table u i
   pub counted : (u : ℕ) → t ≤ u → u < n → at counts u ≡ vertexCount n table u
@@ -75,13 +75,13 @@ pub record FirstRefused (n : ℕ) (table : List Word) (t u : ℕ) : Type 0 where
   pub sooner : (v : ℕ) → t ≤ v → v < u → RectangularAt n v table
 
 -- 0, or the smallest depth
-abbrev pub Found : ℕ → List Word → ℕ → List ℕ → List ℕ → ℕ → Type 0
-Found n table t map counts zero = Sound n table t map counts
-Found n table t map counts (suc u) = FirstRefused n table t (suc u)
+abbrev pub InnerOutcome : ℕ → List Word → ℕ → List ℕ → List ℕ → ℕ → Type 0
+InnerOutcome n table t map counts zero = InnerMerged n table t map counts
+InnerOutcome n table t map counts (suc u) = FirstRefused n table t (suc u)
 
 -- only the rows of inner depths were written, in the map and in the counts
 pub record InnerDone (n : ℕ) (table : List Word) (oldMap map oldCounts counts : List ℕ) (r : ℕ) : Type 0 where
-  pub found : Found n table 1 map counts r
+  pub found : InnerOutcome n table 1 map counts r
   pub before : (j : ℕ) → j < length table → at map j ≡ at oldMap j
   pub behind : (j : ℕ) → n * length table ≤ j → at map j ≡ at oldMap j
   pub len : length map ≡ length oldMap

@@ -87,6 +87,6 @@ pub record ToNumber (W place : ℕ) (starts firsts map : List ℕ) : Type 0 wher
   pub backward : Backward W starts firsts
   pub twice : (i : ℕ) → i < W → firstWordIn starts firsts (firstWordIn starts firsts i) ≡ firstWordIn starts firsts i
 
-pub record Numbered (place W : ℕ) (firstWord : ℕ → ℕ) (old new : List ℕ) (count : ℕ) : Type 0 where
+pub record VerticesNumbered (place W : ℕ) (firstWord : ℕ → ℕ) (old new : List ℕ) (count : ℕ) : Type 0 where
   pub row : RowAt place W (numberOf firstWord) old new
   pub counted : count ≡ below (λ j. eqb (firstWord j) j) W

@@ -20,15 +20,15 @@ pub record SmallMap (map labels : List ℕ) (n : ℕ) : Type 0 where
 
 module _ (m labels : List ℕ) (n : ℕ) where
   -- the edges of step t as the map gives them, and their first words
-  abbrev pub stepEdge : ℕ → ℕ → Edge
-  stepEdge t i = rowEdge m labels n t (t * length labels) i
+  abbrev pub mapEdge : ℕ → ℕ → Edge
+  mapEdge t i = rowEdge m labels n t (t * length labels) i
 
   unfoldable pub stepTakers : ℕ → List ℕ
-  stepTakers t = takers (stepEdge t) (length labels)
+  stepTakers t = takers (mapEdge t) (length labels)
 
   -- the edges of step t
   unfoldable pub stepList : ℕ → List Edge
-  stepList t = map (stepEdge t) (stepTakers t)
+  stepList t = map (mapEdge t) (stepTakers t)
 
 -- what take_edges leaves: the first words of all steps, how many in all, how many at each step
 pub record AllTaken (m labels : List ℕ) (n : ℕ) (old new : List ℕ) (total : ℕ) (counts : List ℕ) : Type 0 where
@@ -49,7 +49,7 @@ unfoldable pub symbolsOf : List ℕ → ℕ → ℕ → List ℕ → List ℕ
 symbolsOf labels n t ks = map (λ i. symbol n t (getD labels i 0)) ks
 
 -- places lo to hi of a list hold words
-pub record Words (l : List ℕ) (lo hi words : ℕ) : Type 0 where
+pub record WordsAt (l : List ℕ) (lo hi words : ℕ) : Type 0 where
   pub order : lo ≤ hi
   pub inside : hi ≤ length l
   pub below : (k : ℕ) → lo ≤ k → k < hi → getD l k 0 < words

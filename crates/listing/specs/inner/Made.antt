@@ -6,6 +6,6 @@ use Rattle.text.specs.inner.Put.{Put}
 use Rattle.listing.specs.Text.{textOf}
 
 -- the text of a file is put at the front of a buffer, and 1,024 bytes are enough for it
-pub record Made (file old new : List ℕ) (end : ℕ) : Type 0 where
+pub record TextMade (file old new : List ℕ) (end : ℕ) : Type 0 where
   pub put : Put old 0 (textOf file) new end
   pub short : length (textOf file) ≤ 1024

@@ -6,7 +6,7 @@ use lib.ListN.{length, getD, replicate}
 use Rattle.trellis.specs.Bounds.{mostWords}
 use Rattle.table.specs.File.{fileWord}
 use Rattle.depths.specs.inner.Words.{words, Held}
-use Rattle.depths.specs.inner.Merge.{Sound, FirstRefused}
+use Rattle.depths.specs.inner.Merge.{InnerMerged, FirstRefused}
 use Rattle.layout.specs.inner.States.{Few}
 use Rattle.trellis.specs.Lists.{over}
 
@@ -15,7 +15,7 @@ abbrev pub cleared : ℕ → List ℕ → List ℕ
 cleared count buffer = over (replicate count 0) buffer
 
 -- words in three lists, with states that fit, and a map long enough for them
-pub record Words (n : ℕ) (roots labels goals map : List ℕ) : Type 0 where
+pub record WordsHeld (n : ℕ) (roots labels goals map : List ℕ) : Type 0 where
   pub held : Held n roots labels goals
   pub fewRoots : Few roots
   pub fewGoals : Few goals
@@ -24,13 +24,13 @@ pub record Words (n : ℕ) (roots labels goals map : List ℕ) : Type 0 where
 
 -- and the inner depths are in the map
 pub record Inside (n : ℕ) (roots labels goals map counts : List ℕ) : Type 0 where
-  pub asked : Words n roots labels goals map
-  pub sound : Sound n (words roots labels goals) 1 map counts
+  pub asked : WordsHeld n roots labels goals map
+  pub sound : InnerMerged n (words roots labels goals) 1 map counts
   pub nine : length counts ≡ 9
 
 -- or t is the first inner depth at which the table is not rectangular
-pub record Refused (n t : ℕ) (roots labels goals map : List ℕ) : Type 0 where
-  pub asked : Words n roots labels goals map
+pub record RefusedAt (n t : ℕ) (roots labels goals map : List ℕ) : Type 0 where
+  pub asked : WordsHeld n roots labels goals map
   pub first : FirstRefused n (words roots labels goals) 1 t
 
 -- the first `count` places of three arrays hold the words of the file

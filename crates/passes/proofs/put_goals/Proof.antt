@@ -1,13 +1,13 @@
 -- `passes::put_goals` writes row n. The loop's invariant: the goals passed have what is left to pay from their states. The measure is how many are left.
 use borrow.Author.Needs.{needs}
 use Prim.Native.Nat.{_-_}
-use Rattle.passes.specs.inner.Loops.{InGoals}
+use Rattle.passes.specs.inner.Loops.{GoalsRanked}
 use Rattle.passes.proofs.Goals.{GoalAt, goal-read, goals-start, goals-more, goals-end}
 use Rattle.passes.proofs.put_goals.Statement.{statement}
 use Rattle.passes.proofs.put_goals.Tie as tie
 
 abbrev Inv-loop : tie.InvT-loop
-Inv-loop l costs blocks end b rows₀ n goals count g₀ rows g = InGoals l costs blocks end b rows g
+Inv-loop l costs blocks end b rows₀ n goals count g₀ rows g = GoalsRanked l costs blocks end b rows g
 
 abbrev μ-loop : tie.MeasureT-loop
 μ-loop l costs blocks end b rows₀ n goals count g₀ rows g = count - g

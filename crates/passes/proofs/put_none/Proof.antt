@@ -2,13 +2,13 @@
 use borrow.Author.Needs.{needs}
 use Prim.Native.Nat.{_-_}
 use Rattle.trellis.specs.Bounds.{mostStates}
-use Rattle.passes.specs.inner.Loops.{InNone}
+use Rattle.passes.specs.inner.Loops.{NoneSoFar}
 use Rattle.passes.proofs.Tables.{none-start, none-more, none-end}
 use Rattle.passes.proofs.put_none.Statement.{statement}
 use Rattle.passes.proofs.put_none.Tie as tie
 
 abbrev Inv-loop : tie.InvT-loop
-Inv-loop b costs₀ s₀ costs s = InNone b costs₀ costs s
+Inv-loop b costs₀ s₀ costs s = NoneSoFar b costs₀ costs s
 
 abbrev μ-loop : tie.MeasureT-loop
 μ-loop b costs₀ s₀ costs s = mostStates - s

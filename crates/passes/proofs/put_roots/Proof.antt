@@ -2,14 +2,14 @@
 -- and picks there. The measure is how many are left.
 use mathlib.Core.Path.{refl}
 use Prim.Native.Nat.{_-_}
-use Rattle.passes.specs.inner.Loops.{InRoots}
+use Rattle.passes.specs.inner.Loops.{RootsPut}
 use Rattle.passes.proofs.Tables.{RootIn, root-read, roots-start, roots-more, roots-end}
 use borrow.Author.Needs.{needs}
 use Rattle.passes.proofs.put_roots.Statement.{statement}
 use Rattle.passes.proofs.put_roots.Tie as tie
 
 abbrev Inv-loop : tie.InvT-loop
-Inv-loop l rows b costs₀ picks₀ roots count v₀ costs picks v = InRoots l rows b costs₀ costs picks₀ picks v
+Inv-loop l rows b costs₀ picks₀ roots count v₀ costs picks v = RootsPut l rows b costs₀ costs picks₀ picks v
 
 abbrev μ-loop : tie.MeasureT-loop
 μ-loop l rows b costs₀ picks₀ roots count v₀ costs picks v = count - v

@@ -16,11 +16,11 @@ use Rattle.block.specs.Received.{blockDistance}
 use Rattle.block.specs.inner.Prices.{Clean}
 
 -- no path, in a cost table
-abbrev pub top : ℕ
-top = 4294967295
+abbrev pub unreached : ℕ
+unreached = 4294967295
 
 -- what the passes need to know of a section
-pub record Good (l : List ℕ) : Type 0 where
+pub record Decodable (l : List ℕ) : Type 0 where
   pub fits : Fits l
   pub some : 0 < nOf l
   pub rootsBelow : (v : ℕ) → v < vertexCountOf l 0 → rootState l v < mostStates
@@ -34,22 +34,22 @@ endsIn end s = eqb s end
 
 module _ (sections starts indices received erased : List ℕ) where
   -- the section of block b, with what follows it
-  unfoldable pub sectionOf : ℕ → List ℕ
-  sectionOf b = drop (getD starts (getD indices b 0) 0) sections
+  unfoldable pub sectionOfBlock : ℕ → List ℕ
+  sectionOfBlock b = drop (getD starts (getD indices b 0) 0) sections
 
-  unfoldable pub wordsOf : ℕ → List Word
-  wordsOf b = sectionWords (sectionOf b)
+  unfoldable pub wordsOfBlock : ℕ → List Word
+  wordsOfBlock b = sectionWords (sectionOfBlock b)
 
   unfoldable pub distanceOf : ℕ → Word → ℕ
-  distanceOf b w = blockDistance (nOf (sectionOf b)) (getD received b 0) (getD erased b 0) (w .label)
+  distanceOf b w = blockDistance (nOf (sectionOfBlock b)) (getD received b 0) (getD erased b 0) (w .label)
 
   -- the least distance from state s before block b to the end state after the last block
   unfoldable pub leastFrom : ℕ → ℕ → ℕ → ℕ
-  leastFrom end b s = chainLeast wordsOf (endsIn end) distanceOf top (length indices - b) b s
+  leastFrom end b s = chainLeast wordsOfBlock (endsIn end) distanceOf unreached (length indices - b) b s
 
   -- the first path of least distance from there
   unfoldable pub pathFrom : ℕ → ℕ → ℕ → List Word
-  pathFrom end b s = chainTrace wordsOf (endsIn end) distanceOf top (length indices - b) b s
+  pathFrom end b s = chainTrace wordsOfBlock (endsIn end) distanceOf unreached (length indices - b) b s
 
   pub record Ready : Type 0 where
     pub many : length indices ≤ mostBlocks
@@ -58,11 +58,11 @@ module _ (sections starts indices received erased : List ℕ) where
     pub startsLong : length starts ≡ suc mostSections
     pub indexBelow : (b : ℕ) → b < length indices → getD indices b 0 < suc mostSections
     pub inside : (b : ℕ) → b < length indices → getD starts (getD indices b 0) 0 ≤ length sections
-    pub good : (b : ℕ) → b < length indices → Good (sectionOf b)
-    pub clean : (b : ℕ) → b < length indices → Clean (nOf (sectionOf b)) (getD received b 0) (getD erased b 0)
+    pub good : (b : ℕ) → b < length indices → Decodable (sectionOfBlock b)
+    pub clean : (b : ℕ) → b < length indices → Clean (nOf (sectionOfBlock b)) (getD received b 0) (getD erased b 0)
 
   -- the cost table from block b on
-  pub record Table (end b : ℕ) (costs : List ℕ) : Type 0 where
+  pub record CostsFrom (end b : ℕ) (costs : List ℕ) : Type 0 where
     pub at : (c s : ℕ) → b ≤ c → c < length indices → s < mostStates → getD costs (costsABlock * c + s) 0 ≡ leastFrom end c s
 
   -- where there is a path from state s before block c, its first word is the one whose label and goal are in this number
@@ -73,13 +73,13 @@ module _ (sections starts indices received erased : List ℕ) where
   -- the picks from block b on
   pub record Picked (end b : ℕ) (picks : List ℕ) : Type 0 where
     pub long : length picks ≡ (costsABlock * mostBlocks)
-    pub at : (c s : ℕ) → b ≤ c → c < length indices → s < mostStates → leastFrom end c s < top → Pick end c s (getD picks (costsABlock * c + s) 0)
+    pub at : (c s : ℕ) → b ≤ c → c < length indices → s < mostStates → leastFrom end c s < unreached → Pick end c s (getD picks (costsABlock * c + s) 0)
 
   -- the table is filled from block b on, and places beyond it are as they were; and so are the picks
   pub record Filled (end b : ℕ) (old new picks : List ℕ) : Type 0 where
     pub b-le : b ≤ length indices
     pub long : length new ≡ length old
-    pub table : Table end b new
+    pub table : CostsFrom end b new
     pub kept : (i : ℕ) → costsABlock * length indices ≤ i → getD new i 0 ≡ getD old i 0
     pub picked : Picked end b picks
 
@@ -95,4 +95,4 @@ module _ (sections starts indices received erased : List ℕ) where
 
 -- what the table has for state s before block b; behind the last block nothing is left to pay in the end state, and there is no path elsewhere
 unfoldable pub aheadOf : List ℕ → ℕ → ℕ → ℕ → ℕ → ℕ
-aheadOf costs blocks end b s = cond (ltb b blocks) (getD costs (costsABlock * b + s) 0) (cond (eqb s end) 0 top)
+aheadOf costs blocks end b s = cond (ltb b blocks) (getD costs (costsABlock * b + s) 0) (cond (eqb s end) 0 unreached)

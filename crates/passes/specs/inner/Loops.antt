@@ -11,7 +11,7 @@ use Rattle.paths.specs.inner.Sections.{sectionLeast}
 use Rattle.paths.specs.inner.Ranked.{topRank, rankedCost, rankedRest}
 use Rattle.sweep.specs.inner.Rows.{Priced, Rows}
 use Rattle.block.specs.Received.{symbolCost}
-use Rattle.passes.specs.inner.Blocks.{top, aheadOf, pathFrom, leastFrom, Written}
+use Rattle.passes.specs.inner.Blocks.{unreached, aheadOf, pathFrom, leastFrom, Written}
 
 -- the table has what is left to pay behind the goals
 abbrev pub Behind : List ℕ → List ℕ → ℕ → ℕ → ℕ → (ℕ → ℕ) → Type 0
@@ -20,7 +20,7 @@ Behind l costs blocks end b rest = (g : ℕ) → g < vertexCountOf l (nOf l) →
 -- ---- the rows of a block
 
 -- the first g places of row n have what is left to pay there, ranked by the goals
-pub record InGoals (l costs : List ℕ) (blocks end b : ℕ) (rows : List ℕ) (g : ℕ) : Type 0 where
+pub record GoalsRanked (l costs : List ℕ) (blocks end b : ℕ) (rows : List ℕ) (g : ℕ) : Type 0 where
   pub g-le : g ≤ vertexCountOf l (nOf l)
   pub long : length rows ≡ 9216
   pub at : (h : ℕ) → h < g → getD rows (mostWords * nOf l + h) 0 ≡ rankedRest (aheadOf costs blocks end b) (goalState l h)
@@ -34,14 +34,14 @@ pub record RowsOver (l prices costs : List ℕ) (blocks end b : ℕ) (rows : Lis
 -- ---- the table of a block
 
 -- the first s states of block b have no path so far
-pub record InNone (b : ℕ) (old new : List ℕ) (s : ℕ) : Type 0 where
+pub record NoneSoFar (b : ℕ) (old new : List ℕ) (s : ℕ) : Type 0 where
   pub s-le : s ≤ mostStates
   pub long : length new ≡ length old
-  pub none : (u : ℕ) → u < s → getD new (costsABlock * b + u) 0 ≡ top
+  pub none : (u : ℕ) → u < s → getD new (costsABlock * b + u) 0 ≡ unreached
   pub kept : (i : ℕ) → (i < costsABlock * b) ⊎ (costsABlock * b + costsABlock ≤ i) → getD new i 0 ≡ getD old i 0
 
 -- the first v roots have their costs and picks, and a state that is none of them has what it had
-pub record InRoots (l rows : List ℕ) (b : ℕ) (old new oldPicks picks : List ℕ) (v : ℕ) : Type 0 where
+pub record RootsPut (l rows : List ℕ) (b : ℕ) (old new oldPicks picks : List ℕ) (v : ℕ) : Type 0 where
   pub v-le : v ≤ vertexCountOf l 0
   pub long : length new ≡ length old
   pub picksLong : length picks ≡ length oldPicks
@@ -63,7 +63,7 @@ pub record BlockTable (l : List ℕ) (received mask : ℕ) (blocks end b : ℕ) 
       → getD new (costsABlock * b + rootState l v) 0 ≡ rankFrom l received mask rest v / 4294967296
   pub pick : (rest : ℕ → ℕ) → Behind l old blocks end (suc b) rest → (v : ℕ) → v < vertexCountOf l 0
       → getD picks (costsABlock * b + rootState l v) 0 ≡ rankFrom l received mask rest v % 4294967296
-  pub none : (s : ℕ) → s < mostStates → ((v : ℕ) → v < vertexCountOf l 0 → rootState l v ≡ s → ⊥) → getD new (costsABlock * b + s) 0 ≡ top
+  pub none : (s : ℕ) → s < mostStates → ((v : ℕ) → v < vertexCountOf l 0 → rootState l v ≡ s → ⊥) → getD new (costsABlock * b + s) 0 ≡ unreached
   pub kept : (i : ℕ) → (i < costsABlock * b) ⊎ (costsABlock * b + costsABlock ≤ i) → getD new i 0 ≡ getD old i 0
   pub keptPick : (i : ℕ) → (i < costsABlock * b) ⊎ (costsABlock * b + costsABlock ≤ i) → getD picks i 0 ≡ getD oldPicks i 0
 
@@ -81,7 +81,7 @@ pub record InWords (sections starts indices received erased : List ℕ) (end sta
   pub state : s < mostStates
   pub few : total ≤ 8 * b
   pub rest : drop b (pathFrom sections starts indices received erased end 0 start) ≡ pathFrom sections starts indices received erased end b s
-  pub onward : leastFrom sections starts indices received erased end b s < top
+  pub onward : leastFrom sections starts indices received erased end b s < unreached
   pub sum : total + leastFrom sections starts indices received erased end b s ≡ leastFrom sections starts indices received erased end 0 start
 
 -- the whole path is written, and `total` is its distance

@@ -4,14 +4,14 @@ use mathlib.Core.Path.{sym, _∙_}
 use native.Mathlib.Omega.{arith}
 use Prim.Native.Nat.{_-_}
 use Rattle.section_file.specs.inner.Answer.{edgeAt}
-use Rattle.read_back.specs.inner.Levels.{vertexOf, furtherCode}
+use Rattle.read_back.specs.inner.Levels.{codeVertex, furtherCode}
 use Rattle.read_back.proofs.Growing.{further-at, Putting, putting-start, putting-next, putting-over, putting-done, putting-stops}
 use borrow.Author.Needs.{needs}
 use Rattle.read_back.proofs.grow_one.Statement.{statement}
 use Rattle.read_back.proofs.grow_one.Tie as tie
 
 abbrev Inv-loop : tie.InvT-loop
-Inv-loop s pairs symbols count start c made codes₀ vertex filled₀ k₀ codes filled k = Putting (furtherCode c) (edgeAt s pairs symbols) count (vertexOf c) codes₀ made codes filled k
+Inv-loop s pairs symbols count start c made codes₀ vertex filled₀ k₀ codes filled k = Putting (furtherCode c) (edgeAt s pairs symbols) count (codeVertex c) codes₀ made codes filled k
 
 abbrev μ-loop : tie.MeasureT-loop
 μ-loop s pairs symbols count start c made codes₀ vertex filled₀ k₀ codes filled k = count - k

@@ -10,10 +10,10 @@ use Rattle.trellis.specs.Own.{Edge}
 use Rattle.trellis.specs.Section.{leaving}
 use Rattle.trellis.specs.Layout.{goalsPlace, pairsPlace, symbolsPlace}
 use Rattle.read_back.specs.TableBytes.{bytesOf}
-use Rattle.read_back.specs.inner.Levels.{level, code, coded, rootOf, vertexOf, labelOf}
+use Rattle.read_back.specs.inner.Levels.{level, code, coded, codeRoot, codeVertex, codeLabel}
 
 -- vs put behind the first made numbers of an array of 1,024: r of them are filled then, or r is more than 1,024 where they are too many
-pub record Made (vs old : List ℕ) (made : ℕ) (new : List ℕ) (r : ℕ) : Type 0 where
+pub record PutBehind (vs old : List ℕ) (made : ℕ) (new : List ℕ) (r : ℕ) : Type 0 where
   pub long : length new ≡ mostWords
   pub filled : r ≤ mostWords → take r new ≡ take made old ++ vs
   pub count : r ≤ mostWords → r ≡ made + length vs
@@ -41,7 +41,7 @@ pub record Starts (e : ℕ → Edge) (count : ℕ) (starts : List ℕ) : Type 0 
   pub at : (v : ℕ) → v < mostWords → BeginsAt e count v (getD starts v 0)
 
 -- places of a section that fills its list
-pub record PlacesOf (s : List ℕ) (goals pairs symbols : ℕ) : Type 0 where
+pub record FilledPlaces (s : List ℕ) (goals pairs symbols : ℕ) : Type 0 where
   pub goalsIs : goals ≡ goalsPlace s
   pub pairsIs : pairs ≡ pairsPlace s
   pub symbolsIs : symbols ≡ symbolsPlace s
@@ -73,10 +73,10 @@ byteOf x = x % 256
 
 -- the root and the goal of a word that is found whole
 abbrev pub pairOfCode : List ℕ → ℕ → ℕ → List ℕ
-pairOfCode s goals c = byteOf (rootOf c) ∷ byteOf (getD s (goals + vertexOf c) 0) ∷ []
+pairOfCode s goals c = byteOf (codeRoot c) ∷ byteOf (getD s (goals + codeVertex c) 0) ∷ []
 
 abbrev pub labelOfCode : ℕ → List ℕ
-labelOfCode c = bytesOf (labelOf c)
+labelOfCode c = bytesOf (codeLabel c)
 
 -- the first count codes as a table file
 unfoldable pub fileOfCodes : List ℕ → ℕ → List ℕ → ℕ → List ℕ

@@ -42,17 +42,17 @@ code r v x = (r * 1024 + v) * 65536 + x
 abbrev pub coded : Begun → ℕ
 coded b = code (b .root) (b .vertex) (b .label)
 
-abbrev pub rootOf : ℕ → ℕ
-rootOf c = c / 67108864
+abbrev pub codeRoot : ℕ → ℕ
+codeRoot c = c / 67108864
 
-abbrev pub vertexOf : ℕ → ℕ
-vertexOf c = c / 65536 % 1024
+abbrev pub codeVertex : ℕ → ℕ
+codeVertex c = c / 65536 % 1024
 
-abbrev pub labelOf : ℕ → ℕ
-labelOf c = c % 65536
+abbrev pub codeLabel : ℕ → ℕ
+codeLabel c = c % 65536
 
 abbrev pub furtherCode : ℕ → Edge → ℕ
-furtherCode c e = code (rootOf c) (e .to) (appended (labelOf c) (e .symbol))
+furtherCode c e = code (codeRoot c) (e .to) (appended (codeLabel c) (e .symbol))
 
 abbrev pub grownCodes : List Edge → ℕ → List ℕ
-grownCodes es c = map (furtherCode c) (leaving (vertexOf c) es)
+grownCodes es c = map (furtherCode c) (leaving (codeVertex c) es)

@@ -4,15 +4,15 @@ use Prim.Native.Nat.{ℕ, _+_, _*_, _^_}
 use Rattle.trellis.specs.Label.{symbol, front, back}
 use Rattle.trellis.specs.Word.{Word, wordAt}
 
--- a number above every goal
-unfoldable pub above : List Word → ℕ
-above [] = 1
-above (w ∷ table) = w .goal + above table
+-- a number aboveGoals every goal
+unfoldable pub aboveGoals : List Word → ℕ
+aboveGoals [] = 1
+aboveGoals (w ∷ table) = w .goal + aboveGoals table
 
 unfoldable pub beginningNumber : ℕ → ℕ → Word → ℕ
 beginningNumber n t w = w .root * 4 ^ t + front n t (w .label)
 
--- high is above every goal
+-- high is aboveGoals every goal
 unfoldable pub endingNumber : ℕ → ℕ → ℕ → Word → ℕ
 endingNumber n t high w = back n t (w .label) * high + w .goal
 
@@ -20,7 +20,7 @@ abbrev pub beginningAt : ℕ → List Word → ℕ → ℕ → ℕ
 beginningAt n table t i = beginningNumber n t (wordAt table i)
 
 abbrev pub endingAt : ℕ → List Word → ℕ → ℕ → ℕ
-endingAt n table t i = endingNumber n t (above table) (wordAt table i)
+endingAt n table t i = endingNumber n t (aboveGoals table) (wordAt table i)
 
 -- symbol t before a number for what follows depth t + 1: a key at depth t from one at depth t + 1
 abbrev pub stepKey : ℕ → List Word → ℕ → (ℕ → ℕ) → ℕ → ℕ

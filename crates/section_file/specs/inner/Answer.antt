@@ -19,8 +19,8 @@ abbrev pub edgeAt : List ℕ → ℕ → ℕ → ℕ → own.Edge
 edgeAt l pairs symbols k = own.edge (getD l (pairs + 2 * k) 0) (getD l (symbols + k) 0) (getD l (pairs + 1 + 2 * k) 0)
 
 -- an edge of the theory as the code holds it, and back
-abbrev pub held : own.Edge → Edge
-held e = record { from = e .from; symbol = e .symbol; to = e .to }
+abbrev pub heldEdge : own.Edge → Edge
+heldEdge e = record { from = e .from; symbol = e .symbol; to = e .to }
 
-abbrev pub meant : Edge → own.Edge
-meant e = own.edge (e .from) (e .symbol) (e .to)
+abbrev pub meantEdge : Edge → own.Edge
+meantEdge e = own.edge (e .from) (e .symbol) (e .to)

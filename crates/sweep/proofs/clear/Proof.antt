@@ -2,13 +2,13 @@
 -- The measure is how many are left.
 use borrow.Author.Needs.{needs}
 use Prim.Native.Nat.{_-_}
-use Rattle.sweep.specs.inner.Loops.{InClear}
+use Rattle.sweep.specs.inner.Loops.{RowCleared}
 use Rattle.sweep.proofs.Lowering.{clear-start, clear-more, clear-end}
 use Rattle.sweep.proofs.clear.Statement.{statement}
 use Rattle.sweep.proofs.clear.Tie as tie
 
 abbrev Inv-loop : tie.InvT-loop
-Inv-loop t count rows₀ v₀ rows v = InClear t count rows₀ rows v
+Inv-loop t count rows₀ v₀ rows v = RowCleared t count rows₀ rows v
 
 abbrev μ-loop : tie.MeasureT-loop
 μ-loop t count rows₀ v₀ rows v = count - v

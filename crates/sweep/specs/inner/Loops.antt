@@ -9,7 +9,7 @@ use Rattle.trellis.specs.Own.{Edge}
 use Rattle.trellis.specs.Section.{leaving}
 use Rattle.trellis.specs.Layout.{nOf, vertexCountOf, edgesBefore, allEdges, pairsPlace, symbolsPlace, edgeNumber}
 use Rattle.paths.specs.inner.Costs.{plus, minAll}
-use Rattle.sweep.specs.inner.Rows.{top, Fits, Priced, Rows}
+use Rattle.sweep.specs.inner.Rows.{noCost, Fits, Priced, Rows}
 
 -- ---- edges
 
@@ -46,21 +46,21 @@ pub record EdgeAt (l : List ℕ) (i from symbol to : ℕ) : Type 0 where
 
 -- what an edge of step t gives, from the prices and the row of the next depth
 abbrev pub through : List ℕ → List ℕ → ℕ → Edge → ℕ
-through prices rows t e = plus top (getD prices (4 * t + e .symbol) 0) (getD rows (mostWords * suc t + e .to) 0)
+through prices rows t e = plus noCost (getD prices (4 * t + e .symbol) 0) (getD rows (mostWords * suc t + e .to) 0)
 
 -- ---- the loops
 
 -- row t has no path so far, at its first v vertices
-pub record InClear (t count : ℕ) (old rows : List ℕ) (v : ℕ) : Type 0 where
+pub record RowCleared (t count : ℕ) (old rows : List ℕ) (v : ℕ) : Type 0 where
   pub v-le : v ≤ count
   pub long : length rows ≡ 9216
-  pub cleared : (u : ℕ) → u < v → getD rows (mostWords * t + u) 0 ≡ top
+  pub cleared : (u : ℕ) → u < v → getD rows (mostWords * t + u) 0 ≡ noCost
   pub kept : (j : ℕ) → mostWords * suc t ≤ j → getD rows j 0 ≡ getD old j 0
 
 -- row t has no path so far
 pub record Clear (l : List ℕ) (t : ℕ) (rows : List ℕ) : Type 0 where
   pub long : length rows ≡ 9216
-  pub cleared : (v : ℕ) → v < vertexCountOf l t → getD rows (mostWords * t + v) 0 ≡ top
+  pub cleared : (v : ℕ) → v < vertexCountOf l t → getD rows (mostWords * t + v) 0 ≡ noCost
 
 -- row t still has to be lowered by the edges from i on
 pub record InLower (l prices : List ℕ) (t lo hi : ℕ) (old rows : List ℕ) (i : ℕ) : Type 0 where
@@ -68,16 +68,16 @@ pub record InLower (l prices : List ℕ) (t lo hi : ℕ) (old rows : List ℕ) (
   pub i-le : i ≤ hi
   pub long : length rows ≡ 9216
   pub kept : (j : ℕ) → mostWords * suc t ≤ j → getD rows j 0 ≡ getD old j 0
-  pub small : (v : ℕ) → v < vertexCountOf l t → getD rows (mostWords * t + v) 0 ≤ top
+  pub small : (v : ℕ) → v < vertexCountOf l t → getD rows (mostWords * t + v) 0 ≤ noCost
   pub left : (v : ℕ) → v < vertexCountOf l t
-      → min (getD rows (mostWords * t + v) 0) (minAll top (through prices old t) (leaving v (between l i hi)))
-      ≡ minAll top (through prices old t) (leaving v (between l lo hi))
+      → min (getD rows (mostWords * t + v) 0) (minAll noCost (through prices old t) (leaving v (between l i hi)))
+      ≡ minAll noCost (through prices old t) (leaving v (between l lo hi))
 
 -- row t as it is left: each place has the least that the edges of its vertex give
 pub record Lowered (l prices : List ℕ) (t lo hi : ℕ) (old rows : List ℕ) : Type 0 where
   pub long : length rows ≡ 9216
   pub kept : (j : ℕ) → mostWords * suc t ≤ j → getD rows j 0 ≡ getD old j 0
-  pub at : (v : ℕ) → v < vertexCountOf l t → getD rows (mostWords * t + v) 0 ≡ minAll top (through prices old t) (leaving v (between l lo hi))
+  pub at : (v : ℕ) → v < vertexCountOf l t → getD rows (mostWords * t + v) 0 ≡ minAll noCost (through prices old t) (leaving v (between l lo hi))
 
 -- rows t to n are done, and their edges begin at hi
 pub record InSweep (l prices old rows : List ℕ) (n t hi : ℕ) : Type 0 where

@@ -9,8 +9,8 @@ use Rattle.trellis.specs.Layout.{nOf, vertexCountOf, edgeCountOf, edgesBefore, 
 use Rattle.paths.specs.inner.Sections.{sectionLeast}
 
 -- no path
-abbrev pub top : ℕ
-top = 18446744073709551615
+abbrev pub noCost : ℕ
+noCost = 18446744073709551615
 
 -- what the code needs to know of a section: its parts are there, and its edges lead from vertices to vertices of their depths by symbols
 pub record Fits (l : List ℕ) : Type 0 where
@@ -45,7 +45,7 @@ pub record Priced (l prices : List ℕ) (cost : ℕ → ℕ → ℕ) : Type 0 wh
 -- rows t to n hold the least costs from their vertices
 pub record Rows (l : List ℕ) (cost : ℕ → ℕ → ℕ) (number : ℕ → ℕ) (t : ℕ) (rows : List ℕ) : Type 0 where
   pub at : (u v : ℕ) → t ≤ u → u ≤ nOf l → v < vertexCountOf l u
-      → getD rows (mostWords * u + v) 0 ≡ sectionLeast (stepEdges l) cost top number (nOf l - u) u v
+      → getD rows (mostWords * u + v) 0 ≡ sectionLeast (stepEdges l) cost noCost number (nOf l - u) u v
 
 -- from the row of depth n all rows follow, whatever the symbols cost
 pub record Swept (l prices old new : List ℕ) : Type 0 where

@@ -27,13 +27,13 @@ isTable (BadWord index) = false
 isTable (Order index) = false
 
 -- a word of the theory as the code holds it
-abbrev pub held : trellis.Word → Word
-held w = record { root = w .root; label = w .label; goal = w .goal }
+abbrev pub heldWord : trellis.Word → Word
+heldWord w = record { root = w .root; label = w .label; goal = w .goal }
 
 -- a word of the code as the theory has it
-abbrev pub meant : Word → trellis.Word
-meant w = trellis.word (w .root) (w .label) (w .goal)
+abbrev pub meantWord : Word → trellis.Word
+meantWord w = trellis.word (w .root) (w .label) (w .goal)
 
 -- the word at index i where the file's length is 5 + 4W and i is below W
 unfoldable pub foundAt : List ℕ → ℕ → Found
-foundAt file i = cond (lengthBad file) Nothing (cond (ltb i (wordCount file)) (Here (held (fileWord file i))) Nothing)
+foundAt file i = cond (lengthBad file) Nothing (cond (ltb i (wordCount file)) (Here (heldWord (fileWord file i))) Nothing)

@@ -18,7 +18,7 @@ pub record Passes (file : List ℕ) : Type 0 where
   pub wordsAscend : (i : ℕ) → i < wordCount file → orderBad file i ≡ false
 
 -- q, n, S and the words are what the file states, within document 01's bounds
-pub record Good (file : List ℕ) (q n S : ℕ) (words : List Word) : Type 0 where
+pub record GoodFile (file : List ℕ) (q n S : ℕ) (words : List Word) : Type 0 where
   pub qIs : q ≡ byteAt file 0
   pub nIs : n ≡ byteAt file 1
   pub statesIs : S ≡ byteAt file 2

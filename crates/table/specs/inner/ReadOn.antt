@@ -5,7 +5,7 @@ use mathlib.Core.List.{List}
 use Prim.Native.Nat.{ℕ, zero, suc, _+_, _≤_, _<_}
 use lib.Dec.{ltb}
 use Rattle.table.specs.File.{wordCount, fileWord, lengthBad}
-use Rattle.table.specs.inner.Answer.{held, foundAt}
+use Rattle.table.specs.inner.Answer.{heldWord, foundAt}
 use Rattle.table.specs.declared.Found.the-variants.{Word as Here, Nothing}
 
 -- the place behind the word at i, or i itself where `foundAt` finds none
@@ -19,5 +19,5 @@ placeOf file (suc k) = placeAfter file (placeOf file k)
 
 -- every word is found once, in the file's order, and then the end
 pub record ReadsAll (file : List ℕ) : Type 0 where
-  pub inOrder : (k : ℕ) → k < wordCount file → foundAt file (placeOf file k) ≡ Here (held (fileWord file k))
+  pub inOrder : (k : ℕ) → k < wordCount file → foundAt file (placeOf file k) ≡ Here (heldWord (fileWord file k))
   pub atEnd : (k : ℕ) → wordCount file ≤ k → foundAt file (placeOf file k) ≡ Nothing

@@ -10,7 +10,7 @@ use Rattle.depths.specs.inner.Words.{Held}
 use Rattle.depths.specs.inner.Rows.{at}
 
 -- the table is held by the three lists, and t is an inner depth
-pub record Asked (n t : ℕ) (roots labels goals : List ℕ) : Type 0 where
+pub record InnerDepth (n t : ℕ) (roots labels goals : List ℕ) : Type 0 where
   pub held : Held n roots labels goals
   pub inner : 0 < t
   pub deep : t < n

@@ -44,7 +44,7 @@ use denote.Triple.Walked.{says, Stays, stay-none, walkOf, goes-none, Walks, ends
 use denote.Exit.{yes}
 use denote.Triple.Clauses.{ensured, lasts}
 use Rattle.table.specs.File.{fileWord}
-use Rattle.table.specs.inner.Answer.{held}
+use Rattle.table.specs.inner.Answer.{heldWord}
 use Rattle.table.specs.declared.reader.Reader.{Reader}
 use Rattle.table.specs.declared.Word.{Word}
 use Rattle.table.proofs.reader.Reader as T
@@ -81,7 +81,7 @@ module _ {M : Type 1} (𝓤 : URA M) (H : Heap 𝓤) (A : Atoms 𝓤) (W : Given
   v = sliceVal (d .file .ptr) (length (d .file .now))
 
   abbrev found : Word
-  found = held (fileWord (now (d .file)) (d .at))
+  found = heldWord (fileWord (now (d .file)) (d .at))
 
   abbrev Post : Val → SProp 𝓤
   Post = walkOf 𝓤 H A word-here.ended stayed (word-here.clauses 𝓤 H A mem run) .post (((κ, tt), (q, tt), tt, (d, tt), (mach ∷ [], tt)), tt)

@@ -1,4 +1,4 @@
--- `table::reader::word_through` meets its contract: a walk of its MIR, by hand. The reader that `placed` returns is held in a local and passed to `word_here`. All
+-- `table::reader::word_through` meets its contract: a walk of its MIR, by hand. The reader that `placed` returns is heldWord in a local and passed to `word_here`. All
 -- that the proof knows of the two is that each meets its contract, so the word is the one at the index that the reader was placed at.
 -- The machine value that `placed` returns is stored and passed on as it is. In a local of a body MIR erases the lifetime of the reader's type, so the value is
 -- shown to have the type at `erased`: what a reader owns does not say the lifetime's name.
@@ -39,7 +39,7 @@ use denote.Triple.Walked.{says, Stays, stay-none, stay-none-slice, walkOf, goes-
 use denote.Exit.{yes}
 use denote.Triple.Clauses.{ensured, lasts}
 use Rattle.table.specs.File.{fileWord}
-use Rattle.table.specs.inner.Answer.{held}
+use Rattle.table.specs.inner.Answer.{heldWord}
 use Rattle.table.specs.declared.reader.Reader.{Reader}
 use Rattle.table.specs.declared.Word.{Word}
 use Rattle.table.proofs.reader.Reader as T
@@ -80,7 +80,7 @@ module _ {M : Type 1} (𝓤 : URA M) (H : Heap 𝓤) (A : Atoms 𝓤) (W : Given
   v = sliceVal (s .ptr) (length (s .now))
 
   abbrev found : Word
-  found = held (fileWord (now s) n)
+  found = heldWord (fileWord (now s) n)
 
   -- the reader's type as a local of a body has it
   abbrev αᵉ : NamedLft
@@ -112,8 +112,8 @@ module _ {M : Type 1} (𝓤 : URA M) (H : Heap 𝓤) (A : Atoms 𝓤) (W : Given
   goes-here : (r : Reader) (u : Val) → ent 𝓤 (⋆ 𝓤 H A (‵ (B (κ, tt) .own r (u ∷ [])) ∷ (‵ (flft κ q) ⊛ ‵ ftrue) ∷ [])) (Here 𝓤 H A mem run .pre (to-here r u))
   goes-here r u = qed W (‵ (B (κ, tt) .own r (u ∷ [])) ∷ (‵ (flft κ q) ⊛ ‵ ftrue) ∷ []) ∵ nothing ! $ move ! (1 ∷ 0 ∷ []) $ fjoin ! $ move ! (1 ∷ 0 ∷ []) $ join ! $ frame ! $ done !
 
-  here-said : (r : Reader) (t : Word) → ent 𝓤 (ensured 𝓤 H A word-here.ended (word-here.clauses 𝓤 H A mem run) (κ, tt) (r, tt) tt t) (fact 𝓤 (t ≡ held (fileWord (now (r .file)) (r .at))))
-  here-said r t = exE 𝓤 _ (λ ws. snd∗ 𝓤 (sem 𝓤 H A (lasts word-here.ended (κ, tt) (r, tt) ws)) (fact 𝓤 (t ≡ held (fileWord (now (r .file)) (r .at)))))
+  here-said : (r : Reader) (t : Word) → ent 𝓤 (ensured 𝓤 H A word-here.ended (word-here.clauses 𝓤 H A mem run) (κ, tt) (r, tt) tt t) (fact 𝓤 (t ≡ heldWord (fileWord (now (r .file)) (r .at))))
+  here-said r t = exE 𝓤 _ (λ ws. snd∗ 𝓤 (sem 𝓤 H A (lasts word-here.ended (κ, tt) (r, tt) ws)) (fact 𝓤 (t ≡ heldWord (fileWord (now (r .file)) (r .at)))))
 
   exits : (t : Word) (u : Val) → t ≡ found → ent 𝓤 (⋆ 𝓤 H A (‵ (S.the-row .own t (u ∷ [])) ∷ (‵ (flft κ q) ⊛ ‵ ftrue) ∷ ‵ Own ∷ [])) (Post u)
   exits t u e =
@@ -136,12 +136,12 @@ module _ {M : Type 1} (𝓤 : URA M) (H : Heap 𝓤) (A : Atoms 𝓤) (W : Given
         use2 W (raw (Here 𝓤 H A mem run .pre (to-here r u))) (goes-here r u) $
         calls-at ! fm (Here 𝓤 H A mem run) known-here (to-here r u) (and-then ! (load ! (from ! (stop !)) (look ! 2 refl)) (no-more !)) (λ u′.
         use1 W (later (some (λ (t : Word). ((‵ (flft κ q) ⊛ ‵ ftrue) ⊛ ‵ (S.the-row .own t (u′ ∷ []))) ⊛ raw (ensured 𝓤 H A word-here.ended (word-here.clauses 𝓤 H A mem run) (κ, tt) (r, tt) tt t)))) (id⊢ 𝓤 _) $ await ! tt $ pick ! (λ t.
-        split ! $ move ! (1 ∷ []) $ use1 W (raw (fact 𝓤 (t ≡ held (fileWord (now (r .file)) (r .at))))) (here-said r t) $ heard ! (t ≡ held (fileWord (now (r .file)) (r .at))) (λ e′. split ! $ move ! (1 ∷ []) $
+        split ! $ move ! (1 ∷ []) $ use1 W (raw (fact 𝓤 (t ≡ heldWord (fileWord (now (r .file)) (r .at))))) (here-said r t) $ heard ! (t ≡ heldWord (fileWord (now (r .file)) (r .at))) (λ e′. split ! $ move ! (1 ∷ []) $
         -- [the result; the token; what s and i own; _3; …; _2; …; _1; …; room for _0; …]
         peeks ! S.the-row (Is S.the-row) (shows 𝓤 H A S.the-row) t (u′ ∷ []) (λ is′.
         land ! (from ! (stop !)) (init ! 9 refl (LL.lawful S.the-type S′.the-laws 𝓤 H A W .typed t _ is′ .0)) $
         returns ! (look ! 9 refl) $ forget ! 3 refl $ forget ! 5 refl $ forget ! 7 refl $ forget ! 9 refl $ move ! (9 ∷ 10 ∷ []) $ free1 ! $ move ! (7 ∷ 8 ∷ []) $ free1 ! $ move ! (5 ∷ 6 ∷ []) $ free1 ! $ move ! (3 ∷ 4 ∷ []) $ free1 ! $ free0 ! $
-        by ! (exits t u′ (e′ ∙ (ap (λ (x : RefT (List ℕ)). held (fileWord (now x) (r .at))) (e .0) ∙ ap (λ (i : ℕ). held (fileWord (now s) i)) (e .1))))))))))))))))
+        by ! (exits t u′ (e′ ∙ (ap (λ (x : RefT (List ℕ)). heldWord (fileWord (now x) (r .at))) (e .0) ∙ ap (λ (i : ℕ). heldWord (fileWord (now s) i)) (e .1))))))))))))))))
 
 module _ {M : Type 1} (𝓤 : URA M) (H : Heap 𝓤) (A : Atoms 𝓤) (W : Given 𝓤 H A) (mem : Memory → SProp 𝓤) (run : Routine → Fun 𝓤) where
   word-through-walks : (C : Calls 𝓤 H) (Λ : Loops 𝓤 H) → FmC 𝓤 H (W .laws) C → Triple 𝓤 (C #table·reader·placed) (Placed 𝓤 H A mem run) → Triple 𝓤 (C #table·reader·word-here) (Here 𝓤 H A mem run)
