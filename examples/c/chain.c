@@ -1,4 +1,5 @@
-/* Merges the table of labels 00 and 11 (marked case 3), decodes two blocks received as 01 and 11 (marked case 7), and prints the path. */
+/* Merges the table of labels 00 and 11 (marked case 3) and prints its sizes, decodes two blocks received as 01 and 11 (marked case 7), and prints the
+ * path. Valid C and C++. */
 #include "link_kit.h"
 
 #include <stdio.h>
@@ -23,6 +24,12 @@ int main(void) {
     size_t length = values[0];
     printf("section of %zu numbers, vertices %u %u %u, edges %u %u\n", length, section[3], section[4], section[5], section[6], section[7]);
 
+    uint8_t text[LINK_ANY_TEXT];
+    number = link_listing(file, sizeof file, text, sizeof text, values);
+    if (number != LINK_SUCCESS)
+        return refused("listing", number, values);
+    fwrite(text, 1, values[0], stdout);
+
     uint8_t again[sizeof file];
     number = link_read_back(section, length, again, sizeof again, values);
     if (number != LINK_SUCCESS || values[0] != sizeof file || memcmp(file, again, sizeof file) != 0)
@@ -37,8 +44,8 @@ int main(void) {
     if (number != LINK_SUCCESS)
         return refused("decode", number, values);
     printf("distance %u\n", values[0]);
-    for (int b = 0; b < 2; b++)
-        printf("block %d: label %u%u, goal %u, distance from state 0 onward %u\n", b, labels[b] >> 2 & 3, labels[b] & 3, goals[b],
+    for (unsigned b = 0; b < 2; b++)
+        printf("block %u: label %u%u, goal %u, distance from state 0 onward %u\n", b, labels[b] >> 2 & 3, labels[b] & 3, goals[b],
                costs[LINK_COST_PLACE(b, 0)]);
     return 0;
 }

@@ -1,4 +1,4 @@
-//! The answers as enums, and the scope's number and values for each of their cases.
+//! The answers as enums, and document 01's number and values for each of their cases.
 
 /// What merging answers.
 #[derive(Clone, Copy, PartialEq, Eq, Debug)]
@@ -87,7 +87,7 @@ impl Merged {
         }
     }
 
-    /// The scope's number.
+    /// Document 01's number.
     pub fn number(self) -> u32 {
         match self {
             Merged::Section(_) => 0,
@@ -123,7 +123,7 @@ impl ReadBack {
         }
     }
 
-    /// The scope's number.
+    /// Document 01's number.
     pub fn number(self) -> u32 {
         match self {
             ReadBack::File(_) => 0,
@@ -156,7 +156,7 @@ impl Decoded {
         }
     }
 
-    /// The scope's number.
+    /// Document 01's number.
     pub fn number(self) -> u32 {
         match self {
             Decoded::Distance(_) => 0,
@@ -186,7 +186,7 @@ impl Listed {
         }
     }
 
-    /// The scope's number.
+    /// Document 01's number.
     pub fn number(self) -> u32 {
         match self {
             Listed::Text(_) => 0,

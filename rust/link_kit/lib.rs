@@ -1,5 +1,6 @@
 //! The link kit for Rust: tables merged into trellis sections, sections read back, chains of blocks decoded, sizes listed. Safe calls of `liblink_kit.a`,
-//! whose every answer and every place of every buffer is proved to be what the scope says. Nothing here allocates or keeps anything between calls.
+//! whose every answer and every place of every buffer is proved to be what document 01 says, the customer's paper on tables, sections and outcomes.
+//! Formats and outcomes are in `docs/FORMATS.md`, with a worked table. Nothing here allocates or keeps anything between calls.
 //!
 //! ```
 //! use link_kit::{ANY_SECTION, Decoded, Frame, Merged, Room};
@@ -52,7 +53,7 @@ pub struct Frame<'a> {
     pub indices: &'a [u8],
     /// The received label of each block.
     pub received: &'a [u16],
-    /// The erasure mask of each block, the first symbol highest.
+    /// The erasure mask of each block: n bits, the first symbol highest. An erased symbol has digit 0 in the received label.
     pub erased: &'a [u8],
     /// The state before the first block.
     pub start: u8,

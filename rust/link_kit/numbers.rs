@@ -1,5 +1,5 @@
-//! The archive's four functions as they are, over slices: each returns the scope's number and fills `values` with the numbers returned with it, 0 in the
-//! places not used. The only declarations of the archive in Rust, and the only unsafe code, are here.
+//! The archive's four functions as they are, over slices: each returns document 01's number and fills `values` with the numbers returned with it, 0 in
+//! the places not used. The only declarations of the archive in Rust, and the only unsafe code, are here.
 
 use super::{Frame, Room};
 

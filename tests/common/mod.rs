@@ -1,5 +1,5 @@
 //! What the running programs share: calls of the kit, tables and chains of many kinds, and merging, sections, decoding and the listing written plainly
-//! from document 01.
+//! from document 01, the customer's paper on tables, sections and outcomes.
 #![allow(dead_code)]
 
 pub mod archive;
