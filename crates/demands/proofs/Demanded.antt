@@ -1,14 +1,16 @@
 -- Merging does what demands 2 and 3 ask of it. Its answer goes by the first witness, which there is exactly if the table is not rectangular. On success the
--- first numbers of the buffer are our section's; read by the layout they give our counts, vertices and edges, for which demand 3 is proved.
+-- section left is our section's numbers; read by the layout they give our counts, vertices and edges, for which demand 3 is proved, and reading them back
+-- gives the file.
 use mathlib.Core.Path.{_≡_, refl, sym, ap, subst, _∙_}
+use mathlib.Core.Logic.{_↔_}
 use mathlib.Core.List.{List, [], _∷_, _++_}
-use Prim.Native.Nat.{ℕ, _≤_, _<_}
+use Prim.Native.Nat.{ℕ, _^_, _≤_, _<_}
 use native.Mathlib.Omega.{arith}
-use native.Mathlib.Nat.{not-suc-le-zero}
 use lib.ListN.{length, take, drop}
 use borrow.Author.Tests.{le-ltb}
-use Rattle.trellis.specs.Lists.{each, over}
+use Rattle.trellis.specs.Lists.{_∈_, each, over}
 use Rattle.trellis.specs.Word.{Word, Rectangular}
+use Rattle.trellis.specs.Drawn.{PathOf}
 use Rattle.trellis.specs.Own.{vertexCount, edgeCount}
 use Rattle.trellis.proofs.Ours.{ours}
 use Rattle.trellis.specs.Layout.{qOf, nOf, statesOf, vertexCountOf, edgeCountOf, sectionOf, drawingOf}
@@ -22,7 +24,9 @@ use Rattle.trellis.proofs.OwnLaid.{own-vertex-count, own-edge-count, own-root, 
 use Rattle.table.specs.inner.Good.{GoodFile}
 use Rattle.table.proofs.Accepted.{accepted-good}
 use Rattle.merge.specs.Merging.{Merging, left, mapOf, mapLength, written, merged, mergedTable, mergedFile, merging}
-use Rattle.demands.specs.Merged.{Fair, Smallest, Accepted, Refused, Demanded}
+use Rattle.read_back.specs.ReadingBack.{readingBack, left as whole}
+use Rattle.read_back.proofs.Again.{read-back-again}
+use Rattle.demands.specs.Demands.{Fair, IsAccepted, sectionLeft, Refused, Decided, SameWords, Smallest}
 use Rattle.demands.proofs.SameDrawing.{Alike, drawn-same, path-new, path-old}
 
 take-front : (l r : List ℕ) → take (length l) (l ++ r) ≡ l
@@ -32,9 +36,9 @@ take-front (x ∷ l) r = ap (λ m. x ∷ m) (take-front l r)
 -- ---- our section, from its numbers
 
 module _ (q n states : ℕ) (table : List Word) where
-  sizes-first : (r : List ℕ) → (qOf (sectionOf q n states table ++ r) ≡ q) × (nOf (sectionOf q n states table ++ r) ≡ n) × (statesOf (sectionOf q n states table ++ r) ≡ states)
+  sizes-first : (qOf (sectionOf q n states table) ≡ q) × (nOf (sectionOf q n states table) ≡ n) × (statesOf (sectionOf q n states table) ≡ states)
   unfolding sectionOf
-  sizes-first r = (refl, refl, refl)
+  sizes-first = (refl, refl, refl)
 
   alike : Alike n (ours n table) (drawingOf (sectionOf q n states table))
   unfolding ours drawingOf
@@ -48,19 +52,20 @@ module _ (q n states : ℕ) (table : List Word) where
   }
 
 module _ {file : List ℕ} {q n states : ℕ} {table : List Word} (G : GoodFile file q n states table) (R : Rectangular n table) where
-  smallest : Smallest n table (sectionOf q n states table)
-  smallest =
+  our-words : (w : Word) → w .label < 4 ^ n → PathOf n (drawingOf (sectionOf q n states table)) w ↔ (w ∈ table)
+  our-words w h =
       let D = drawn n table (G .table) R in
-      record {
-        own = drawn-same (G .nFrom) (alike q n states table) D;
-        words = λ w h. (
-          λ P. own-words n table (G .table) R w h .0 (path-old (G .nFrom) (alike q n states table) D P),
-          λ m. path-new (G .nFrom) (alike q n states table) D (own-words n table (G .table) R w h .1 m),
-        );
-        least = λ E H. same-counts n (vertexCount n table) (edgeCount n table) (vertexCountOf (sectionOf q n states table)) (edgeCountOf (sectionOf q n states table)) E
-            (λ t h. sym (own-vertex-count q n states table t h)) (λ t h. sym (own-edge-count q n states table t h))
-            (demand-3 n table (G .table) R .least E H);
-      }
+      let o = own-words n table (G .table) R w h in
+      (λ p. o .0 (path-old (G .nFrom) (alike q n states table) D p), λ m. path-new (G .nFrom) (alike q n states table) D (o .1 m))
+
+  our-smallest : Smallest n table (sectionOf q n states table)
+  our-smallest = record {
+    own = drawn-same (G .nFrom) (alike q n states table) (drawn n table (G .table) R);
+    least = λ E H.
+        same-counts n (vertexCount n table) (edgeCount n table) (vertexCountOf (sectionOf q n states table)) (edgeCountOf (sectionOf q n states table)) E
+        (λ t h. sym (own-vertex-count q n states table t h)) (λ t h. sym (own-edge-count q n states table t h))
+        (demand-3 n table (G .table) R .least E H);
+  }
 
 -- ---- the answer
 
@@ -70,27 +75,19 @@ module _ {file : List ℕ} {q n states : ℕ} {table : List Word} {map section :
   by-witness = ap (mergedFile map section) (F .wellFormed) ∙ simp (le-ltb (length map) (mapLength n table) (F .mapRoom))
 
   by-nothing : witness n table ≡ nothing
-      → merging file map section ≡ left (success (length (sectionOf q n states table))) (over (mapOf n table) map) (over (sectionOf q n states table) section)
+      → merging file map section
+      ≡ left (success (length (sectionOf q n states table))) (over (mapOf n table) map) (over (sectionOf q n states table) section)
   unfolding merged written
   by-nothing e =
-      by-witness ∙ ap (merged q n states table map section) e ∙ simp (le-ltb (length section) (length (sectionOf q n states table)) (F .sectionRoom))
+      by-witness ∙ ap (merged q n states table map section) e
+      ∙ simp (le-ltb (length section) (length (sectionOf q n states table)) (F .sectionRoom))
 
   by-found : (t i j k : ℕ) → witness n table ≡ found t i j k → merging file map section .answer ≡ notRectangular t i j k
   unfolding merged
   by-found t i j k e = ap (λ (m : Merging). m .answer) (by-witness ∙ ap (merged q n states table map section) e)
 
-  accepts : Rectangular n table → Accepted q n states table (merging file map section)
-  accepts R =
-      let e = by-nothing (witness-none n table .1 R) in
-      let s : merging file map section .section ≡ sectionOf q n states table ++ drop (length (sectionOf q n states table)) section
-      = ap (λ (m : Merging). m .section) e in
-      record {
-        size = length (sectionOf q n states table);
-        answer = ap (λ (m : Merging). m .answer) e;
-        sizes = subst (λ l. (qOf l ≡ q) × (nOf l ≡ n) × (statesOf l ≡ states)) (sym s) (sizes-first q n states table (drop (length (sectionOf q n states table)) section));
-        smallest = subst (Smallest n table) (sym (ap (take (length (sectionOf q n states table))) s
-            ∙ take-front (sectionOf q n states table) (drop (length (sectionOf q n states table)) section))) (smallest (accepted-good file (F .wellFormed)) R);
-      }
+  accepts : Rectangular n table → IsAccepted (merging file map section)
+  accepts R = ap (λ (m : Merging). m .answer .number) (by-nothing (witness-none n table .1 R))
 
   refuses : (Rectangular n table → ⊥) → Refused n table (merging file map section)
   refuses h = go (witness n table) refl
@@ -99,15 +96,40 @@ module _ {file : List ℕ} {q n states : ℕ} {table : List Word} {map section :
       go (found t i j k) e = record { depth = t; i = i; j = j; k = k; answer = by-found t i j k e; first = witness-first n table t i j k e }
       go nothing e = absurd (h (witness-none n table .0 e))
 
-  only : Accepted q n states table (merging file map section) → Rectangular n table
+  only : IsAccepted (merging file map section) → Rectangular n table
   only A = go (witness n table) refl
     where
       go : (w : Witness) → witness n table ≡ w → Rectangular n table
       go (found t i j k) e =
-          let z = ap (λ (o : Outcome). o .number) (sym (by-found t i j k e) ∙ A .answer) in
-          let no : 1 ≤ 0 = omega (arith, z) in
-          absurd (not-suc-le-zero no)
+          let z : _≡_ {A = ℕ} 6 0 = ap (λ (o : Outcome). o .number) (sym (by-found t i j k e)) ∙ A in
+          absurd (omega (arith, z))
       go nothing e = witness-none n table .0 e
 
-  pub demanded : Demanded q n states table (merging file map section)
-  demanded = record { accepts = accepts; refuses = refuses; only = only }
+  pub decided : Decided n table (merging file map section)
+  decided = record { accepts = accepts; refuses = refuses; only = only }
+
+  -- ---- the section left
+
+  module _ (A : IsAccepted (merging file map section)) where
+    is-ours : sectionLeft (merging file map section) ≡ sectionOf q n states table
+    is-ours =
+        let e = by-nothing (witness-none n table .1 (only A)) in
+        ap sectionLeft e ∙ take-front (sectionOf q n states table) (drop (length (sectionOf q n states table)) section)
+
+    G : GoodFile file q n states table
+    G = accepted-good file (F .wellFormed)
+
+    reads-back : (buffer : List ℕ) → length file ≤ length buffer
+        → readingBack (sectionOf q n states table) buffer ≡ whole (success (length file)) (over file buffer)
+    reads-back buffer h =
+        read-back-again file (F .bytes) (F .wellFormed) (only A) buffer ∙ simp (le-ltb (length buffer) (length file) h)
+
+    pub same-words : SameWords file q n states table (sectionLeft (merging file map section))
+    same-words = subst (SameWords file q n states table) (sym is-ours) (record {
+      sizes = sizes-first q n states table;
+      words = our-words G (only A);
+      readsBack = reads-back;
+    })
+
+    pub smallest : Smallest n table (sectionLeft (merging file map section))
+    smallest = subst (Smallest n table) (sym is-ours) (our-smallest G (only A))

@@ -1,3 +1,5 @@
--- Why merging does what demands 2 and 3 ask of it.
+-- Why the demands are met.
+pub mod Ends
 pub mod SameDrawing
 pub mod Demanded
+pub mod Demands

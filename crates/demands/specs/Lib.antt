@@ -1,2 +1,2 @@
--- What the three demands say of merging.
-pub mod Merged
+-- The three demands on the kit.
+pub mod Demands

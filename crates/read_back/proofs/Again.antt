@@ -124,7 +124,7 @@ module _ (q n S : ℕ) (words : List Word) (A : Fitting q n S words) where
       let e = eq-eqb (sectionLength (sectionOf q n S words)) (length (sectionOf q n S words)) (own-length q n S words) in
       rw (u, e)
 
-  -- what reading our section back left in a buffer
+  -- what reading our section back leaves in a buffer
   pub own-read-back : (buffer : List ℕ)
       → readingBack (sectionOf q n S words) buffer
       ≡ cond (ltb (length buffer) (5 + 4 * length words)) (left (shortBuffer (5 + 4 * length words)) buffer)

@@ -1,4 +1,4 @@
--- The ways that reading back ends, each from the tests that lead there: what the code left is what the definition says. The words found are the
+-- The ways that reading back ends, each from the tests that lead there: what the code leaves is what the definition says. The words found are the
 -- section's words, and of words whose numbers fit, the bytes put into the buffer are those of the table file.
 use mathlib.Core.Path.{_≡_, sym, ap, ap₂, _∙_}
 use mathlib.Core.Bool.{Bool, true, false, not}

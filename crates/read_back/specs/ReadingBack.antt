@@ -1,5 +1,5 @@
 -- What reading a section back leaves: document 01's outcome and the whole buffer, by its checks 8, 12 and 10 in that order.
--- Every refusal left the buffer as it was; success writes the table file of the section's words in front and nothing behind it.
+-- Every refusal leaves the buffer as it was; success writes the table file of the section's words in front and nothing behind it.
 use mathlib.Core.Bool.{Bool, not, cond, _&&_}
 use mathlib.Core.List.{List}
 use Prim.Native.Nat.{ℕ, _+_, _*_}

@@ -1,6 +1,5 @@
--- A section drawn by another hand, for demand 3: vertices listed for each depth and edges listed for each step, under document 01's conditions and
--- no others. Inner vertices may be any number and may be twins, a word may have several paths, symbols may be any numbers, and nothing here asks
--- for our layout or bounds. Step t + 1 of document 01 is written as step t.
+-- A section drawn by another hand, for demand 3: vertices listed for each depth and edges listed for each step. Inner vertices may be any number and may be
+-- twins, a word may have several paths, symbols may be any numbers, and nothing here asks for our layout or bounds. Step t + 1 of document 01 is step t.
 use mathlib.Core.Path.{_≡_}
 use mathlib.Core.List.{List}
 use Prim.Native.Nat.{ℕ, suc, _≤_, _<_}
@@ -64,19 +63,19 @@ pub record JustOne (table : List Word) (state : Word → ℕ) (list : List ℕ) 
   pub atMost : (v u : ℕ) → v ∈ list → u ∈ list → stateOf v ≡ stateOf u → v ≡ u
   pub only : (v : ℕ) → v ∈ list → HasState table state (stateOf v)
 
--- D is a section drawn for the table
+-- D is a section drawn for the table. Each condition but one is a sentence of document 01, quoted before it
 pub record DrawnFor (n : ℕ) (table : List Word) (D : Drawing) : Type 0 where
-  -- no vertex is listed twice
+  -- "any finite list of vertices for each depth 0 to n, none listed twice"
   pub noneTwice : (t : ℕ) → t ≤ n → Once (D .vertices t)
-  -- each edge joins vertices of its step's two depths
+  -- "and of edges for each step, each edge joining vertices of its step's two depths"
   pub joins : (t : ℕ) → t < n → (e : Edge) → e ∈ D .edges t → (e .from ∈ D .vertices t) × (e .to ∈ D .vertices (suc t))
-  -- no edge is repeated
+  -- "No edge is repeated if no two edges of a step agree in from, symbol and to"
   pub noRepeat : (t : ℕ) → t < n → Once (D .edges t)
-  -- just one vertex for each root, just one for each goal
+  -- "Depth 0 has just one vertex for each root in the table, depth n just one for each goal"
   pub roots : JustOne table (λ w. w .root) (D .vertices 0) (D .rootOf)
   pub goals : JustOne table (λ w. w .goal) (D .vertices n) (D .goalOf)
-  -- every vertex is on a path
+  -- every vertex is on a path: the demand's own condition, since a vertex that no path meets would lower the selections
   pub onPath : (t v : ℕ) → t ≤ n → v ∈ D .vertices t → Through n D t v
-  -- the paths carry the table's words, no more and no fewer
+  -- drawn "for an accepted table": "its words ... are taken as above", off its paths, and are the table's, no more and no fewer
   pub noMore : (x a : ℕ → ℕ) → IsPath n D x a → WordOf n D table x a
   pub noFewer : (w : Word) → w ∈ table → PathOf n D w

@@ -1,0 +1,14 @@
+-- The demands are met: what the files beside this one show, put together.
+use Rattle.demands.specs.Demands.{Demands}
+use Rattle.demands.proofs.Ends.{merging-ends, reading-back-ends, decoding-ends}
+use Rattle.demands.proofs.Demanded.{decided, same-words, smallest}
+
+pub demands : Demands
+demands = record {
+  mergingEnds = λ file map section. merging-ends map section file;
+  readingBackEnds = reading-back-ends;
+  decodingEnds = decoding-ends;
+  decided = decided;
+  sameWords = same-words;
+  smallest = smallest;
+}

@@ -1,0 +1,119 @@
+-- Demand 1: every outcome is one of the list, and refusals keep the buffers. The definitions are chains of tests, and each of their ends is one outcome with
+-- its buffers, so the claim is looked up end by end.
+use mathlib.Core.Path.{refl}
+use mathlib.Core.Bool.{Bool, true, false, not, cond}
+use mathlib.Core.List.{List, [], _∷_}
+use Prim.Native.Nat.{ℕ}
+use native.Mathlib.Nat.{not-suc-le-zero}
+use lib.ListN.{length}
+use lib.Dec.{T, ltb, eqb, eqb→eq, eqb-refl}
+use Rattle.trellis.specs.Bounds.{mostWords}
+use Rattle.trellis.specs.Lists.{_∈_, first, isIn}
+use Rattle.trellis.specs.Word.{Word}
+use Rattle.trellis.specs.Outcome.{outcome}
+use Rattle.trellis.specs.Layout.{sectionOf, sectionWords}
+use Rattle.trellis.specs.Witness.{Witness, found, nothing, witness}
+use Rattle.trellis.proofs.Lists.{in-yes, in-of}
+use Rattle.table.specs.File.{byteAt, wordCount, fileWords, lengthBad, firstSize, firstBad, firstNotAbove, TableFile, tableFile}
+use Rattle.merge.specs.Merging.{Merging, mapLength, written, merged, mergedTable, mergedFile, merging}
+use Rattle.paths.specs.Choice.{Choice, none, some}
+use Rattle.read_back.specs.ReadingBack.{ReadingBack, isSection, fileLength, readingBack}
+use Rattle.chain.specs.Sections.{sectionsBad}
+use Rattle.chain.specs.Frame.{frameBad, blockBad}
+use Rattle.chain.specs.Decoding.{Decoding, left, neededOf, bestOf, found as decoded, fitted, framed, decoding}
+use Rattle.demands.specs.Demands.{MergingEnds, ReadingBackEnds, DecodingEnds}
+
+-- what holds of both ends of a test
+ends : {A : Type 0} (P : A → Type 0) (b : Bool) {x y : A} → P x → P y → P (cond b x y)
+ends P true p q = p
+ends P false p q = q
+
+-- numbers looked up in a list
+is-in : (x : ℕ) (l : List ℕ) → T (isIn eqb x l) → x ∈ l
+is-in x l t = in-yes eqb eqb→eq eqb-refl x l t
+
+not-in : (x : ℕ) (l : List ℕ) → (T (isIn eqb x l) → ⊥) → x ∈ l → ⊥
+not-in x l h m = h (in-of eqb eqb→eq eqb-refl x l m)
+
+-- ---- merging
+
+module _ (map section : List ℕ) where
+  abbrev Kept : Merging → Type 0
+  Kept m = MergingEnds map section m
+
+  module _ (q n states : ℕ) (table : List Word) where
+    at-end : Kept (written q n states table map section)
+    unfolding written isIn
+    at-end =
+        ends Kept (ltb (length section) (length (sectionOf q n states table)))
+        (record { listed = is-in 7 _ tt; sectionKept = λ h. refl; mapKept = λ m. absurd (not-in 7 (1 ∷ 2 ∷ 3 ∷ 4 ∷ 5 ∷ []) (λ t. t) m) })
+        (record {
+          listed = is-in 0 _ tt;
+          sectionKept = λ h. absurd (not-suc-le-zero h);
+          mapKept = λ m. absurd (not-in 0 (1 ∷ 2 ∷ 3 ∷ 4 ∷ 5 ∷ []) (λ t. t) m);
+        })
+
+    by-witness : (w : Witness) → Kept (merged q n states table map section w)
+    unfolding merged isIn
+    by-witness (found t i j k) =
+        record { listed = is-in 6 _ tt; sectionKept = λ h. refl; mapKept = λ m. absurd (not-in 6 (1 ∷ 2 ∷ 3 ∷ 4 ∷ 5 ∷ []) (λ t. t) m) }
+    by-witness nothing = at-end
+
+    by-table : Kept (mergedTable q n states table map section)
+    unfolding mergedTable isIn
+    by-table =
+        ends Kept (ltb (length map) (mapLength n table)) (record { listed = is-in 5 _ tt; sectionKept = λ h. refl; mapKept = λ m. refl })
+        (by-witness (witness n table))
+
+  abbrev FileKept : TableFile → Type 0
+  FileKept f = Kept (mergedFile map section f)
+
+  pub merging-ends : (file : List ℕ) → Kept (merging file map section)
+  unfolding merging mergedFile tableFile isIn
+  merging-ends file =
+      ends FileKept (lengthBad file) (record { listed = is-in 1 _ tt; sectionKept = λ h. refl; mapKept = λ m. refl })
+      (ends FileKept (ltb (firstSize file) 4) (record { listed = is-in 2 _ tt; sectionKept = λ h. refl; mapKept = λ m. refl })
+      (ends FileKept (ltb (firstBad file) (wordCount file)) (record { listed = is-in 3 _ tt; sectionKept = λ h. refl; mapKept = λ m. refl })
+      (ends FileKept (ltb (firstNotAbove file) (wordCount file)) (record { listed = is-in 4 _ tt; sectionKept = λ h. refl; mapKept = λ m. refl })
+      (by-table (byteAt file 0) (byteAt file 1) (byteAt file 2) (fileWords file)))))
+
+-- ---- reading back
+
+pub reading-back-ends : (section file : List ℕ) → ReadingBackEnds file (readingBack section file)
+unfolding readingBack isIn
+reading-back-ends section file =
+    ends Kept (not (isSection section)) (record { listed = is-in 8 _ tt; fileKept = λ h. refl })
+    (ends Kept (ltb mostWords (length (sectionWords section))) (record { listed = is-in 12 _ tt; fileKept = λ h. refl })
+    (ends Kept (ltb (length file) (fileLength (sectionWords section))) (record { listed = is-in 10 _ tt; fileKept = λ h. refl })
+    (record { listed = is-in 0 _ tt; fileKept = λ h. absurd (not-suc-le-zero h) })))
+  where
+    Kept : ReadingBack → Type 0
+    Kept r = ReadingBackEnds file r
+
+-- ---- decoding
+
+module _ (sections : List ℕ) (k : ℕ) (indices received erased : List ℕ) (start end : ℕ) (costs labels goals : List ℕ) where
+  abbrev DecodingKept : Decoding → Type 0
+  DecodingKept d = DecodingEnds costs labels goals d
+
+  by-path : (c : Choice (List Word)) → DecodingKept (decoded sections k indices received erased start end costs labels goals c)
+  unfolding decoded isIn
+  by-path none = record { listed = is-in 11 _ tt; wordsKept = λ h. (refl, refl); costsKept = λ m. absurd (not-in 11 (8 ∷ 9 ∷ 10 ∷ []) (λ t. t) m) }
+  by-path (some d ws) = record {
+    listed = is-in 0 _ tt;
+    wordsKept = λ h. absurd (not-suc-le-zero h);
+    costsKept = λ m. absurd (not-in 0 (8 ∷ 9 ∷ 10 ∷ []) (λ t. t) m);
+  }
+
+  -- a refusal that keeps all three
+  all-kept : (number : ℕ) (values : List ℕ) → T (isIn eqb number (0 ∷ 8 ∷ 9 ∷ 10 ∷ 11 ∷ [])) → DecodingKept (left (outcome number values) costs labels goals)
+  all-kept number values t = record { listed = is-in number _ t; wordsKept = λ h. (refl, refl); costsKept = λ m. refl }
+
+  pub decoding-ends : DecodingKept (decoding sections k indices received erased start end costs labels goals)
+  unfolding decoding framed fitted isIn
+  decoding-ends =
+      ends DecodingKept (sectionsBad sections k) (all-kept 8 _ tt)
+      (ends DecodingKept (frameBad indices received erased start end) (all-kept 9 _ tt)
+      (ends DecodingKept (ltb (first (blockBad sections indices received erased k) (length indices)) (length indices)) (all-kept 9 _ tt)
+      (ends DecodingKept (ltb 0 (neededOf (length indices) (length costs) (length labels) (length goals))) (all-kept 10 _ tt)
+      (by-path (bestOf sections k indices received erased start end)))))
