@@ -10,8 +10,8 @@ use Rattle.trellis.specs.Lists.{rank}
 use Rattle.trellis.specs.inner.Write.{Wrote}
 use Rattle.trellis.proofs.Lists.{length-run, each-at}
 use Rattle.trellis.proofs.Write.{wrote-length, wrote-at, wrote-before, wrote-behind}
-use Rattle.layout.specs.inner.States.{occurring, Few, StatesMarked, Summed, StatesNumbered, vertexRow}
-use Rattle.layout.proofs.Marks.{numbered}
+use Rattle.layout.specs.inner.States.{occurring, Few, StatesMarked, Summed, vertexRow}
+use Rattle.layout.proofs.Marks.{numbered, StatesNumbered}
 use Rattle.assemble.specs.inner.Outer.{stateRow, RowPut, OuterAsked, OuterPlaced, OuterPut}
 
 row-is : {states ranks : List ℕ} {count : ℕ} → Few states → StatesNumbered states ranks count → vertexRow states ranks ≡ stateRow states

@@ -14,7 +14,14 @@ use Rattle.trellis.specs.Label.{symbol}
 use Rattle.paths.specs.inner.Ranked.{ranked, rankedCost}
 use Rattle.block.specs.Received.{erasedAt, costOver, symbolCost}
 use Rattle.block.specs.inner.Prices.{Prices}
-use Rattle.block.specs.inner.Loops.{InPrices}
+
+-- what the symbols from t on add is there, and the next one's weight is known
+pub record InPrices (n received mask : ℕ) (prices : List ℕ) (weight t : ℕ) : Type 0 where
+  pub t-le : t ≤ n
+  pub long : length prices ≡ 32
+  pub weightIs : weight ≡ 4 ^ (n - t) * 65536
+  pub light : weight ≤ 4294967296
+  pub at : (u a : ℕ) → t ≤ u → u < n → a < 4 → getD prices (4 * u + a) 0 ≡ rankedCost n (symbolCost n received mask) u a
 
 pub prices-start : {n received mask : ℕ} {prices : List ℕ} → length prices ≡ 32 → InPrices n received mask prices 65536 n
 prices-start {n} h =

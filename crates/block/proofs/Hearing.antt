@@ -20,7 +20,7 @@ use Rattle.label.proofs.Differing.{distance-more, distance-sum, distance-le}
 use Rattle.label.proofs.Digits.{symbol-small}
 use Rattle.block.specs.Received.{erasedAt, costOver, symbolCost, blockDistance}
 use Rattle.block.specs.inner.Prices.{Clean}
-use Rattle.block.specs.inner.Loops.{HeardOf}
+use Rattle.block.specs.inner.Heard.{HeardOf}
 
 pub heard-start : {n mask label : ℕ} → HeardOf n mask label 0 0 0
 unfolding sum

@@ -15,7 +15,11 @@ use Rattle.trellis.proofs.Bools.{holds, fails, is-true, both, join}
 use Rattle.trellis.proofs.Lists.{First, first-ok, first-is}
 use Rattle.block.specs.Received.{erasedAt, stray, fitsBlock}
 use Rattle.block.specs.inner.Prices.{Clean}
-use Rattle.block.specs.inner.Loops.{InStray}
+
+-- no symbol before t is erased and not 0
+pub record InStray (n received mask t : ℕ) : Type 0 where
+  pub t-le : t ≤ n
+  pub none : (u : ℕ) → u < t → T (stray n received mask u) → ⊥
 
 pub bit-at : (n t mask : ℕ) → eqb (bitAnd (mask / 2 ^ (n - 1 - t)) 1) 1 ≡ erasedAt n t mask
 unfolding erasedAt

@@ -1,3 +1,3 @@
 -- What only the contracts of inner functions cite.
 pub mod Prices
-pub mod Loops
+pub mod Heard

@@ -8,7 +8,7 @@ ghost use Rattle.trellis.specs.Bounds.{mostSymbols};
 ghost use Rattle.trellis.specs.Lists.{first, one-if};
 ghost use Rattle.block.specs.Received.{erasedAt, costOver, blockDistance, stray, fitsBlock};
 ghost use Rattle.block.specs.inner.Prices.{Clean, Prices};
-ghost use Rattle.block.specs.inner.Loops.{HeardOf};
+ghost use Rattle.block.specs.inner.Heard.{HeardOf};
 use trellis::MOST_Q;
 use trellis::MOST_SYMBOLS;
 

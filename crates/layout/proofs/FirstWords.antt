@@ -15,11 +15,11 @@ use borrow.Author.Tests.{eqb-true, eqb-false, leb-true, leb-false}
 use Rattle.trellis.specs.Lists.{_∈_, Lower, byFirst, bySecond, byThird, run, each, isIn, ascending}
 use Rattle.trellis.specs.Label.{symbol}
 use Rattle.trellis.specs.Word.{Word, wordAt, Table, Rectangular}
-use Rattle.trellis.specs.Own.{Edge, edgeLess, sameEdge, edgeOf, edgesAt}
+use Rattle.trellis.specs.Own.{Edge, edgeLess, edgeOf, edgesAt}
 use Rattle.trellis.proofs.Bools.{holds, fails}
 use Rattle.trellis.proofs.Lists.{in-yes, in-of, in-each}
 use Rattle.trellis.proofs.Ascending.{ascending-old, ascending-new}
-use Rattle.trellis.proofs.ThreeNumbers.{lower-yes}
+use Rattle.trellis.proofs.ThreeNumbers.{lower-yes, sameEdge}
 use Rattle.trellis.proofs.Paths.{edge-ok, edge-rf, edges-order}
 use Rattle.trellis.proofs.EdgeOrder.{New, new-last}
 use Rattle.label.proofs.Digits.{symbol-small}

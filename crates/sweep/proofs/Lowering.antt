@@ -18,8 +18,19 @@ use Rattle.trellis.specs.Layout.{vertexCountOf, edgeNumber}
 use Rattle.paths.specs.inner.Costs.{plus, minAll}
 use Rattle.paths.proofs.Capped.{min-all-le}
 use Rattle.sweep.specs.inner.Rows.{noCost}
-use Rattle.sweep.specs.inner.Loops.{between, InStep, Reads, EdgeAt, through, RowCleared, Clear, InLower, Lowered}
+use Rattle.sweep.specs.inner.Loops.{between, InStep, Reads, EdgeAt, through, RowCleared, Clear, Lowered}
 use Rattle.sweep.proofs.Edges.{between-more, between-none}
+
+-- row t still has to be lowered by the edges from i on
+pub record InLower (l prices : List ℕ) (t lo hi : ℕ) (old rows : List ℕ) (i : ℕ) : Type 0 where
+  pub lo-le : lo ≤ i
+  pub i-le : i ≤ hi
+  pub long : length rows ≡ 9216
+  pub kept : (j : ℕ) → mostWords * suc t ≤ j → getD rows j 0 ≡ getD old j 0
+  pub small : (v : ℕ) → v < vertexCountOf l t → getD rows (mostWords * t + v) 0 ≤ noCost
+  pub left : (v : ℕ) → v < vertexCountOf l t
+      → min (getD rows (mostWords * t + v) 0) (minAll noCost (through prices old t) (leaving v (between l i hi)))
+      ≡ minAll noCost (through prices old t) (leaving v (between l lo hi))
 
 pub leaving-here : (e : Edge) (es : List Edge) (v : ℕ) → e .from ≡ v → leaving v (e ∷ es) ≡ e ∷ leaving v es
 unfolding leaving keep

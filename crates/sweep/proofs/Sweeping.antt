@@ -15,9 +15,16 @@ use Rattle.paths.specs.inner.Sections.{sectionLeast}
 use Rattle.paths.proofs.Capped.{min-same-in}
 use Rattle.paths.proofs.Sections.{across, least-step}
 use Rattle.sweep.specs.inner.Rows.{noCost, Fits, Placed, Priced, Rows, Swept}
-use Rattle.sweep.specs.inner.Loops.{through, RowCleared, Lowered, InSweep}
+use Rattle.sweep.specs.inner.Loops.{through, RowCleared, Lowered}
 use Rattle.sweep.proofs.Edges.{edges-are, known}
 use Rattle.trellis.proofs.Laid.{before-more}
+
+-- rows t to n are done, and their edges begin at hi
+pub record InSweep (l prices old rows : List ℕ) (n t hi : ℕ) : Type 0 where
+  pub t-le : t ≤ n
+  pub hi-is : hi ≡ edgesBefore l t
+  pub long : length rows ≡ 9216
+  pub done : (cost : ℕ → ℕ → ℕ) (number : ℕ → ℕ) → Priced l prices cost → Rows l cost number (nOf l) old → Rows l cost number t rows
 
 -- what an edge of step t gives
 pub through-is : {l prices rows : List ℕ} {cost : ℕ → ℕ → ℕ} {number : ℕ → ℕ} {t : ℕ} → Fits l → t < nOf l → Priced l prices cost → Rows l cost number (suc t) rows

@@ -9,7 +9,8 @@ use lib.Dec.{eqb, eqb→eq, eqb-refl}
 use Rattle.trellis.specs.Lists.{_∈_}
 use Rattle.trellis.specs.Label.{symbol}
 use Rattle.trellis.specs.Word.{Word, Table, Rectangular}
-use Rattle.trellis.specs.Own.{sameEdge, vertexOf, vertexCount, edgeOf, edgeCount}
+use Rattle.trellis.specs.Own.{vertexOf, vertexCount, edgeOf, edgeCount}
+use Rattle.trellis.proofs.ThreeNumbers.{sameEdge}
 use Rattle.trellis.specs.Drawn.{PathOf, DrawnFor}
 use Rattle.trellis.specs.Demand.{allVertices, additions, selections, verticesOf, edgesOf}
 use Rattle.trellis.proofs.Ours.{ours, OursLeast}

@@ -13,11 +13,11 @@ use lib.Dec.{T}
 use Rattle.trellis.specs.Lists.{Lower, byFirst, bySecond, byThird, first}
 use Rattle.trellis.specs.Label.{symbol, front}
 use Rattle.trellis.specs.Word.{Word, wordAt, Before, Table, beginning, ending, joined, Rectangular}
-use Rattle.trellis.specs.Own.{edgeLess, sameEdge, key, firstSharing, vertexOf, edgeOf}
+use Rattle.trellis.specs.Own.{edgeLess, key, firstSharing, vertexOf, edgeOf}
 use Rattle.trellis.specs.Witness.{sameBeginning}
 use Rattle.trellis.proofs.Bools.{holds, fails}
 use Rattle.trellis.proofs.Lists.{First, first-ok}
-use Rattle.trellis.proofs.ThreeNumbers.{lower-of, lower-never, lower-chain}
+use Rattle.trellis.proofs.ThreeNumbers.{lower-of, lower-never, lower-chain, sameEdge}
 use Rattle.trellis.proofs.Labels.{front-mono, symbol-back, back-step, front-suc, front-all, front-none, symbol-lower}
 use Rattle.trellis.proofs.Words.{word-in, index, comes-first, beginning-root, beginning-front, beginning-eq, ending-back, ending-goal, ending-eq, joined-beginning, joined-ending}
 use Rattle.trellis.proofs.Vertices.{Numbering, own-numbering, key-root, key-goal, key-inner, vertex-key, vertex-less, shares-yes, first-le, first-shares}

@@ -9,7 +9,8 @@ use native.Mathlib.Nat.{le-refl}
 use lib.ListN.{length}
 use lib.Dec.{eqb, eqb→eq, eqb-refl}
 use Rattle.trellis.specs.Lists.{_∈_, Once, sum}
-use Rattle.trellis.specs.Own.{Edge, edge, sameEdge}
+use Rattle.trellis.specs.Own.{Edge, edge}
+use Rattle.trellis.proofs.ThreeNumbers.{sameEdge}
 use Rattle.trellis.proofs.Lists.{sum-add, sum-le, sum-suc}
 use Rattle.trellis.proofs.Distinct.{Known, distinct, stale-of, distinct-le, upto, in-upto, from-upto}
 use Rattle.trellis.proofs.OneWord.{Stop, along}

@@ -9,9 +9,9 @@ use native.Mathlib.Omega.{arith}
 use lib.ListN.{length}
 use lib.Dec.{T, eqb, eqb→eq, eqb-refl}
 use Rattle.trellis.specs.Lists.{_∈_, Once, Lower}
-use Rattle.trellis.specs.Own.{Edge, edge, edgeLess, sameEdge}
+use Rattle.trellis.specs.Own.{Edge, edge, edgeLess}
 use Rattle.trellis.proofs.Ascending.{Orders}
-use Rattle.trellis.proofs.ThreeNumbers.{alike-yes, alike-self, lower-yes, lower-of, lower-never, lower-chain, lower-compare}
+use Rattle.trellis.proofs.ThreeNumbers.{alike-yes, alike-self, lower-yes, lower-of, lower-never, lower-chain, lower-compare, sameEdge}
 use Rattle.trellis.proofs.Distinct.{Known, new, distinct, look, distinct-le, le-distinct, upto, in-upto, from-upto}
 
 -- ---- edges

@@ -1,7 +1,7 @@
 -- The order of three numbers, by the first, then the second, then the third: the test `lower` tells it, and it is a strict order in which every two can be
 -- compared, since each of the three is.
 use mathlib.Core.Path.{_≡_, sym, subst}
-use mathlib.Core.Bool.{_&&_, _||_}
+use mathlib.Core.Bool.{_&&_, _||_, Bool}
 use mathlib.Core.Logic.{inl, inr}
 use Prim.Native.Nat.{ℕ, _<_}
 use native.Mathlib.Omega.{arith}
@@ -9,6 +9,11 @@ use native.Mathlib.Decide.{decLt}
 use lib.Dec.{T, ltb, eqb, eqb→eq, eqb-refl, ltb→lt, lt→ltb}
 use Rattle.trellis.specs.Lists.{Lower, byFirst, bySecond, byThird, lower, alike}
 use Rattle.trellis.proofs.Bools.{both, join, either, or-left, or-right}
+use Rattle.trellis.specs.Label.{symbol}
+use Rattle.trellis.specs.Own.{Edge}
+
+abbrev pub sameEdge : Edge → Edge → Bool
+sameEdge e f = alike (e .from) (e .symbol) (e .to) (f .from) (f .symbol) (f .to)
 
 module _ (a b c x y z : ℕ) where
   pub lower-yes : T (lower a b c x y z) → Lower a b c x y z

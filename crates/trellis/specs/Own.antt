@@ -5,7 +5,7 @@ use mathlib.Core.List.{List}
 use Prim.Native.Nat.{ℕ, suc}
 use lib.ListN.{length}
 use lib.Dec.{ltb, eqb}
-use Rattle.trellis.specs.Lists.{each, first, isIn, rank, ascending, lower, alike}
+use Rattle.trellis.specs.Lists.{each, first, isIn, rank, ascending, lower}
 use Rattle.trellis.specs.Label.{symbol}
 use Rattle.trellis.specs.Word.{Word, wordAt, sameWord, joined}
 
@@ -20,9 +20,6 @@ edge x a y = record { from = x; symbol = a; to = y }
 -- edges of a step are ordered by from, symbol, to
 abbrev pub edgeLess : Edge → Edge → Bool
 edgeLess e f = lower (e .from) (e .symbol) (e .to) (f .from) (f .symbol) (f .to)
-
-abbrev pub sameEdge : Edge → Edge → Bool
-sameEdge e f = alike (e .from) (e .symbol) (e .to) (f .from) (f .symbol) (f .to)
 
 module _ (n : ℕ) (table : List Word) where
   -- words i and j share a vertex at the inner depth t: the beginning of one followed by the ending of the other is a word

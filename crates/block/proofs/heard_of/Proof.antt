@@ -2,7 +2,7 @@
 -- counted. The measure is how many symbols are left.
 use borrow.Author.Needs.{needs}
 use Prim.Native.Nat.{_-_}
-use Rattle.block.specs.inner.Loops.{HeardOf}
+use Rattle.block.specs.inner.Heard.{HeardOf}
 use Rattle.block.proofs.Hearing.{heard-start, heard-more, heard-end}
 use Rattle.block.proofs.heard_of.Statement.{statement}
 use Rattle.block.proofs.heard_of.Tie as tie

@@ -1,8 +1,7 @@
 -- `block::is_clear` tests the symbols in their order. The loop's invariant: none of those passed is erased and other than 0. The measure is how many are left.
 use borrow.Author.Needs.{needs}
 use Prim.Native.Nat.{_-_}
-use Rattle.block.specs.inner.Loops.{InStray}
-use Rattle.block.proofs.Masks.{stray-start, stray-found, stray-more, stray-none}
+use Rattle.block.proofs.Masks.{stray-start, stray-found, stray-more, stray-none, InStray}
 use Rattle.block.proofs.is_clear.Statement.{statement}
 use Rattle.block.proofs.is_clear.Tie as tie
 

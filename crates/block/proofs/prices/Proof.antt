@@ -1,8 +1,7 @@
 -- `block::prices` goes from the last symbol to the first, each weighing four times the one before it. The loop's invariant: the steps passed have what
 -- their symbols add. The measure is how many are left.
 use mathlib.Core.Path.{refl}
-use Rattle.block.specs.inner.Loops.{InPrices}
-use Rattle.block.proofs.Costs.{prices-start, prices-more, prices-end}
+use Rattle.block.proofs.Costs.{prices-start, prices-more, prices-end, InPrices}
 use borrow.Author.Needs.{needs}
 use Rattle.block.proofs.prices.Statement.{statement}
 use Rattle.block.proofs.prices.Tie as tie

@@ -2,8 +2,7 @@
 -- The measure is how many edges are left.
 use borrow.Author.Needs.{needs}
 use Prim.Native.Nat.{_-_}
-use Rattle.sweep.specs.inner.Loops.{InLower}
-use Rattle.sweep.proofs.Lowering.{lower-start, lower-more, lower-end}
+use Rattle.sweep.proofs.Lowering.{lower-start, lower-more, lower-end, InLower}
 use Rattle.sweep.proofs.lower.Statement.{statement}
 use Rattle.sweep.proofs.lower.Tie as tie
 

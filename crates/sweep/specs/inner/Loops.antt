@@ -1,7 +1,7 @@
 -- What the loops over a section keep, over raw lists and numbers.
 use mathlib.Core.Path.{_≡_}
 use mathlib.Core.List.{List}
-use Prim.Native.Nat.{ℕ, suc, _+_, _-_, _*_, _≤_, _<_, min}
+use Prim.Native.Nat.{ℕ, suc, _+_, _-_, _*_, _≤_, _<_}
 use lib.ListN.{length, getD}
 use Rattle.trellis.specs.Bounds.{mostWords}
 use Rattle.trellis.specs.Lists.{run}
@@ -9,7 +9,7 @@ use Rattle.trellis.specs.Own.{Edge}
 use Rattle.trellis.specs.Section.{leaving}
 use Rattle.trellis.specs.Layout.{nOf, vertexCountOf, edgesBefore, allEdges, pairsPlace, symbolsPlace, edgeNumber}
 use Rattle.paths.specs.inner.Costs.{plus, minAll}
-use Rattle.sweep.specs.inner.Rows.{noCost, Fits, Priced, Rows}
+use Rattle.sweep.specs.inner.Rows.{noCost, Fits}
 
 -- ---- edges
 
@@ -62,26 +62,8 @@ pub record Clear (l : List ℕ) (t : ℕ) (rows : List ℕ) : Type 0 where
   pub long : length rows ≡ 9216
   pub cleared : (v : ℕ) → v < vertexCountOf l t → getD rows (mostWords * t + v) 0 ≡ noCost
 
--- row t still has to be lowered by the edges from i on
-pub record InLower (l prices : List ℕ) (t lo hi : ℕ) (old rows : List ℕ) (i : ℕ) : Type 0 where
-  pub lo-le : lo ≤ i
-  pub i-le : i ≤ hi
-  pub long : length rows ≡ 9216
-  pub kept : (j : ℕ) → mostWords * suc t ≤ j → getD rows j 0 ≡ getD old j 0
-  pub small : (v : ℕ) → v < vertexCountOf l t → getD rows (mostWords * t + v) 0 ≤ noCost
-  pub left : (v : ℕ) → v < vertexCountOf l t
-      → min (getD rows (mostWords * t + v) 0) (minAll noCost (through prices old t) (leaving v (between l i hi)))
-      ≡ minAll noCost (through prices old t) (leaving v (between l lo hi))
-
 -- row t as it is left: each place has the least that the edges of its vertex give
 pub record Lowered (l prices : List ℕ) (t lo hi : ℕ) (old rows : List ℕ) : Type 0 where
   pub long : length rows ≡ 9216
   pub kept : (j : ℕ) → mostWords * suc t ≤ j → getD rows j 0 ≡ getD old j 0
   pub at : (v : ℕ) → v < vertexCountOf l t → getD rows (mostWords * t + v) 0 ≡ minAll noCost (through prices old t) (leaving v (between l lo hi))
-
--- rows t to n are done, and their edges begin at hi
-pub record InSweep (l prices old rows : List ℕ) (n t hi : ℕ) : Type 0 where
-  pub t-le : t ≤ n
-  pub hi-is : hi ≡ edgesBefore l t
-  pub long : length rows ≡ 9216
-  pub done : (cost : ℕ → ℕ → ℕ) (number : ℕ → ℕ) → Priced l prices cost → Rows l cost number (nOf l) old → Rows l cost number t rows
