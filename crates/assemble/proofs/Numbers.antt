@@ -29,12 +29,15 @@ numbers-more {source} {old} {new} {count} {at} {i} {v} c e h = record {
 }
   where
     more : firstNumbers source (i + 1) ≡ firstNumbers source i ++ (v ∷ [])
-    more = rw (add-one i) (run-snoc (λ k. getD source k 0) 0 i ∙ ap (λ x. firstNumbers source i ++ (x ∷ [])) (let z : 0 + i ≡ i = omega arith in rw z (sym e)))
+    more = rw (add-one i)
+        (run-snoc (λ k. getD source k 0) 0 i
+        ∙ ap (λ x. firstNumbers source i ++ (x ∷ [])) (let z : 0 + i ≡ i = omega arith in rw z (sym e)))
 
     W : Wrote old at (firstNumbers source (i + 1)) (set new (at + i) v) (at + i + 1)
     W = subst (λ vs. Wrote old at vs (set new (at + i) v) (at + i + 1)) (sym more) (wrote-one v (c .wrote))
 
-pub numbers-end : {source old new : List ℕ} {count at i : ℕ} → InNumbers source count old at new i → count ≤ i → Wrote old at (firstNumbers source count) new (at + count)
+pub numbers-end : {source old new : List ℕ} {count at i : ℕ} → InNumbers source count old at new i → count ≤ i
+    → Wrote old at (firstNumbers source count) new (at + count)
 numbers-end {source} {old} {new} {count} {at} {i} c h =
     let e : i ≡ count = omega (arith, c .i-le) in
     subst (λ k. Wrote old at (firstNumbers source k) new (at + k)) e (c .wrote)

@@ -15,12 +15,14 @@ use Rattle.layout.proofs.Marks.{numbered, StatesNumbered}
 use Rattle.assemble.specs.inner.Outer.{stateRow, RowPut, OuterAsked, OuterPlaced, OuterPut}
 
 row-is : {states ranks : List ℕ} {count : ℕ} → Few states → StatesNumbered states ranks count → vertexRow states ranks ≡ stateRow states
-row-is {states} {ranks} {count} F N = ext-getD 0 (vertexRow states ranks) (stateRow states) (length-run _ 0 (length states) ∙ sym (length-run _ 0 (length states)))
+row-is {states} {ranks} {count} F N =
+    ext-getD 0 (vertexRow states ranks) (stateRow states) (length-run _ 0 (length states) ∙ sym (length-run _ 0 (length states)))
     (λ i h. let l : i < length states = omega (arith, length-run (λ i. getD ranks (getD states i 0) 0) 0 (length states)) in
     each-at (λ i. getD ranks (getD states i 0) 0) (length states) i 0 l ∙ N .is (getD states i 0) (F .below i l)
     ∙ sym (each-at (λ i. rank (getD states i 0) (occurring states)) (length states) i 0 l))
 
-pub row-put : {states old new marks ranks : List ℕ} {place count : ℕ} → Few states → StatesMarked states (length states) marks → Summed marks ranks count
+pub row-put : {states old new marks ranks : List ℕ} {place count : ℕ} → Few states → StatesMarked states (length states) marks
+    → Summed marks ranks count
     → Wrote old place (vertexRow states ranks) new (place + length states) → RowPut states old place new marks count
 row-put {states} {old} {new} {marks} {ranks} {place} {count} F M S W =
     let N = numbered F M S in
@@ -32,12 +34,14 @@ row-put {states} {old} {new} {marks} {ranks} {place} {count} F M S W =
 
 -- ---- a row in the map
 
-module _ {states old new marks : List ℕ} {place count : ℕ} (R : RowPut states old place new marks count) (room : place + length states ≤ length old) where
+module _ {states old new marks : List ℕ} {place count : ℕ} (R : RowPut states old place new marks count)
+    (room : place + length states ≤ length old) where
   size : length (stateRow states) ≡ length states
   size = length-run (λ i. rank (getD states i 0) (occurring states)) 0 (length states)
 
   pub row-at : (i : ℕ) → i < length states → getD new (place + i) 0 ≡ rank (getD states i 0) (occurring states)
-  row-at i h = wrote-at (R .wrote) (omega (arith, size)) i (omega (arith, size)) ∙ each-at (λ i. rank (getD states i 0) (occurring states)) (length states) i 0 h
+  row-at i h = wrote-at (R .wrote) (omega (arith, size)) i (omega (arith, size))
+      ∙ each-at (λ i. rank (getD states i 0) (occurring states)) (length states) i 0 h
 
   pub row-before : (j : ℕ) → j < place → getD new j 0 ≡ getD old j 0
   row-before j h = wrote-before (R .wrote) j h
@@ -72,10 +76,12 @@ module _ {roots goals old inner : List ℕ} {n : ℕ} (A : OuterAsked roots goal
     module _ {new goalMarks : List ℕ} {goalCount : ℕ} (Q : RowPut goals mid (n * length roots) new goalMarks goalCount) where
       placed : OuterPlaced roots goals n old new
       placed = record {
-        rootRow = λ i h. row-before Q last-room i (omega (arith, one-row)) ∙ ap (λ k. getD mid k 0) (sym (zero-add i)) ∙ row-at P first-room i h;
+        rootRow = λ i h. row-before Q last-room i (omega (arith, one-row)) ∙ ap (λ k. getD mid k 0) (sym (zero-add i))
+            ∙ row-at P first-room i h;
         goalRow = λ i h. row-at Q last-room i (omega (arith, A .aimed));
         between = λ j a b. row-before Q last-room j b ∙ row-behind P first-room j (omega arith);
-        behind = λ j h. row-behind Q last-room j (omega (arith, suc-mul n (length roots), A .aimed)) ∙ row-behind P first-room j (omega (arith, suc-mul n (length roots), one-row));
+        behind = λ j h. row-behind Q last-room j (omega (arith, suc-mul n (length roots), A .aimed))
+            ∙ row-behind P first-room j (omega (arith, suc-mul n (length roots), one-row));
         len = row-length Q last-room ∙ row-length P first-room;
       }
 

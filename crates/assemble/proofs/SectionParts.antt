@@ -39,7 +39,8 @@ marked-length marks B (suc s) h = go (eqb (getD marks s 0) 1) refl (marked-lengt
     go true e r = omega (arith, length-append (markedBelow marks s) (s ∷ []), eqb-true (getD marks s 0) 1 e)
     go false e r = omega (arith, length-append (markedBelow marks s) [], none (eqb-false (getD marks s 0) 1 e))
 
-joined-size : (f g : ℕ → List ℕ) (size t : ℕ) → ((u : ℕ) → length (f u) ≡ size * length (g u)) → length (joinedUp f t) ≡ size * length (joinedUp g t)
+joined-size : (f g : ℕ → List ℕ) (size t : ℕ) → ((u : ℕ) → length (f u) ≡ size * length (g u))
+    → length (joinedUp f t) ≡ size * length (joinedUp g t)
 unfolding joinedUp
 joined-size f g size zero h = sym (mul-zero size)
 joined-size f g size (suc t) h =
@@ -48,7 +49,8 @@ joined-size f g size (suc t) h =
     ∙ sym (mul-add size (length (joinedUp g t)) (length (g t)))
     ∙ ap (λ k. size * k) (sym (length-append (joinedUp g t) (g t)))
 
-module _ {n : ℕ} {counts edgeCounts rootMarks goalMarks m labels words b0 : List ℕ} (P : Parts n counts edgeCounts rootMarks goalMarks m labels words b0) where
+module _ {n : ℕ} {counts edgeCounts rootMarks goalMarks m labels words b0 : List ℕ}
+    (P : Parts n counts edgeCounts rootMarks goalMarks m labels words b0) where
   abbrev total : ℕ
   total = length (joinedUp (stepTakers m labels n) n)
 
@@ -118,11 +120,17 @@ module _ {n : ℕ} {counts edgeCounts rootMarks goalMarks m labels words b0 : Li
 
                 pub all-parts : Wrote b0 0 (numbersOf q n states counts edgeCounts rootMarks goalMarks m labels) b7 a7
                 unfolding numbersOf
-                all-parts = subst (λ vs. Wrote b0 0 vs b7 a7) together (wrote-then (wrote-then (wrote-then (wrote-then (wrote-then (wrote-then H A) B) C) D) E) F)
+                all-parts = subst (λ vs. Wrote b0 0 vs b7 a7) together
+                    (wrote-then (wrote-then (wrote-then (wrote-then (wrote-then (wrote-then H A) B) C) D) E) F)
                   where
-                    together : ((((((q ∷ n ∷ states ∷ []) ++ firstNumbers counts (n + 1)) ++ firstNumbers edgeCounts n) ++ markedBelow rootMarks mostStates) ++ markedBelow goalMarks mostStates)
+                    together : ((((((q ∷ n ∷ states ∷ []) ++ firstNumbers counts (n + 1)) ++ firstNumbers edgeCounts n)
+                        ++ markedBelow rootMarks mostStates) ++ markedBelow goalMarks mostStates)
                         ++ joinedUp (stepPairs m labels n) n) ++ joinedUp (stepSymbols m labels n) n
                         ≡ q ∷ n ∷ states ∷
-                        (firstNumbers counts (suc n) ++ (firstNumbers edgeCounts n ++ (markedBelow rootMarks mostStates ++ (markedBelow goalMarks mostStates
+                        (firstNumbers counts (suc n)
+                        ++ (firstNumbers edgeCounts n ++ (markedBelow rootMarks mostStates ++ (markedBelow goalMarks mostStates
                         ++ (joinedUp (stepPairs m labels n) n ++ joinedUp (stepSymbols m labels n) n)))))
-                    together = rw (add-one n) (regroup (q ∷ n ∷ states ∷ []) (firstNumbers counts (suc n)) (firstNumbers edgeCounts n) (markedBelow rootMarks mostStates) (markedBelow goalMarks mostStates) (joinedUp (stepPairs m labels n) n) (joinedUp (stepSymbols m labels n) n))
+                    together = rw (add-one n)
+                        (regroup (q ∷ n ∷ states ∷ []) (firstNumbers counts (suc n)) (firstNumbers edgeCounts n)
+                        (markedBelow rootMarks mostStates) (markedBelow goalMarks mostStates) (joinedUp (stepPairs m labels n) n)
+                        (joinedUp (stepSymbols m labels n) n))

@@ -1,5 +1,6 @@
--- The finished map and the section's numbers are those of our section. The states of an outer depth are its keys, so the rows written there are the
--- vertices; with the inner rows the map has the vertex of every word at every depth, and then the first words on edges give the edges in order.
+-- The finished map and the section's numbers are those of our section. The states of an outer depth are its keys, so the rows written there
+-- are the vertices; with the inner rows the map has the vertex of every word at every depth, and then the first words on edges give the
+-- edges in order.
 use mathlib.Core.Path.{_≡_, refl, sym, ap, ap₂, _∙_}
 use mathlib.Core.List.{List, _∷_, _++_, map, flatMap, map-append}
 use Prim.Native.Nat.{ℕ, zero, suc, _+_, _*_, _/_, _%_, _<_, _≤_}
@@ -29,7 +30,8 @@ use Rattle.layout.proofs.Marks.{marked-are}
 use Rattle.assemble.specs.inner.Outer.{OuterPut}
 use Rattle.assemble.specs.inner.Numbers.{numbersOf}
 
-six-long : (a b c d e f : List ℕ) → length (a ++ (b ++ (c ++ (d ++ (e ++ f))))) ≡ length a + (length b + (length c + (length d + (length e + length f))))
+six-long : (a b c d e f : List ℕ)
+    → length (a ++ (b ++ (c ++ (d ++ (e ++ f))))) ≡ length a + (length b + (length c + (length d + (length e + length f))))
 six-long a b c d e f = simp length-append
 
 module _ {n : ℕ} {roots labels goals old new inner rootMarks goalMarks counts : List ℕ} (H : Held n roots labels goals)
@@ -66,7 +68,8 @@ module _ {n : ℕ} {roots labels goals old new inner rootMarks goalMarks counts 
   one-row t h = let p : 1 * length roots ≤ t * length roots = mul-le-mul-right (length roots) h in omega (arith, one-mul (length roots))
 
   next-row : (t : ℕ) → t < n → t * length roots + length roots ≤ n * length roots
-  next-row t h = let p : suc t * length roots ≤ n * length roots = mul-le-mul-right (length roots) h in omega (arith, suc-mul t (length roots))
+  next-row t h = let p : suc t * length roots ≤ n * length roots = mul-le-mul-right (length roots) h in
+      omega (arith, suc-mul t (length roots))
 
   pub complete : (t i : ℕ) → t ≤ n → i < length roots → getD new (t * length roots + i) 0 ≡ vertexOf n table t i
   complete t i h l = go (ℕ-discrete t 0) (ℕ-discrete t n)
@@ -76,7 +79,8 @@ module _ {n : ℕ} {roots labels goals old new inner rootMarks goalMarks counts 
           let e : t * length roots + i ≡ i = rw (p, zero-mul (length roots)) (zero-add i) in
           ap (λ k. getD new k 0) e ∙ P .placed .rootRow i l ∙ root-vertex i l ∙ ap (λ u. vertexOf n (words roots labels goals) u i) (sym p)
       go (no p) (yes q) =
-          ap (λ u. getD new (u * length roots + i) 0) q ∙ P .placed .goalRow i l ∙ goal-vertex i l ∙ ap (λ u. vertexOf n (words roots labels goals) u i) (sym q)
+          ap (λ u. getD new (u * length roots + i) 0) q ∙ P .placed .goalRow i l ∙ goal-vertex i l
+          ∙ ap (λ u. vertexOf n (words roots labels goals) u i) (sym q)
       go (no p) (no q) =
           let u : t < n = omega arith in
           P .placed .between (t * length roots + i) (omega (arith, one-row t (omega arith))) (omega (arith, next-row t u))
@@ -87,8 +91,10 @@ module _ {n : ℕ} {roots labels goals old new inner rootMarks goalMarks counts 
   counted t h = go (ℕ-discrete t 0) (ℕ-discrete t n)
     where
       go : Dec (t ≡ 0) → Dec (t ≡ n) → getD counts t 0 ≡ length (keys n (words roots labels goals) t)
-      go (yes p) q = ap (λ u. getD counts u 0) p ∙ P .rootCount ∙ ap length root-states ∙ ap (λ u. length (keys n (words roots labels goals) u)) (sym p)
-      go (no p) (yes q) = ap (λ u. getD counts u 0) q ∙ P .goalCount ∙ ap length goal-states ∙ ap (λ u. length (keys n (words roots labels goals) u)) (sym q)
+      go (yes p) q = ap (λ u. getD counts u 0) p ∙ P .rootCount ∙ ap length root-states
+          ∙ ap (λ u. length (keys n (words roots labels goals) u)) (sym p)
+      go (no p) (yes q) = ap (λ u. getD counts u 0) q ∙ P .goalCount ∙ ap length goal-states
+          ∙ ap (λ u. length (keys n (words roots labels goals) u)) (sym q)
       go (no p) (no q) = P .innerCount t (omega arith) (omega arith) ∙ S .counted t (omega arith) (omega arith)
 
   few-vertices : (t i : ℕ) → i < length roots → vertexOf n table t i < mostWords
@@ -104,7 +110,14 @@ module _ {n : ℕ} {roots labels goals old new inner rootMarks goalMarks counts 
 
   pub few-counts : (t : ℕ) → t ≤ n → getD counts t 0 ≤ mostWords
   unfolding vertexCount keys
-  few-counts t h = omega (arith, counted t h, ascending-length ltb numbers (each (key n table t) (length table)), length-run (key n table t) 0 (length table), size, H .few)
+  few-counts t h = omega (
+    arith,
+    counted t h,
+    ascending-length ltb numbers (each (key n table t) (length table)),
+    length-run (key n table t) 0 (length table),
+    size,
+    H .few,
+  )
 
   -- every place of the n + 1 rows is of some word at some depth
   pub small : suc n * length roots ≤ length new → SmallMap new labels n
@@ -139,7 +152,8 @@ module _ {n : ℕ} {roots labels goals old new inner rootMarks goalMarks counts 
         let k : i < length roots = omega (arith, size) in
         edge-eq (ap (λ w. getD new (t * w + i) 0) (H .labelled) ∙ complete t i (omega arith) k)
         (ap (symbol n t) (sym (word-label roots labels goals i h)))
-        (ap (λ w. getD new (t * w + w + i) 0) (H .labelled) ∙ ap (λ j. getD new (j + i) 0) (sym (suc-mul t (length roots))) ∙ complete (suc t) i deep k)
+        (ap (λ w. getD new (t * w + w + i) 0) (H .labelled) ∙ ap (λ j. getD new (j + i) 0) (sym (suc-mul t (length roots)))
+        ∙ complete (suc t) i deep k)
 
     pub step-edges : (t : ℕ) → t < n → stepList new labels n t ≡ edgesAt n table t
     unfolding stepList stepTakers
@@ -174,11 +188,13 @@ module _ {n : ℕ} {roots labels goals old new inner rootMarks goalMarks counts 
         ∙ ap₂ (λ x y. x + y) (all-takers t (omega arith)) (takers-long t h)
         ∙ sym (length-append (joinedUp (edgesAt n table) t) (edgesAt n table t))
 
-    module _ (q states : ℕ) {firsts edgeCounts : List ℕ} (fewRoots : Few roots) (fewGoals : Few goals) (K : Taken new labels n firsts edgeCounts) where
+    module _ (q states : ℕ) {firsts edgeCounts : List ℕ} (fewRoots : Few roots) (fewGoals : Few goals)
+        (K : Taken new labels n firsts edgeCounts) where
       pub numbers-are : numbersOf q n states counts edgeCounts rootMarks goalMarks new labels ≡ sectionOf q n states table
       unfolding numbersOf sectionOf
       numbers-are = ap {B = List ℕ} (λ l. q ∷ n ∷ states ∷ l)
-          (ap₂ (λ x y. x ++ y) (each-same (λ k. getD counts k 0) (vertexCount n table) (suc n) (suc n) refl (λ t h. counted t (omega arith)))
+          (ap₂ (λ x y. x ++ y)
+          (each-same (λ k. getD counts k 0) (vertexCount n table) (suc n) (suc n) refl (λ t h. counted t (omega arith)))
           (ap₂ (λ x y. x ++ y) (each-same (λ k. getD edgeCounts k 0) (edgeCount n table) n n refl (λ t h. K .counted t h ∙ takers-long t h))
           (ap₂ (λ x y. x ++ y) (marked-are fewRoots (P .rootsMarked) ∙ root-states)
           (ap₂ (λ x y. x ++ y) (marked-are fewGoals (P .goalsMarked) ∙ goal-states)

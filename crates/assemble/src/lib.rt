@@ -1,4 +1,5 @@
-// Our section of a table whose inner depths are in the map: the rows of the two outer depths, the edges of all steps, and the section's numbers.
+// Our section of a table whose inner depths are in the map: the rows of the two outer depths, the edges of all steps, and the section's
+// numbers.
 ghost use mathlib.Core.List.{[], _∷_};
 ghost use Prim.Native.Nat.{_+_, _*_, _<_, _≤_};
 ghost use lib.ListN.{length};
@@ -45,7 +46,8 @@ pub fn put_outer(
     inner: [u16; MOST_SYMBOLS + 1],
 ) -> Outer
     requires { ⌜ OuterAsked (now roots) (now goals) n (now map) inner ⌝ }
-    ensures { λ r. ⌜ OuterPut (now (roots .entry)) (now (goals .entry)) n (now (map .entry)) (now (map .exit)) inner (r .roots) (r .goals) (r .counts) ⌝ }
+    ensures { λ r. ⌜ OuterPut (now (roots .entry)) (now (goals .entry)) n (now (map .entry)) (now (map .exit)) inner (r .roots) (r .goals)
+        (r .counts) ⌝ }
 {
     let first = put_depth(roots, map, 0);
     let last = put_depth(goals, map, n * roots.len());
@@ -99,7 +101,8 @@ pub fn put_section(
     section: &mut [u16],
 ) -> usize
     requires { ⌜ Parts n (outer .counts) (edges .counts) (outer .roots) (outer .goals) (now map) (now labels) (now words) (now section) ⌝ }
-    ensures { λ r. ⌜ Wrote (now (section .entry)) 0 (numbersOf q n states (outer .counts) (edges .counts) (outer .roots) (outer .goals) (now (map .entry))
+    ensures { λ r. ⌜ Wrote (now (section .entry)) 0
+        (numbersOf q n states (outer .counts) (edges .counts) (outer .roots) (outer .goals) (now (map .entry))
         (now (labels .entry))) (now (section .exit)) r ⌝ }
 {
     let vertices = outer.counts;

@@ -26,7 +26,14 @@ pub record InPrices (n received mask : ℕ) (prices : List ℕ) (weight t : ℕ)
 pub prices-start : {n received mask : ℕ} {prices : List ℕ} → length prices ≡ 32 → InPrices n received mask prices 65536 n
 prices-start {n} h =
     let e : n - n ≡ 0 = omega arith in
-    record { t-le = omega arith; long = h; weightIs = sym (ap (λ k. 4 ^ k * 65536) e); light = omega arith; at = λ u a k l. absurd (omega arith) }
+    record {
+      t-le = omega arith;
+      long = h;
+      weightIs = sym (ap (λ k. 4 ^ k * 65536) e);
+      light = omega arith;
+      at =
+          λ u a k l. absurd (omega arith);
+    }
 
 -- four places written, one behind another
 abbrev four : List ℕ → ℕ → ℕ → ℕ → ℕ → ℕ → List ℕ
@@ -68,7 +75,8 @@ price-is n t cost a weight e =
     let m : a * (4 ^ (n - suc t) * 65536) ≡ a * 4 ^ (n - suc t) * 65536 = sym (mul-assoc a (4 ^ (n - suc t)) 65536) in
     ap (λ x. cost * 4294967296 + a * x) e ∙ omega (arith, m)
 
-pub prices-more : {n received mask t r weight c₀ c₁ c₂ c₃ w x y z : ℕ} {prices : List ℕ} {erased : Bool} → n ≤ mostSymbols → InPrices n received mask prices weight t → 0 < t
+pub prices-more : {n received mask t r weight c₀ c₁ c₂ c₃ w x y z : ℕ} {prices : List ℕ} {erased : Bool} → n ≤ mostSymbols
+    → InPrices n received mask prices weight t → 0 < t
     → erased ≡ erasedAt n (t - 1) mask → r ≡ symbol n (t - 1) received
     → c₀ ≡ costOver erased r 0 → w ≡ c₀ * 4294967296 + 0 * weight → c₁ ≡ costOver erased r 1 → x ≡ c₁ * 4294967296 + 1 * weight
     → c₂ ≡ costOver erased r 2 → y ≡ c₂ * 4294967296 + 2 * weight → c₃ ≡ costOver erased r 3 → z ≡ c₃ * 4294967296 + 3 * weight
@@ -96,23 +104,28 @@ prices-more {n} {received} {mask} {t} {r} {weight} {w = w} {x} {y} {z} {prices} 
     is : (s : ℕ) {k : ℕ} → k ≡ costOver erased r s → k * 4294967296 + s * weight ≡ rankedCost n (symbolCost n received mask) (t - 1) s
     is s {k} k-is =
         price-is n (t - 1) k s weight heavy
-        ∙ ap (λ k. ranked k (s * 4 ^ (n - suc (t - 1))) 0) (k-is ∙ ap (λ e. costOver e r s) p ∙ ap (λ k. costOver (erasedAt n (t - 1) mask) k s) q)
+        ∙ ap (λ k. ranked k (s * 4 ^ (n - suc (t - 1))) 0)
+        (k-is ∙ ap (λ e. costOver e r s) p ∙ ap (λ k. costOver (erasedAt n (t - 1) mask) k s) q)
 
-    here : (s : ℕ) → s < 4 → getD (four prices (4 * (t - 1)) w x y z) (4 * (t - 1) + s) 0 ≡ rankedCost n (symbolCost n received mask) (t - 1) s
+    here : (s : ℕ) → s < 4
+        → getD (four prices (4 * (t - 1)) w x y z) (4 * (t - 1) + s) 0 ≡ rankedCost n (symbolCost n received mask) (t - 1) s
     here zero l = rw (add-zero (4 * (t - 1))) (four-0 prices (4 * (t - 1)) w x y z room ∙ a ∙ is 0 c₀-is)
     here (suc zero) l = four-1 prices (4 * (t - 1)) w x y z room ∙ b ∙ is 1 c₁-is
     here (suc (suc zero)) l = four-2 prices (4 * (t - 1)) w x y z room ∙ c ∙ is 2 c₂-is
     here (suc (suc (suc zero))) l = four-3 prices (4 * (t - 1)) w x y z room ∙ d ∙ is 3 c₃-is
     here (suc (suc (suc (suc s)))) l = absurd (omega arith)
 
-    at : (u s : ℕ) → t - 1 ≤ u → u < n → s < 4 → getD (four prices (4 * (t - 1)) w x y z) (4 * u + s) 0 ≡ rankedCost n (symbolCost n received mask) u s
+    at : (u s : ℕ) → t - 1 ≤ u → u < n → s < 4
+        → getD (four prices (4 * (t - 1)) w x y z) (4 * u + s) 0 ≡ rankedCost n (symbolCost n received mask) u s
     at u s l m k = go (ℕ-discrete u (t - 1))
       where
         go : Dec (u ≡ t - 1) → getD (four prices (4 * (t - 1)) w x y z) (4 * u + s) 0 ≡ rankedCost n (symbolCost n received mask) u s
-        go (yes e) = subst (λ v. getD (four prices (4 * (t - 1)) w x y z) (4 * v + s) 0 ≡ rankedCost n (symbolCost n received mask) v s) (sym e) (here s k)
+        go (yes e) = subst (λ v. getD (four prices (4 * (t - 1)) w x y z) (4 * v + s) 0 ≡ rankedCost n (symbolCost n received mask) v s)
+            (sym e) (here s k)
         go (no e) = four-other prices (4 * (t - 1)) w x y z room (4 * u + s) (omega arith) ∙ I .at u s (omega arith) m k
 
-pub prices-end : {n received mask weight t : ℕ} {prices : List ℕ} → InPrices n received mask prices weight t → t ≤ 0 → Prices n received mask prices
+pub prices-end : {n received mask weight t : ℕ} {prices : List ℕ} → InPrices n received mask prices weight t → t ≤ 0
+    → Prices n received mask prices
 prices-end I h = record { at = λ u a k. I .at u a (omega arith) k }
 
 -- ---- the size of a price

@@ -1,5 +1,5 @@
--- The distance of a label through label distance: symbol by symbol, what differs where nothing is erased, and 1 for each erased symbol, since the
--- received label and the label as it was heard are both 0 there.
+-- The distance of a label through label distance: symbol by symbol, what differs where nothing is erased, and 1 for each erased symbol,
+-- since the received label and the label as it was heard are both 0 there.
 use mathlib.Core.Path.{_≡_, refl, sym, ap, ap₂, subst, _∙_}
 use mathlib.Core.Bool.{Bool, true, false, cond, not}
 use Prim.Native.Nat.{ℕ, zero, suc, _+_, _*_, _≤_, _<_}
@@ -26,10 +26,17 @@ pub heard-start : {n mask label : ℕ} → HeardOf n mask label 0 0 0
 unfolding sum
 heard-start = record { t-le = omega arith; short = lit< tt; few = omega arith; symbols = λ u h. absurd (not-suc-le-zero h); count = refl }
 
-pub heard-more : {n mask label t heard erased a s x new : ℕ} {gone : Bool} → n ≤ mostSymbols → HeardOf n mask label t heard erased → t < n → gone ≡ erasedAt n t mask
+pub heard-more : {n mask label t heard erased a s x new : ℕ} {gone : Bool} → n ≤ mostSymbols → HeardOf n mask label t heard erased → t < n
+    → gone ≡ erasedAt n t mask
     → a ≡ symbol n t label → s ≡ cond gone 0 a → new ≡ appended heard s → x ≡ one-if gone → HeardOf n mask label (t + 1) new (erased + x)
 heard-more {n} {mask} {label} {t} {heard} {erased} {a} {s} {x} {new} {gone} few I h g p q w o =
-    rw (add-one t) (record { t-le = h; short = rw w (appended-short t heard s (I .short) room small); few = fewer; symbols = symbols; count = count })
+    rw (add-one t) (record {
+      t-le = h;
+      short = rw w (appended-short t heard s (I .short) room small);
+      few = fewer;
+      symbols = symbols;
+      count = count;
+    })
   where
     room : t < 8
     room = omega arith
@@ -68,7 +75,8 @@ heard-more {n} {mask} {label} {t} {heard} {erased} {a} {s} {x} {new} {gone} few 
         omega arith
 
 pub heard-end : {n mask label t heard erased : ℕ} → HeardOf n mask label t heard erased → n ≤ t → HeardOf n mask label n heard erased
-heard-end {n} {mask} {label} {t} {heard} {erased} I h = let e : t ≡ n = omega (arith, I .t-le) in subst (λ k. HeardOf n mask label k heard erased) e I
+heard-end {n} {mask} {label} {t} {heard} {erased} I h = let e : t ≡ n = omega (arith, I .t-le) in
+    subst (λ k. HeardOf n mask label k heard erased) e I
 
 -- ---- the distance
 
@@ -86,7 +94,8 @@ one-symbol r a c false z e =
     let m : one-if (not (eqb a r)) ≡ one-if (not (eqb r c)) = ap (λ k. one-if (not k)) q in
     omega arith
 
-pub distance-heard : {n received mask label heard erased d : ℕ} → n ≤ mostSymbols → Clean n received mask → HeardOf n mask label n heard erased → d ≡ distance 8 received heard
+pub distance-heard : {n received mask label heard erased d : ℕ} → n ≤ mostSymbols → Clean n received mask
+    → HeardOf n mask label n heard erased → d ≡ distance 8 received heard
     → d + erased ≡ blockDistance n received mask label
 unfolding blockDistance symbolCost
 distance-heard {n} {received} {mask} {label} {heard} {erased} {d} few C I e =
@@ -122,12 +131,14 @@ block-at-most n received mask label = each n 0
     each zero t = omega arith
     each (suc k) t = let h = each k (suc t) in let l = one (erasedAt n t mask) (symbol n t received) (symbol n t label) in omega arith
 
-pub distance-ends : {n received mask label heard erased d : ℕ} → n ≤ mostSymbols → Clean n received mask → HeardOf n mask label n heard erased → d ≡ distance 8 received heard
+pub distance-ends : {n received mask label heard erased d : ℕ} → n ≤ mostSymbols → Clean n received mask
+    → HeardOf n mask label n heard erased → d ≡ distance 8 received heard
     → (d + erased * 1 ≡ blockDistance n received mask label) × (d + erased * 1 ≤ mostSymbols)
 distance-ends {n} {received} {mask} {label} few C I e =
     let a = distance-heard few C I e in
     let b = block-at-most n received mask label in
     (omega arith, omega arith)
 
-pub distance-few : {n received mask label heard erased d : ℕ} → Clean n received mask → HeardOf n mask label n heard erased → d ≡ distance 8 received heard → d ≤ mostSymbols
+pub distance-few : {n received mask label heard erased d : ℕ} → Clean n received mask → HeardOf n mask label n heard erased
+    → d ≡ distance 8 received heard → d ≤ mostSymbols
 distance-few {received = received} {heard = heard} C I e = let a = distance-le 8 received heard in omega arith

@@ -68,7 +68,8 @@ stray-more {n} {received} {mask} {t} I h e q = record { t-le = omega arith; none
 
 pub stray-none : {n received mask t : ℕ} → InStray n received mask t → n ≤ t → true ≡ eqb (first (stray n received mask) n) n
 stray-none {n} {received} {mask} {t} I h =
-    let F : First (stray n received mask) n n = record { most = omega arith; hit = λ k. absurd (omega arith); miss = λ j k. I .none j (omega (arith, I .t-le)) } in
+    let F : First (stray n received mask) n n =
+    record { most = omega arith; hit = λ k. absurd (omega arith); miss = λ j k. I .none j (omega (arith, I .t-le)) } in
     sym (eq-eqb (first (stray n received mask) n) n (first-is (stray n received mask) n n F))
 
 -- what a label that fits says
@@ -81,7 +82,8 @@ clean-of q n received mask e =
     let f : first (stray n received mask) n ≡ n = eqb→eq (first (stray n received mask) n) n (b .1) in
     record { short = ltb-true received (4 ^ n) (is-true _ (c .0)); zero = λ t h s. digit t h s f (ℕ-discrete (symbol n t received) 0) }
   where
-    digit : (t : ℕ) → t < n → T (erasedAt n t mask) → first (stray n received mask) n ≡ n → Dec (symbol n t received ≡ 0) → symbol n t received ≡ 0
+    digit : (t : ℕ) → t < n → T (erasedAt n t mask) → first (stray n received mask) n ≡ n → Dec (symbol n t received ≡ 0)
+        → symbol n t received ≡ 0
     digit t h s f (yes z) = z
     digit t h s f (no z) =
         absurd (first-ok (stray n received mask) n .miss t (omega arith)
@@ -93,11 +95,13 @@ module _ (q n received mask : ℕ) where
   unfolding fitsBlock
   fits-label {a} p h = simp (sym p, not-true a h)
 
-  pub fits-mask : {a b : Bool} → a ≡ isLabel q n received → not a ≡ false → b ≡ ltb mask (2 ^ n) → not b ≡ true → false ≡ fitsBlock n received mask q
+  pub fits-mask : {a b : Bool} → a ≡ isLabel q n received → not a ≡ false → b ≡ ltb mask (2 ^ n) → not b ≡ true
+      → false ≡ fitsBlock n received mask q
   unfolding fitsBlock
   fits-mask {a} {b} p h r k = simp (sym p, not-false a h, sym r, not-true b k)
 
-  pub fits-all : {a b c : Bool} → a ≡ isLabel q n received → not a ≡ false → b ≡ ltb mask (2 ^ n) → not b ≡ false → c ≡ eqb (first (stray n received mask) n) n
+  pub fits-all : {a b c : Bool} → a ≡ isLabel q n received → not a ≡ false → b ≡ ltb mask (2 ^ n) → not b ≡ false
+      → c ≡ eqb (first (stray n received mask) n) n
       → c ≡ fitsBlock n received mask q
   unfolding fitsBlock
   fits-all {a} {b} p h r k s = simp (sym p, not-false a h, sym r, not-false b k, s)

@@ -1,5 +1,5 @@
-// One block of a chain: whether what was received fits a section, what its symbols cost, and the distance of a label from it. Every cost is one of
-// `symbolCost`; the distance goes through label distance and its stored table.
+// One block of a chain: whether what was received fits a section, what its symbols cost, and the distance of a label from it. Every cost is
+// one of `symbolCost`; the distance goes through label distance and its stored table.
 ghost use mathlib.Core.Path.{_≡_};
 ghost use mathlib.Core.Bool.{cond};
 ghost use Prim.Native.Nat.{_+_, _*_, _^_, _<_, _≤_};

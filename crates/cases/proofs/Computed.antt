@@ -5,12 +5,14 @@ use Rattle.trellis.specs.Lists.{run, sum, first, isIn, keep, rank, insert, asce
 use Rattle.trellis.specs.Label.{symbol, front, back, spliced, symbolsBelow, isLabel}
 use Rattle.trellis.specs.Own.{shares, firstSharing, key, keys, vertexOf, vertexCount, edgesAt, edgeCount}
 use Rattle.trellis.specs.Section.{leaving, pathsFrom, packOnto, wordOf, wordsOf}
-use Rattle.trellis.specs.Layout.{vertexCountOf, edgeCountOf, edgesBefore, rootsPlace, goalsPlace, pairsPlace, symbolsPlace, rootState, goalState, edgeNumber, stepEdges, sectionWords, joinedUp, sectionOf, sectionLength}
+use Rattle.trellis.specs.Layout.{vertexCountOf, edgeCountOf, edgesBefore, rootsPlace, goalsPlace, pairsPlace, symbolsPlace, rootState}
+use Rattle.trellis.specs.Layout.{goalState, edgeNumber, stepEdges, sectionWords, joinedUp, sectionOf, sectionLength}
 use Rattle.trellis.specs.Demand.{allVertices, additions, selections}
 use Rattle.trellis.specs.Witness.{refutes, firstOf, overK, overJ, witnessAt, witness}
 use Rattle.table.specs.File.{wordCount, fileWord, fileWords, lengthBad, outside, sizeOutside, wordOutside, wordBad, orderBad, tableFile}
 use Rattle.merge.specs.Merging.{mapOf, written, merged, mergedTable, mergedFile, merging}
-use Rattle.section_file.specs.Usable.{higher, rising, inside, above, covered, apart, noTwins, noForwardTwins, noBackwardTwins, stepGood, stepEdge, sizesRight, countsRight, whole, statesRight, stepRight, usable}
+use Rattle.section_file.specs.Usable.{higher, rising, inside, above, covered, apart, noTwins, noForwardTwins, noBackwardTwins, stepGood}
+use Rattle.section_file.specs.Usable.{stepEdge, sizesRight, countsRight, whole, statesRight, stepRight, usable}
 use Rattle.read_back.specs.TableBytes.{tableBytes}
 use Rattle.read_back.specs.ReadingBack.{isSection, readingBack}
 use Rattle.paths.specs.Choice.{choose, chooseAll, best}
@@ -24,12 +26,18 @@ use Rattle.chain.specs.Decoding.{neededOf, bestOf, tableOf, found, fitted, fram
 use Rattle.cases.specs.Marked.{left, shown, AllShown}
 
 pub all-shown : AllShown
-unfolding run sum first isIn keep rank insert ascending lower alike symbol front back spliced symbolsBelow isLabel shares firstSharing key keys vertexOf
-    vertexCount edgesAt edgeCount leaving pathsFrom packOnto wordOf wordsOf vertexCountOf edgeCountOf edgesBefore rootsPlace goalsPlace pairsPlace
-    symbolsPlace rootState goalState edgeNumber stepEdges sectionWords joinedUp sectionOf allVertices additions selections refutes firstOf overK overJ
+unfolding run sum first isIn keep rank insert ascending lower alike symbol front back spliced symbolsBelow isLabel shares firstSharing key
+    keys vertexOf
+    vertexCount edgesAt edgeCount leaving pathsFrom packOnto wordOf wordsOf vertexCountOf edgeCountOf edgesBefore rootsPlace goalsPlace
+    pairsPlace
+    symbolsPlace rootState goalState edgeNumber stepEdges sectionWords joinedUp sectionOf allVertices additions selections refutes firstOf
+    overK overJ
     witnessAt witness wordCount fileWord fileWords lengthBad outside sizeOutside wordOutside wordBad orderBad tableFile mapOf written merged
-    mergedTable mergedFile merging sectionLength all any within higher rising inside above covered apart noTwins noForwardTwins noBackwardTwins
-    stepGood stepEdge sizesRight countsRight whole statesRight stepRight usable tableBytes isSection readingBack choose chooseAll best paths capped
-    rootedAt chainPaths pathDistance bestPath costTable erasedAt symbolCost blockDistance stray fitsBlock sectionStart sectionAt unusable sectionsBad
+    mergedTable mergedFile merging sectionLength all any within higher rising inside above covered apart noTwins noForwardTwins
+    noBackwardTwins
+    stepGood stepEdge sizesRight countsRight whole statesRight stepRight usable tableBytes isSection readingBack choose chooseAll best paths
+    capped
+    rootedAt chainPaths pathDistance bestPath costTable erasedAt symbolCost blockDistance stray fitsBlock sectionStart sectionAt unusable
+    sectionsBad
     badSectionOf frameBad blockWords wordDistance blockBad neededOf bestOf tableOf found fitted framed decoding left shown flatMap
 all-shown = refl

@@ -1,5 +1,5 @@
--- Document 01's marked cases, one list under one statement: what each case shows, worked out from the definitions, is what the paper says it shows.
--- Bytes and numbers are written as the paper writes them; a buffer is full of nines before the call.
+-- Document 01's marked cases, one list under one statement: what each case shows, worked out from the definitions, is what the paper says
+-- it shows. Bytes and numbers are written as the paper writes them; a buffer is full of nines before the call.
 use mathlib.Core.Path.{_≡_}
 use mathlib.Core.List.{List, [], _∷_, _++_, map, flatMap}
 use Prim.Native.Nat.{ℕ, suc, _*_}
@@ -17,8 +17,8 @@ pub data Call : Type 0 where
   merge : List ℕ → ℕ → ℕ → Call
   -- reading back the section that a call left, with the places of the file
   readBack : Call → ℕ → Call
-  -- decoding from state 0 to state 0, where each block has the section that a call left: the blocks' received labels and erasure masks. The buffers have
-  -- the places that are needed
+  -- decoding from state 0 to state 0, where each block has the section that a call left: the blocks' received labels and erasure masks. The
+  -- buffers have the places that are needed
   decode : Call → List ℕ → List ℕ → Call
 
 -- what a call leaves; a buffer that is not lent to it is empty
@@ -48,10 +48,11 @@ left (merge file mapPlaces sectionPlaces) = leftByMerging (merging file (nines m
 left (readBack c places) = leftByReading (readingBack (left c .section) (nines places))
 left (decode c received erased) =
     let blocks = length received in
-    leftByDecoding (decoding (left c .section) 1 (replicate blocks 0) received erased 0 0 (nines (64 * blocks)) (nines blocks) (nines blocks))
+    leftByDecoding (decoding (left c .section) 1 (replicate blocks 0) received erased 0 0 (nines (64 * blocks)) (nines blocks)
+    (nines blocks))
 
--- what of a call the paper names: the outcome's number and values; all of a buffer; and by the counts that stand in the section, the vertices at each
--- depth, the edges at each step, the selections; root, label and goal of each word on the section's paths
+-- what of a call the paper names: the outcome's number and values; all of a buffer; and by the counts that stand in the section, the
+-- vertices at each depth, the edges at each step, the selections; root, label and goal of each word on the section's paths
 pub data Shown : Type 0 where
   answer : Shown
   wholeMap : Shown
@@ -111,8 +112,11 @@ noWords = 2 ∷ 2 ∷ 1 ∷ 0 ∷ 0 ∷ []
 -- the rate 2/3 section of document 004: the words in order, root and goal first, then their labels
 abbrev pub twoThirds : List ℕ
 twoThirds =
-    2 ∷ 3 ∷ 4 ∷ 16 ∷ 0 ∷ 0 ∷ 0 ∷ 0 ∷ 3 ∷ 0 ∷ 2 ∷ 0 ∷ 1 ∷ 1 ∷ 0 ∷ 1 ∷ 3 ∷ 1 ∷ 2 ∷ 1 ∷ 1 ∷ 2 ∷ 1 ∷ 2 ∷ 2 ∷ 2 ∷ 3 ∷ 2 ∷ 0 ∷ 3 ∷ 1 ∷ 3 ∷ 2 ∷ 3 ∷ 3 ∷ 3 ∷ 0
-    ∷ 0 ∷ 0 ∷ 5 ∷ 0 ∷ 17 ∷ 0 ∷ 20 ∷ 0 ∷ 1 ∷ 0 ∷ 4 ∷ 0 ∷ 16 ∷ 0 ∷ 21 ∷ 0 ∷ 1 ∷ 0 ∷ 4 ∷ 0 ∷ 16 ∷ 0 ∷ 21 ∷ 0 ∷ 0 ∷ 0 ∷ 5 ∷ 0 ∷ 17 ∷ 0 ∷ 20 ∷ 0 ∷ []
+    2 ∷ 3 ∷ 4 ∷ 16 ∷ 0
+    ∷ 0 ∷ 0 ∷ 0 ∷ 3 ∷ 0 ∷ 2 ∷ 0 ∷ 1 ∷ 1 ∷ 0 ∷ 1 ∷ 3 ∷ 1 ∷ 2 ∷ 1 ∷ 1
+    ∷ 2 ∷ 1 ∷ 2 ∷ 2 ∷ 2 ∷ 3 ∷ 2 ∷ 0 ∷ 3 ∷ 1 ∷ 3 ∷ 2 ∷ 3 ∷ 3 ∷ 3 ∷ 0
+    ∷ 0 ∷ 0 ∷ 5 ∷ 0 ∷ 17 ∷ 0 ∷ 20 ∷ 0 ∷ 1 ∷ 0 ∷ 4 ∷ 0 ∷ 16 ∷ 0 ∷ 21 ∷ 0
+    ∷ 1 ∷ 0 ∷ 4 ∷ 0 ∷ 16 ∷ 0 ∷ 21 ∷ 0 ∷ 0 ∷ 0 ∷ 5 ∷ 0 ∷ 17 ∷ 0 ∷ 20 ∷ 0 ∷ []
 
 -- q 2, n 1, S 2 and the words (0,0,1), (0,1,0), (1,0,0)
 abbrev pub crossed : List ℕ
@@ -141,8 +145,8 @@ twoBlocks = decode twoWordsMerged (1 ∷ 5 ∷ []) (0 ∷ 0 ∷ [])
 abbrev oneBlock : Call
 oneBlock = decode twoWordsMerged (0 ∷ []) (1 ∷ [])
 
--- no marked case, but the paper's last slip, numbered 10: received 0 and 1, so that labels 0, 0 and labels 1, 1 are both at distance 1. The first block
--- settles it; from the last block backward labels 1, 1 would win, since the word (0,1,0) comes before (1,0,0)
+-- no marked case, but the paper's last slip, numbered 10: received 0 and 1, so that labels 0, 0 and labels 1, 1 are both at distance 1. The
+-- first block settles it; from the last block backward labels 1, 1 would win, since the word (0,1,0) comes before (1,0,0)
 abbrev tie : Call
 tie = decode crossedMerged (0 ∷ 1 ∷ []) (0 ∷ 0 ∷ [])
 

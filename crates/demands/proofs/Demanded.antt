@@ -1,6 +1,6 @@
--- Merging does what demands 2 and 3 ask of it. Its answer goes by the first witness, which there is exactly if the table is not rectangular. On success the
--- section left is our section's numbers; read by the layout they give our counts, vertices and edges, for which demand 3 is proved, and reading them back
--- gives the file.
+-- Merging does what demands 2 and 3 ask of it. Its answer goes by the first witness, which there is exactly if the table is not
+-- rectangular. On success the section left is our section's numbers; read by the layout they give our counts, vertices and edges, for which
+-- demand 3 is proved, and reading them back gives the file.
 use mathlib.Core.Path.{_≡_, refl, sym, ap, subst, _∙_}
 use mathlib.Core.Logic.{_↔_}
 use mathlib.Core.List.{List, [], _∷_, _++_}
@@ -36,7 +36,8 @@ take-front (x ∷ l) r = ap (λ m. x ∷ m) (take-front l r)
 -- ---- our section, from its numbers
 
 module _ (q n states : ℕ) (table : List Word) where
-  sizes-first : (qOf (sectionOf q n states table) ≡ q) × (nOf (sectionOf q n states table) ≡ n) × (statesOf (sectionOf q n states table) ≡ states)
+  sizes-first : (qOf (sectionOf q n states table) ≡ q) × (nOf (sectionOf q n states table) ≡ n)
+      × (statesOf (sectionOf q n states table) ≡ states)
   unfolding sectionOf
   sizes-first = (refl, refl, refl)
 
@@ -62,7 +63,8 @@ module _ {file : List ℕ} {q n states : ℕ} {table : List Word} (G : GoodFile 
   our-smallest = record {
     own = drawn-same (G .nFrom) (alike q n states table) (drawn n table (G .table) R);
     least = λ E H.
-        same-counts n (vertexCount n table) (edgeCount n table) (vertexCountOf (sectionOf q n states table)) (edgeCountOf (sectionOf q n states table)) E
+        same-counts n (vertexCount n table) (edgeCount n table) (vertexCountOf (sectionOf q n states table))
+        (edgeCountOf (sectionOf q n states table)) E
         (λ t h. sym (own-vertex-count q n states table t h)) (λ t h. sym (own-edge-count q n states table t h))
         (demand-3 n table (G .table) R .least E H);
   }

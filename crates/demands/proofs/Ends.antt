@@ -1,5 +1,5 @@
--- Demand 1: every outcome is one of the list, and refusals keep the buffers. The definitions are chains of tests, and each of their ends is one outcome with
--- its buffers, so the claim is looked up end by end.
+-- Demand 1: every outcome is one of the list, and refusals keep the buffers. The definitions are chains of tests, and each of their ends is
+-- one outcome with its buffers, so the claim is looked up end by end.
 use mathlib.Core.Path.{refl}
 use mathlib.Core.Bool.{Bool, true, false, not, cond}
 use mathlib.Core.List.{List, [], _∷_}
@@ -74,7 +74,8 @@ module _ (map section : List ℕ) where
       ends FileKept (lengthBad file) (record { listed = is-in 1 _ tt; sectionKept = λ h. refl; mapKept = λ m. refl })
       (ends FileKept (ltb (firstSize file) 4) (record { listed = is-in 2 _ tt; sectionKept = λ h. refl; mapKept = λ m. refl })
       (ends FileKept (ltb (firstBad file) (wordCount file)) (record { listed = is-in 3 _ tt; sectionKept = λ h. refl; mapKept = λ m. refl })
-      (ends FileKept (ltb (firstNotAbove file) (wordCount file)) (record { listed = is-in 4 _ tt; sectionKept = λ h. refl; mapKept = λ m. refl })
+      (ends FileKept (ltb (firstNotAbove file) (wordCount file))
+      (record { listed = is-in 4 _ tt; sectionKept = λ h. refl; mapKept = λ m. refl })
       (by-table (byteAt file 0) (byteAt file 1) (byteAt file 2) (fileWords file)))))
 
 -- ---- reading back
@@ -98,7 +99,12 @@ module _ (sections : List ℕ) (k : ℕ) (indices received erased : List ℕ) (s
 
   by-path : (c : Choice (List Word)) → DecodingKept (decoded sections k indices received erased start end costs labels goals c)
   unfolding decoded isIn
-  by-path none = record { listed = is-in 11 _ tt; wordsKept = λ h. (refl, refl); costsKept = λ m. absurd (not-in 11 (8 ∷ 9 ∷ 10 ∷ []) (λ t. t) m) }
+  by-path none = record {
+    listed = is-in 11 _ tt;
+    wordsKept = λ h. (refl, refl);
+    costsKept =
+        λ m. absurd (not-in 11 (8 ∷ 9 ∷ 10 ∷ []) (λ t. t) m);
+  }
   by-path (some d ws) = record {
     listed = is-in 0 _ tt;
     wordsKept = λ h. absurd (not-suc-le-zero h);
@@ -106,7 +112,8 @@ module _ (sections : List ℕ) (k : ℕ) (indices received erased : List ℕ) (s
   }
 
   -- a refusal that keeps all three
-  all-kept : (number : ℕ) (values : List ℕ) → T (isIn eqb number (0 ∷ 8 ∷ 9 ∷ 10 ∷ 11 ∷ [])) → DecodingKept (left (outcome number values) costs labels goals)
+  all-kept : (number : ℕ) (values : List ℕ) → T (isIn eqb number (0 ∷ 8 ∷ 9 ∷ 10 ∷ 11 ∷ []))
+      → DecodingKept (left (outcome number values) costs labels goals)
   all-kept number values t = record { listed = is-in number _ t; wordsKept = λ h. (refl, refl); costsKept = λ m. refl }
 
   pub decoding-ends : DecodingKept (decoding sections k indices received erased start end costs labels goals)

@@ -1,5 +1,6 @@
--- Two drawings with the same listed vertices, the same edges at each step and the same states of the listed outer vertices are drawn for the same tables:
--- each condition speaks of listed vertices and edges only, and a path's first and last vertex are listed, because its edges join listed ones.
+-- Two drawings with the same listed vertices, the same edges at each step and the same states of the listed outer vertices are drawn for
+-- the same tables: each condition speaks of listed vertices and edges only, and a path's first and last vertex are listed, because its
+-- edges join listed ones.
 use mathlib.Core.Path.{_≡_, sym, subst, _∙_}
 use mathlib.Core.List.{List}
 use Prim.Native.Nat.{ℕ, suc, _-_, _≤_, _<_}
@@ -15,7 +16,8 @@ pub record Alike (n : ℕ) (D E : Drawing) : Type 0 where
   pub roots : (v : ℕ) → v ∈ D .vertices 0 → D .rootOf v ≡ E .rootOf v
   pub goals : (v : ℕ) → v ∈ D .vertices n → D .goalOf v ≡ E .goalOf v
 
-just-one : {table : List Word} {state : Word → ℕ} {l m : List ℕ} {f g : ℕ → ℕ} → l ≡ m → ((v : ℕ) → v ∈ l → f v ≡ g v) → JustOne table state l f → JustOne table state m g
+just-one : {table : List Word} {state : Word → ℕ} {l m : List ℕ} {f g : ℕ → ℕ} → l ≡ m → ((v : ℕ) → v ∈ l → f v ≡ g v)
+    → JustOne table state l f → JustOne table state m g
 just-one {table} {state} {l} {m} {f} {g} e s J = record {
   atLeast = λ w h. let H = J .atLeast w h in record {
     vertex = H .vertex;
@@ -86,6 +88,7 @@ module _ {n : ℕ} {table : List Word} {D E : Drawing} (some : 0 < n) (A : Alike
     onPath = λ t v h m.
         let T = H .onPath t v h (subst (λ l. v ∈ l) (sym (A .vertices t h)) m) in
         record { x = T .x; a = T .a; path = new (T .path); passes = T .passes };
-    noMore = λ x a p. let W = H .noMore x a (old p) in record { word = W .word; listed = W .listed; carried = carried (old p) (W .carried) };
+    noMore = λ x a p. let W = H .noMore x a (old p) in
+        record { word = W .word; listed = W .listed; carried = carried (old p) (W .carried) };
     noFewer = λ w m. path-new (H .noFewer w m);
   }

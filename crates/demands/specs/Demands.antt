@@ -1,6 +1,6 @@
--- The three demands, quoted sentence by sentence, each with its statement. It speaks of `merging`, `readingBack` and `decoding`: what the calls leave for
--- all arguments, by their promises. That nothing but lent memory is touched is the form of these promises: they give the answer and the whole content of
--- every buffer lent for writing.
+-- The three demands, quoted sentence by sentence, each with its statement. It speaks of `merging`, `readingBack` and `decoding`: what the
+-- calls leave for all arguments, by their promises. That nothing but lent memory is touched is the form of these promises: they give the
+-- answer and the whole content of every buffer lent for writing.
 use mathlib.Core.Path.{_≡_}
 use mathlib.Core.Logic.{_↔_}
 use mathlib.Core.List.{List, [], _∷_}
@@ -18,15 +18,15 @@ use Rattle.merge.specs.Merging.{Merging, mapLength, merging}
 use Rattle.read_back.specs.ReadingBack.{ReadingBack, left, readingBack}
 use Rattle.chain.specs.Decoding.{Decoding, decoding}
 
--- ---- demand 1: "The call ends with an outcome from a fixed list, touches only lent memory, and each refusal states a fixed result and a fixed content of
--- every buffer."
+-- ---- demand 1: "The call ends with an outcome from a fixed list, touches only lent memory, and each refusal states a fixed result and
+-- a fixed content of every buffer."
 
 -- the outcome has one of these numbers
 abbrev pub OneOf : List ℕ → Outcome → Type 0
 OneOf numbers o = o .number ∈ numbers
 
--- m is what merging leaves in buffers that held map and section: every refusal keeps the section, and 1 to 5 keep the map too; what 6 and 7 leave in the
--- map stands in `merged`
+-- m is what merging leaves in buffers that held map and section: every refusal keeps the section, and 1 to 5 keep the map too; what 6 and 7
+-- leave in the map stands in `merged`
 pub record MergingEnds (map section : List ℕ) (m : Merging) : Type 0 where
   pub listed : OneOf (0 ∷ 1 ∷ 2 ∷ 3 ∷ 4 ∷ 5 ∷ 6 ∷ 7 ∷ []) (m .answer)
   pub sectionKept : 0 < m .answer .number → m .section ≡ section
@@ -81,8 +81,8 @@ pub record SameWords (file : List ℕ) (q n states : ℕ) (table : List Word) (l
 
 -- "The decoder names a path of least distance, the first such in word order, and says there is none only when there is none": specs/Decoded
 
--- ---- demand 3: "Of all sections that anyone can draw for an accepted table, none has fewer vertices at any depth, fewer edges at any step, or fewer
--- selections in all than ours, by the counts that stand in the buffer; and ours is itself such a section."
+-- ---- demand 3: "Of all sections that anyone can draw for an accepted table, none has fewer vertices at any depth, fewer edges at any
+-- step, or fewer selections in all than ours, by the counts that stand in the buffer; and ours is itself such a section."
 
 pub record Smallest (n : ℕ) (table : List Word) (l : List ℕ) : Type 0 where
   pub own : DrawnFor n table (drawingOf l)

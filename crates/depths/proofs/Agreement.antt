@@ -1,5 +1,5 @@
--- The test of one word and of all words. The code's test is the definition's, read off the rows; it is true exactly if the runs agree, and it looks at words
--- only, so rows that are right on the words give the same answer.
+-- The test of one word and of all words. The code's test is the definition's, read off the rows; it is true exactly if the runs agree, and
+-- it looks at words only, so rows that are right on the words give the same answer.
 use mathlib.Core.Path.{_≡_, refl, sym, ap, ap₂, _∙_}
 use mathlib.Core.Bool.{Bool, true, false, _&&_, Bool·beq}
 use mathlib.Core.Logic.{_↔_}
@@ -22,13 +22,15 @@ module _ (W : ℕ) (starts firsts : List ℕ) (i start own other : ℕ) (p : sta
     (r : other ≡ firstWordIn starts firsts start) where
   pub agrees-no : (own ≡ other → ⊥) → false ≡ agreesTest W (at starts) (firstWordIn starts firsts) i
   unfolding agreesTest
-  agrees-no h = simp (ne-eqb (firstWordIn starts firsts i) (firstWordIn starts firsts (at starts i)) (λ e. h (q ∙ e ∙ sym (r ∙ ap (firstWordIn starts firsts) p))))
+  agrees-no h = simp (ne-eqb (firstWordIn starts firsts i) (firstWordIn starts firsts (at starts i))
+      (λ e. h (q ∙ e ∙ sym (r ∙ ap (firstWordIn starts firsts) p))))
 
   pub agrees-yes : (a b : Bool) → own ≡ other → a ≡ goesOn W (at starts) i → b ≡ goesOn W (at starts) (own + (i - start))
       → Bool·beq a b ≡ agreesTest W (at starts) (firstWordIn starts firsts) i
   unfolding agreesTest
   agrees-yes a b h x y =
-      simp (eq-eqb (firstWordIn starts firsts i) (firstWordIn starts firsts (at starts i)) (sym q ∙ h ∙ r ∙ ap (firstWordIn starts firsts) p))
+      simp (eq-eqb (firstWordIn starts firsts i) (firstWordIn starts firsts (at starts i))
+      (sym q ∙ h ∙ r ∙ ap (firstWordIn starts firsts) p))
       (ap₂ Bool·beq x (y ∙ ap₂ (λ u v. goesOn W (at starts) (u + (i - v))) q p))
 
 beq-true : (a b : Bool) → Bool·beq a b ≡ true → a ≡ b
@@ -51,7 +53,8 @@ agrees-iff W s f i = (to, from)
         record { firsts = eqb→eq (f i) (f (s i)) (p .0); lasts = beq-true (goesOn W s i) (goesOn W s (f i + (i - s i))) (is-true _ (p .1)) }
 
     from : Agrees W s f i → (eqb (f i) (f (s i)) && Bool·beq (goesOn W s i) (goesOn W s (f i + (i - s i)))) ≡ true
-    from A = ap₂ (λ x y. x && y) (eq-eqb (f i) (f (s i)) (A .firsts)) (ap (Bool·beq (goesOn W s i)) (sym (A .lasts)) ∙ beq-same (goesOn W s i))
+    from A = ap₂ (λ x y. x && y) (eq-eqb (f i) (f (s i)) (A .firsts))
+        (ap (Bool·beq (goesOn W s i)) (sym (A .lasts)) ∙ beq-same (goesOn W s i))
 
 -- ---- only words matter
 

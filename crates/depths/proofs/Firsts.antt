@@ -1,5 +1,6 @@
--- The row of first words. For each key the pass notes the first word that had it; so what is noted for the key of word i is the first word with that key, and
--- where nothing is noted it is i itself. From a row that tells the endings at depth t + 1 apart comes one that tells those at depth t apart.
+-- The row of first words. For each key the pass notes the first word that had it; so what is noted for the key of word i is the first word
+-- with that key, and where nothing is noted it is i itself. From a row that tells the endings at depth t + 1 apart comes one that tells
+-- those at depth t apart.
 use mathlib.Core.Path.{_≡_, refl, sym, ap, ap₂, subst, _∙_}
 use mathlib.Core.Bool.{cond}
 use mathlib.Core.Logic.{_⊎_, inl, inr}
@@ -67,9 +68,11 @@ module _ {labels : List ℕ} {n t : ℕ} {old row seen : List ℕ} {i : ℕ} (c 
   firsts-small {a} p h = omega (arith, p ∙ c .rest i (omega arith), c .small .lt i h)
 
   pub firsts-lt : {a s b : ℕ} → a ≡ at row i → s ≡ symbol n t (at labels i) → b ≡ s → i < length labels → a * 4 + b < 4096
-  firsts-lt {a} {s} {b} p q r h = let e = firsts-key {a = a} {s = s} {b = b} p q r in omega (arith, key-lt labels n t old (length labels) i (c .small) h)
+  firsts-lt {a} {s} {b} p q r h = let e = firsts-key {a = a} {s = s} {b = b} p q r in
+      omega (arith, key-lt labels n t old (length labels) i (c .small) h)
 
-  first-is : (first x : ℕ) → x ≡ keys i → first ≡ cond (eqb (at seen x) mostWords) i (at seen x) → i < length labels → first ≡ firstLike keys i
+  first-is : (first x : ℕ) → x ≡ keys i → first ≡ cond (eqb (at seen x) mostWords) i (at seen x) → i < length labels
+      → first ≡ firstLike keys i
   first-is first x e f h =
       f ∙ ap (λ y. cond (eqb (at seen y) mostWords) i (at seen y)) e
       ∙ noted-first keys i (at seen (keys i)) (omega (arith, c .few)) (λ j l q. ap (at seen) (sym q) ∙ c .noted j l)
@@ -107,7 +110,9 @@ module _ {labels : List ℕ} {n t : ℕ} {old row seen : List ℕ} {i : ℕ} (c 
       own y (yes q) r = inr (subst (λ z. HasKey keys (i + 1) y z) (sym (ap (at (set seen x first)) q ∙ hit))
           (record { earlier = omega (arith, like-le keys i); has = like-is keys i ∙ sym e ∙ sym q }))
       own y (no q) (inl r) = inl (at-set seen x y first q ∙ r)
-      own y (no q) (inr o) = inr (subst (λ z. HasKey keys (i + 1) y z) (sym (at-set seen x y first q)) (record { earlier = omega (arith, o .earlier); has = o .has }))
+      own y (no q) (inr o) =
+          inr (subst (λ z. HasKey keys (i + 1) y z) (sym (at-set seen x y first q))
+          (record { earlier = omega (arith, o .earlier); has = o .has }))
 
   pub firsts-end : length labels ≤ i → Row (length labels) (firstLike keys) row
   firsts-end h = let e : i ≡ length labels = omega (arith, c .iLe) in subst (λ k. Row k (firstLike keys) row) e (c .done)
@@ -127,7 +132,8 @@ firsts-none labels n t old h s = record {
 
 -- ---- the row, said of the words
 
-pub row-small : {n t : ℕ} {roots labels goals row : List ℕ} → Held n roots labels goals → EndingRow n (words roots labels goals) t row → Small (length labels) row
+pub row-small : {n t : ℕ} {roots labels goals row : List ℕ} → Held n roots labels goals → EndingRow n (words roots labels goals) t row
+    → Small (length labels) row
 row-small {n} {t} {roots} {labels} {goals} {row} H E =
     let e : length (words roots labels goals) ≡ length labels = held-length H ∙ sym (H .labelled) in
     subst (λ k. Small k row) e (E .small)
@@ -147,7 +153,11 @@ module _ {n : ℕ} {roots labels goals old row : List ℕ} (H : Held n roots lab
 
   pub ends-now : EndingRow n table t row
   ends-now = record {
-    small = record { len = B .len; lt = λ i h. omega (arith, firsts-are i h, like-le (stepKey n table t (at old)) i, held-length H, H .few) };
+    small = record {
+      len = B .len;
+      lt =
+          λ i h. omega (arith, firsts-are i h, like-le (stepKey n table t (at old)) i, held-length H, H .few);
+    };
     tells = tells-row (length table) (endingAt n table t) (firstLike (stepKey n table t (at old))) (at row) firsts-are
         (tells-first (length table) (endingAt n table t) (stepKey n table t (at old)) (tells-step (H .table) t deep (at old) (E .tells)));
   }

@@ -22,7 +22,8 @@ pub record InBytes (bytes new : List ℕ) (i : ℕ) : Type 0 where
 pub bytes-none : (bytes row : List ℕ) → length row ≡ mostWords → InBytes bytes row 0
 bytes-none bytes row h = record { iLe = omega arith; row = row-none (at bytes) row h; byte = λ j k. absurd (omega arith) }
 
-pub bytes-more : {bytes row : List ℕ} {i x : ℕ} → InBytes bytes row i → (x ≡ at bytes i) × (x < 256) → length bytes ≤ mostWords → i < length bytes
+pub bytes-more : {bytes row : List ℕ} {i x : ℕ} → InBytes bytes row i → (x ≡ at bytes i) × (x < 256) → length bytes ≤ mostWords
+    → i < length bytes
     → InBytes bytes (set row i x) (i + 1)
 bytes-more {bytes} {row} {i} {x} c e m h = record {
   iLe = omega arith;
@@ -35,7 +36,8 @@ bytes-end {bytes} {row} {i} c h =
     let e : i ≡ length bytes = omega (arith, c .iLe) in
     record { row = subst (λ k. Row k (at bytes) row) e (c .row); byte = λ j k. c .byte j (omega arith) }
 
-pub goal-row : {n : ℕ} {roots labels goals row : List ℕ} → Held n roots labels goals → Bytes goals row → EndingRow n (words roots labels goals) n row
+pub goal-row : {n : ℕ} {roots labels goals row : List ℕ} → Held n roots labels goals → Bytes goals row
+    → EndingRow n (words roots labels goals) n row
 goal-row {n} {roots} {labels} {goals} {row} H B = record {
   small = record { len = B .row .len; lt = λ i h. omega (arith, B .row .is i (in-goals i h), B .byte i (in-goals i h)) };
   tells = tells-row (length table) (endingAt n table n) (λ i. wordAt table i .goal) (at row)

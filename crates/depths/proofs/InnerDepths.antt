@@ -1,5 +1,5 @@
--- All inner depths, from n - 1 down to 1. Each depth writes its own row of the map and its own place of the counts, so what deeper ones wrote stays; and a depth
--- that is refused is smaller than those found before. Where no depth is refused the table is rectangular.
+-- All inner depths, from n - 1 down to 1. Each depth writes its own row of the map and its own place of the counts, so what deeper ones
+-- wrote stays; and a depth that is refused is smaller than those found before. Where no depth is refused the table is rectangular.
 use mathlib.Core.Path.{_≡_, refl, sym, ap, subst, _∙_}
 use mathlib.Core.Logic.{_↔_}
 use mathlib.Core.List.{List}
@@ -54,8 +54,10 @@ depths-none {n} {table} {map} {counts} {row} h E k = record {
   nine = k;
 }
 
-pub depths-ask : {n : ℕ} {roots labels goals oldMap map oldCounts counts row : List ℕ} {t refused : ℕ} → Inner n roots labels goals oldMap oldCounts
-    → InDepths n (words roots labels goals) oldMap map oldCounts counts row t refused → 1 < t → DepthAsked n (t - 1) roots labels goals row map
+pub depths-ask : {n : ℕ} {roots labels goals oldMap map oldCounts counts row : List ℕ} {t refused : ℕ}
+    → Inner n roots labels goals oldMap oldCounts
+    → InDepths n (words roots labels goals) oldMap map oldCounts counts row t refused → 1 < t
+    → DepthAsked n (t - 1) roots labels goals row map
 depths-ask {n} {roots} {labels} {goals} {oldMap} {map} {oldCounts} {counts} {row} {t} I c h = record {
   held = I .held;
   inner = omega arith;
@@ -67,7 +69,8 @@ depths-ask {n} {roots} {labels} {goals} {oldMap} {map} {oldCounts} {counts} {row
 -- ---- one depth more
 
 module _ (n : ℕ) (table : List Word) (t : ℕ) (map new counts : List ℕ) where
-  found-merged : (refused count : ℕ) → t < length counts → InnerOutcome n table (suc t) map counts refused → DepthMerged n table t map new count
+  found-merged : (refused count : ℕ) → t < length counts → InnerOutcome n table (suc t) map counts refused
+      → DepthMerged n table t map new count
       → InnerOutcome n table t new (set counts t count) refused
   found-merged zero count room F D = record {
     rectangular = λ u p q. now u p q (ℕ-discrete t u);
@@ -82,10 +85,12 @@ module _ (n : ℕ) (table : List Word) (t : ℕ) (map new counts : List ℕ) whe
       there : (u i : ℕ) → t ≤ u → u < n → i < length table → Dec (t ≡ u) → at new (u * length table + i) ≡ vertexOf n table u i
       there u i p q r (yes e) = subst (λ k. at new (k * length table + i) ≡ vertexOf n table k i) e (D .row .is i r)
       there u i p q r (no e) =
-          D .row .behind (u * length table + i) (omega (arith, rows-apart t u (length table) (omega arith))) ∙ F .vertices u i (omega arith) q r
+          D .row .behind (u * length table + i) (omega (arith, rows-apart t u (length table) (omega arith)))
+          ∙ F .vertices u i (omega arith) q r
 
       tally : (u : ℕ) → t ≤ u → u < n → Dec (t ≡ u) → at (set counts t count) u ≡ vertexCount n table u
-      tally u p q (yes e) = subst (λ k. at (set counts t count) k ≡ vertexCount n table k) e (getD-set-same counts t count 0 room ∙ D .counted)
+      tally u p q (yes e) =
+          subst (λ k. at (set counts t count) k ≡ vertexCount n table k) e (getD-set-same counts t count 0 room ∙ D .counted)
       tally u p q (no e) = at-set counts t u count (λ d. e (sym d)) ∙ F .counted u (omega arith) q
   found-merged (suc r) count room F D =
       record { from = omega (arith, F .from); inner = F .inner; fails = F .fails; sooner = λ u p q. now u p q (ℕ-discrete t u) }
@@ -94,7 +99,8 @@ module _ (n : ℕ) (table : List Word) (t : ℕ) (map new counts : List ℕ) whe
       now u p q (yes e) = subst (λ k. RectangularAt n k table) e (D .rectangular)
       now u p q (no e) = F .sooner u (omega arith) q
 
-found-refused : (n : ℕ) (table : List Word) (t : ℕ) (map counts : List ℕ) → 0 < t → t < n → (RectangularAt n t table → ⊥) → InnerOutcome n table t map counts t
+found-refused : (n : ℕ) (table : List Word) (t : ℕ) (map counts : List ℕ) → 0 < t → t < n → (RectangularAt n t table → ⊥)
+    → InnerOutcome n table t map counts t
 found-refused n table zero map counts h l f = absurd (omega arith)
 found-refused n table (suc t) map counts h l f = record { from = omega arith; inner = l; fails = f; sooner = λ u p q. absurd (omega arith) }
 
@@ -157,7 +163,8 @@ depths-end {n} {table} {oldMap} {map} {oldCounts} {counts} {row} {t} {refused} c
     }
 
 -- the answer 0 is that of rectangular tables
-pub inner-rectangular : (n : ℕ) (table : List Word) (oldMap map oldCounts counts : List ℕ) (r : ℕ) → InnerDone n table oldMap map oldCounts counts r
+pub inner-rectangular : (n : ℕ) (table : List Word) (oldMap map oldCounts counts : List ℕ) (r : ℕ)
+    → InnerDone n table oldMap map oldCounts counts r
     → (r ≡ 0) ↔ Rectangular n table
 inner-rectangular n table oldMap map oldCounts counts zero D = (λ e t p q. D .found .rectangular t p q, λ R. refl)
 inner-rectangular n table oldMap map oldCounts counts (suc r) D =

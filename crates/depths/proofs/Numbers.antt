@@ -1,5 +1,5 @@
--- Numbering in one pass. A word that is first of its vertex gets the count so far; any other reads back the number of its first word, which stands before it and
--- is its own first word. So each gets how many first words come before its own.
+-- Numbering in one pass. A word that is first of its vertex gets the count so far; any other reads back the number of its first word, which
+-- stands before it and is its own first word. So each gets how many first words come before its own.
 use mathlib.Core.Path.{_≡_, refl, sym, ap, ap₂, subst, _∙_}
 use mathlib.Core.List.{List}
 use Prim.Native.Nat.{ℕ, _+_, _≤_, _<_}
@@ -20,7 +20,8 @@ pub record InNumbers (place W : ℕ) (firstWord : ℕ → ℕ) (old new : List �
   pub row : RowAt place i (numberOf firstWord) old new
   pub counted : count ≡ below (λ j. eqb (firstWord j) j) i
 
-pub numbers-own : {W place : ℕ} {starts firsts map : List ℕ} {i own : ℕ} → ToNumber W place starts firsts map → own ≡ firstWordIn starts firsts i → i < W → own ≤ i
+pub numbers-own : {W place : ℕ} {starts firsts map : List ℕ} {i own : ℕ} → ToNumber W place starts firsts map
+    → own ≡ firstWordIn starts firsts i → i < W → own ≤ i
 numbers-own {W} {place} {starts} {firsts} {map} {i} N e h = omega (arith, N .backward .wordLe i h, N .backward .startLe i h)
 
 pub numbers-none : (place W : ℕ) (firstWord : ℕ → ℕ) (old : List ℕ) → InNumbers place W firstWord old old 0 0
@@ -49,7 +50,8 @@ module _ {place W : ℕ} {firstWord : ℕ → ℕ} {old new : List ℕ} {i count
 
   pub numbers-more : {own count′ : ℕ} → own ≡ firstWord i → own ≤ i → firstWord (firstWord i) ≡ firstWord i → place + W ≤ length old
       → count′ ≡ count + one-if (eqb own i) → i < W
-      → InNumbers place W firstWord old (set (set new (place + i) count) (place + i) (at (set new (place + i) count) (place + own))) (i + 1) count′
+      → InNumbers place W firstWord old (set (set new (place + i) count) (place + i) (at (set new (place + i) count) (place + own)))
+      (i + 1) count′
   unfolding below
   numbers-more {own} {count′} e l t h f k = record {
     iLe = omega arith;
@@ -72,9 +74,14 @@ module _ {place W : ℕ} {firstWord : ℕ → ℕ} {old new : List ℕ} {i count
 
       other : (j : ℕ) → (j ≡ place + i → ⊥)
           → at (set (set new (place + i) count) (place + i) (at (set new (place + i) count) (place + own))) j ≡ at new j
-      other j q = at-set (set new (place + i) count) (place + i) j (at (set new (place + i) count) (place + own)) q ∙ at-set new (place + i) j count q
+      other j q = at-set (set new (place + i) count) (place + i) j (at (set new (place + i) count) (place + own)) q
+          ∙ at-set new (place + i) j count q
 
   pub numbers-end : W ≤ i → VerticesNumbered place W firstWord old new count
   numbers-end h =
       let e : i ≡ W = omega (arith, c .iLe) in
-      record { row = subst (λ k. RowAt place k (numberOf firstWord) old new) e (c .row); counted = c .counted ∙ ap (below (λ j. eqb (firstWord j) j)) e }
+      record {
+        row = subst (λ k. RowAt place k (numberOf firstWord) old new) e (c .row);
+        counted = c .counted
+            ∙ ap (below (λ j. eqb (firstWord j) j)) e;
+      }

@@ -1,5 +1,6 @@
--- One depth. The rows that the passes leave are the run starts and the first words with one ending, on the words of the table. So the test is true exactly if the
--- table is rectangular at the depth, and then the numbers are those of the vertices, and the count is how many there are.
+-- One depth. The rows that the passes leave are the run starts and the first words with one ending, on the words of the table. So the test
+-- is true exactly if the table is rectangular at the depth, and then the numbers are those of the vertices, and the count is how many there
+-- are.
 use mathlib.Core.Path.{_≡_, refl, sym, ap, subst, _∙_}
 use mathlib.Core.Bool.{true, false}
 use mathlib.Core.Logic.{_↔_}
@@ -19,7 +20,8 @@ use Rattle.runs.proofs.Cuts.{cut, rectangle-of}
 use Rattle.runs.proofs.Keys.{tells-step}
 use Rattle.runs.proofs.Vertices.{rectangular-iff, vertex-is, count-is}
 use Rattle.depths.specs.inner.Words.{words}
-use Rattle.depths.specs.inner.Rows.{at, Row, RowAt, joins, runStart, rowKey, firstWordIn, agreesTest, runsAgreeTest, Backward, ToNumber, VerticesNumbered}
+use Rattle.depths.specs.inner.Rows.{at, Row, RowAt, joins, runStart, rowKey, firstWordIn, agreesTest, runsAgreeTest, Backward}
+use Rattle.depths.specs.inner.Rows.{ToNumber, VerticesNumbered}
 use Rattle.depths.specs.inner.Merge.{DepthAsked, DepthDone}
 use Rattle.depths.specs.declared.Depth.the-variants.{Merged, Refused}
 use Rattle.depths.proofs.Words.{held-length}
@@ -29,7 +31,8 @@ use Rattle.depths.proofs.Agreement.{agrees-iff, agrees-cong, all-iff}
 
 -- M is what was asked, A and B are what the passes left
 module _ {n t : ℕ} {roots labels goals old map row starts : List ℕ} (M : DepthAsked n t roots labels goals old map)
-    (A : Row (length roots) (runStart (joins roots labels n t)) starts) (B : Row (length labels) (firstLike (rowKey labels n t old)) row) where
+    (A : Row (length roots) (runStart (joins roots labels n t)) starts)
+    (B : Row (length labels) (firstLike (rowKey labels n t old)) row) where
   abbrev table : List Word
   table = words roots labels goals
 
@@ -72,14 +75,17 @@ module _ {n t : ℕ} {roots labels goals old map row starts : List ℕ} (M : Dep
   depth-backward = record {
     startLe = λ i h. omega (arith, start-is i (omega (arith, size)), like-le (beginningAt n table t) i);
     firstLe = λ i h. omega (arith, first-is i (omega (arith, size)), like-le told i);
-    wordLe = λ i h. omega (arith, word-is i (omega (arith, size)), first-start C K i (omega (arith, size)), start-is i (omega (arith, size)));
+    wordLe = λ i h. omega
+        (arith, word-is i (omega (arith, size)), first-start C K i (omega (arith, size)), start-is i (omega (arith, size)));
   }
 
   -- ---- the test
 
-  test-is : (i : ℕ) → i < length table → agreesTest (length table) (at starts) (firstWordIn starts row) i ≡ agreesTest (length table) start firstWord i
+  test-is : (i : ℕ) → i < length table
+      → agreesTest (length table) (at starts) (firstWordIn starts row) i ≡ agreesTest (length table) start firstWord i
   test-is i h =
-      agrees-cong (length table) (at starts) start start-is (firstWordIn starts row) firstWord word-is i h (like-le (beginningAt n table t) i) (first-start C K i h)
+      agrees-cong (length table) (at starts) start start-is (firstWordIn starts row) firstWord word-is i h
+      (like-le (beginningAt n table t) i) (first-start C K i h)
 
   passes : RectangularAt n t table ↔ (runsAgreeTest (length table) starts row ≡ true)
   unfolding runsAgreeTest
@@ -121,16 +127,19 @@ module _ {n t : ℕ} {roots labels goals old map row starts : List ℕ} (M : Dep
     unfolding numberOf
     number-is i h =
         ap (below (λ j. eqb (firstWordIn starts row j) j)) (word-is i h)
-        ∙ below-cong (λ j. eqb (firstWordIn starts row j) j) (λ j. eqb (firstWord j) j) (firstWord i) (λ j l. ap (λ x. eqb x j) (word-is j (omega (arith, first-le C K i))))
+        ∙ below-cong (λ j. eqb (firstWordIn starts row j) j) (λ j. eqb (firstWord j) j) (firstWord i)
+        (λ j l. ap (λ x. eqb x j) (word-is j (omega (arith, first-le C K i))))
         ∙ sym (vertex-is G t (M .inner) (M .deep) K R i h)
 
     all-counted : below (λ j. eqb (firstWordIn starts row j) j) (length table) ≡ vertexCount n table t
     all-counted =
-        below-cong (λ j. eqb (firstWordIn starts row j) j) (λ j. eqb (firstWord j) j) (length table) (λ j l. ap (λ x. eqb x j) (word-is j l))
+        below-cong (λ j. eqb (firstWordIn starts row j) j) (λ j. eqb (firstWord j) j) (length table)
+        (λ j l. ap (λ x. eqb x j) (word-is j l))
         ∙ sym (count-is G t (M .inner) (M .deep) K R)
 
   pub depth-merged : {new : List ℕ} {count : ℕ} → true ≡ runsAgreeTest (length roots) starts row
-      → VerticesNumbered (t * length roots) (length roots) (firstWordIn starts row) map new count → DepthDone n t table row map new (Merged count)
+      → VerticesNumbered (t * length roots) (length roots) (firstWordIn starts row) map new count
+      → DepthDone n t table row map new (Merged count)
   depth-merged {new} {count} e N =
       let D = subst (λ k. RowAt (t * k) k (numberOf (firstWordIn starts row)) map new) (sym size) (N .row) in
       record {

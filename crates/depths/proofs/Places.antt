@@ -1,4 +1,5 @@
--- One place more of a list: a store changes its own place only, so what holds of the first i places holds of the first i + 1 after a store at i.
+-- One place more of a list: a store changes its own place only, so what holds of the first i places holds of the first i + 1 after a store
+-- at i.
 use mathlib.Core.Path.{_≡_, sym, subst, _∙_}
 use mathlib.Core.List.{List}
 use Prim.Native.Nat.{ℕ, _+_, _<_}
@@ -25,5 +26,6 @@ row-none f l e = record { len = e; is = λ i h. absurd (omega arith) }
 pub row-more : {i : ℕ} {f : ℕ → ℕ} {l : List ℕ} (v : ℕ) → Row i f l → i < mostWords → v ≡ f i → Row (i + 1) f (set l i v)
 row-more {i} {f} {l} v R h e = record {
   len = simp length-set (R .len);
-  is = upto-next (λ j. at (set l i v) j ≡ f j) i (λ j k. at-set l i j v (λ q. omega arith) ∙ R .is j k) (getD-set-same l i v 0 (omega (arith, R .len)) ∙ e);
+  is = upto-next (λ j. at (set l i v) j ≡ f j) i (λ j k. at-set l i j v (λ q. omega arith) ∙ R .is j k)
+      (getD-set-same l i v 0 (omega (arith, R .len)) ∙ e);
 }

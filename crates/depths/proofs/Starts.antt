@@ -1,5 +1,5 @@
--- The starts of runs. Words with one beginning stand together, so the start of i's run is that of the run before, where both words begin alike, and else i;
--- the pass keeps the start of the last word's run. On the words of a table this is the first word with i's beginning.
+-- The starts of runs. Words with one beginning stand together, so the start of i's run is that of the run before, where both words begin
+-- alike, and else i; the pass keeps the start of the last word's run. On the words of a table this is the first word with i's beginning.
 use mathlib.Core.Path.{_≡_, refl, sym, ap, ap₂, subst, _∙_}
 use mathlib.Core.Bool.{Bool, cond, _&&_}
 use mathlib.Core.List.{List}
@@ -28,7 +28,8 @@ pub record InStarts (roots labels : List ℕ) (n t : ℕ) (starts : List ℕ) (i
   pub row : Row i (runStart (joins roots labels n t)) starts
   pub last : (j : ℕ) → i ≡ suc j → start ≡ runStart (joins roots labels n t) j
 
-start-now : (joined : ℕ → Bool) (i start : ℕ) → ((j : ℕ) → i ≡ suc j → start ≡ runStart joined j) → startBy joined i start ≡ runStart joined i
+start-now : (joined : ℕ → Bool) (i start : ℕ) → ((j : ℕ) → i ≡ suc j → start ≡ runStart joined j)
+    → startBy joined i start ≡ runStart joined i
 unfolding startBy runStart
 start-now joined zero start h = refl
 start-now joined (suc i) start h = simp (ne-eqb (suc i) 0 (λ e. omega arith), h i refl)
@@ -37,7 +38,8 @@ pub starts-none : (roots labels : List ℕ) (n t : ℕ) (starts : List ℕ) → 
 starts-none roots labels n t starts h = record { iLe = omega arith; row = row-none _ starts h; last = λ j e. absurd (omega arith) }
 
 pub starts-more : {roots labels : List ℕ} {n t : ℕ} {starts : List ℕ} {i start now : ℕ} → InStarts roots labels n t starts i start
-    → now ≡ startBy (joins roots labels n t) i start → i < length roots → i < mostWords → InStarts roots labels n t (set starts i now) (i + 1) now
+    → now ≡ startBy (joins roots labels n t) i start → i < length roots → i < mostWords
+    → InStarts roots labels n t (set starts i now) (i + 1) now
 starts-more {roots} {labels} {n} {t} {starts} {i} {start} {now} c e h k =
     let is = e ∙ start-now (joins roots labels n t) i start (c .last) in
     record {
@@ -78,7 +80,8 @@ module _ {n : ℕ} {roots labels goals starts : List ℕ} (H : Held n roots labe
   abbrev table : List Word
   table = words roots labels goals
 
-  alike-is : (i j : ℕ) → i < length table → j < length table → beginAlike roots labels n t i j ≡ eqb (beginningAt n table t i) (beginningAt n table t j)
+  alike-is : (i j : ℕ) → i < length table → j < length table
+      → beginAlike roots labels n t i j ≡ eqb (beginningAt n table t i) (beginningAt n table t j)
   unfolding beginAlike
   alike-is i j a b =
       ap₂ (λ x y. x && y)
@@ -92,5 +95,6 @@ module _ {n : ℕ} {roots labels goals starts : List ℕ} (H : Held n roots labe
       ∙ run-start-is (length table) (beginningAt n table t) (joins roots labels n t) (cut (H .table) t le .rises) next i h
     where
       next : (j : ℕ) → suc j < length (words roots labels goals)
-          → beginAlike roots labels n t (suc j - 1) (suc j) ≡ eqb (beginningAt n (words roots labels goals) t j) (beginningAt n (words roots labels goals) t (suc j))
+          → beginAlike roots labels n t (suc j - 1) (suc j) ≡ eqb (beginningAt n (words roots labels goals) t j)
+          (beginningAt n (words roots labels goals) t (suc j))
       next j l = let e : suc j - 1 ≡ j = omega arith in rw e (alike-is j (suc j) (omega arith) l)

@@ -9,7 +9,8 @@ use Rattle.trellis.specs.Word.{Word, word, wordAt}
 use Rattle.depths.specs.inner.Words.{words, Held}
 use Rattle.depths.specs.inner.Rows.{at}
 
-pub words-length : (roots labels goals : List ℕ) → length labels ≡ length roots → length goals ≡ length roots → length (words roots labels goals) ≡ length roots
+pub words-length : (roots labels goals : List ℕ) → length labels ≡ length roots → length goals ≡ length roots
+    → length (words roots labels goals) ≡ length roots
 unfolding words
 words-length [] labels goals p q = refl
 words-length (r ∷ roots) [] goals p q = absurd (omega arith)

@@ -1,6 +1,6 @@
-// Rectangularity and vertex numbers of the inner depths of a table, each depth in one pass over the words. The table is lent as three parallel slices.
-// Promised: the answer is 0 exactly if the table is rectangular, and then the map has the vertex of every word at every inner depth; else the answer is
-// the smallest depth at which it is not.
+// Rectangularity and vertex numbers of the inner depths of a table, each depth in one pass over the words. The table is lent as three
+// parallel slices. Promised: the answer is 0 exactly if the table is rectangular, and then the map has the vertex of every word at every
+// inner depth; else the answer is the smallest depth at which it is not.
 ghost use mathlib.Core.Path.{_≡_};
 ghost use mathlib.Core.Bool.{cond};
 ghost use Prim.Native.Nat.{_+_, _-_, _<_, _≤_};
@@ -10,7 +10,8 @@ ghost use Rattle.trellis.specs.Bounds.{mostWords};
 ghost use Rattle.trellis.specs.Lists.{one-if};
 ghost use Rattle.runs.specs.inner.Runs.{firstLike, goesOn};
 ghost use Rattle.depths.specs.inner.Words.{words};
-ghost use Rattle.depths.specs.inner.Rows.{at, Row, Small, Bytes, beginAlike, joins, startBy, runStart, rowKey, firstWordIn, agreesTest, runsAgreeTest, Backward, ToNumber, VerticesNumbered};
+ghost use Rattle.depths.specs.inner.Rows.{at, Row, Small, Bytes, beginAlike, joins, startBy, runStart, rowKey, firstWordIn};
+ghost use Rattle.depths.specs.inner.Rows.{agreesTest, runsAgreeTest, Backward, ToNumber, VerticesNumbered};
 ghost use Rattle.depths.specs.inner.Merge.{DepthAsked, DepthDone, lowestOf, countOf, Inner, InnerDone};
 use numbers::wide;
 use trellis::MOST_Q;
@@ -43,7 +44,8 @@ fn run_start(roots: &[u8], labels: &[u16], n: usize, t: usize, i: usize, before:
 // The start of each word's run at depth t.
 pub fn put_starts(roots: &[u8], labels: &[u16], n: usize, t: usize, starts: &mut [u16; MOST_WORDS])
     requires { ⌜ (length (now roots) ≤ mostWords) × (length (now labels) ≡ length (now roots)) × (length (now starts) ≡ mostWords) ⌝ }
-    ensures { λ _. ⌜ Row (length (now (roots .entry))) (runStart (joins (now (roots .entry)) (now (labels .entry)) n t)) (now (starts .exit)) ⌝ }
+    ensures { λ _. ⌜ Row (length (now (roots .entry))) (runStart (joins (now (roots .entry)) (now (labels .entry)) n t))
+        (now (starts .exit)) ⌝ }
 {
     let mut i: usize = 0;
     let mut start: u16 = 0;
@@ -67,7 +69,8 @@ fn noted(old: u16, i: u16) -> u16
 // The row becomes, for each word, the first word with its symbol t and its number in the row.
 pub fn put_firsts(labels: &[u16], n: usize, t: usize, row: &mut [u16; MOST_WORDS])
     requires { ⌜ (length (now labels) ≤ mostWords) × Small (length (now labels)) (now row) ⌝ }
-    ensures { λ _. ⌜ Row (length (now (labels .entry))) (firstLike (rowKey (now (labels .entry)) n t (now (row .entry)))) (now (row .exit)) ⌝ }
+    ensures { λ _. ⌜ Row (length (now (labels .entry))) (firstLike (rowKey (now (labels .entry)) n t (now (row .entry))))
+        (now (row .exit)) ⌝ }
 {
     let mut seen = [NOTHING; MOST_Q * MOST_WORDS];
     let mut i: usize = 0;
@@ -141,7 +144,8 @@ fn put_numbers(
     place: usize,
 ) -> u16
     requires { ⌜ ToNumber w place (now starts) (now firsts) (now map) ⌝ }
-    ensures { λ r. ⌜ VerticesNumbered place w (firstWordIn (now (starts .entry)) (now (firsts .entry))) (now (map .entry)) (now (map .exit)) r ⌝ }
+    ensures { λ r. ⌜ VerticesNumbered place w (firstWordIn (now (starts .entry)) (now (firsts .entry))) (now (map .entry))
+        (now (map .exit)) r ⌝ }
 {
     let mut i: usize = 0;
     let mut count: u16 = 0;
@@ -172,7 +176,8 @@ fn merge_depth(
     map: &mut [u16],
 ) -> Depth
     requires { ⌜ DepthAsked n t (now roots) (now labels) (now goals) (now row) (now map) ⌝ }
-    ensures { λ r. ⌜ DepthDone n t (words (now (roots .entry)) (now (labels .entry)) (now (goals .entry))) (now (row .exit)) (now (map .entry)) (now (map .exit)) r ⌝ }
+    ensures { λ r. ⌜ DepthDone n t (words (now (roots .entry)) (now (labels .entry)) (now (goals .entry))) (now (row .exit))
+        (now (map .entry)) (now (map .exit)) r ⌝ }
 {
     let w = roots.len();
     let mut starts = [0u16; MOST_WORDS];
@@ -221,7 +226,8 @@ fn vertex_count(depth: Depth) -> u16
     }
 }
 
-// The vertices of every inner depth into the map, and into counts how many there are. Gives 0, or the smallest depth at which the table is not rectangular.
+// The vertices of every inner depth into the map, and into counts how many there are. Gives 0, or the smallest depth at which the table is
+// not rectangular.
 pub fn merge_inner(
     roots: &[u8],
     labels: &[u16],
@@ -231,7 +237,8 @@ pub fn merge_inner(
     counts: &mut [u16; MOST_SYMBOLS + 1],
 ) -> usize
     requires { ⌜ Inner n (now roots) (now labels) (now goals) (now map) (now counts) ⌝ }
-    ensures { λ r. ⌜ InnerDone n (words (now (roots .entry)) (now (labels .entry)) (now (goals .entry))) (now (map .entry)) (now (map .exit)) (now (counts .entry)) (now (counts .exit)) r ⌝ }
+    ensures { λ r. ⌜ InnerDone n (words (now (roots .entry)) (now (labels .entry)) (now (goals .entry))) (now (map .entry))
+        (now (map .exit)) (now (counts .entry)) (now (counts .exit)) r ⌝ }
 {
     let mut row = [0u16; MOST_WORDS];
     put_goals(goals, &mut row);

@@ -1,5 +1,6 @@
--- A label shifted up by two bits has two zeros there, which `|` fills with the symbol: that is label * 4 + s. What the width cannot hold is lost in
--- the shift as it is in the remainder. Of a label of fewer than eight symbols nothing is lost, so s is the last symbol and the label stands in front.
+-- A label shifted up by two bits has two zeros there, which `|` fills with the symbol: that is label * 4 + s. What the width cannot hold is
+-- lost in the shift as it is in the remainder. Of a label of fewer than eight symbols nothing is lost, so s is the last symbol and the
+-- label stands in front.
 use mathlib.Core.Path.{_≡_, sym, _∙_, ap₂}
 use Prim.Native.Nat.{ℕ, suc, _+_, _-_, _*_, _/_, _%_, _^_, _<_, _≤_}
 use native.Mathlib.Omega.{arith}

@@ -1,6 +1,6 @@
--- Two labels differ in a symbol exactly if `^` leaves something of it, and `^` works symbol by symbol, so the distance of x and y is that of x ^ y from
--- 0, which is the sum of the distances of its two bytes from 0. Where both labels are used up, further symbols are zeros and do not differ.
--- The distance counts from the last symbol up; counted from the first one down it is the same sum.
+-- Two labels differ in a symbol exactly if `^` leaves something of it, and `^` works symbol by symbol, so the distance of x and y is that
+-- of x ^ y from 0, which is the sum of the distances of its two bytes from 0. Where both labels are used up, further symbols are zeros and
+-- do not differ. The distance counts from the last symbol up; counted from the first one down it is the same sum.
 use mathlib.Core.Path.{_≡_, refl, sym, _∙_, ap, ap₂}
 use mathlib.Core.Bool.{not}
 use Prim.Native.Nat.{ℕ, zero, suc, _+_, _*_, _/_, _%_, _^_, _<_, _≤_}

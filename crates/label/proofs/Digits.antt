@@ -1,5 +1,6 @@
--- A label of n + 1 symbols x is the label x / 4 of n symbols with the symbol x % 4 behind it: symbol t < n of x is symbol t of x / 4, since dividing
--- by 4 and then by 4 ^ k is dividing by 4 ^ (k + 1), and symbol n of x is x % 4. So whatever holds of labels is shown by dropping the last symbol.
+-- A label of n + 1 symbols x is the label x / 4 of n symbols with the symbol x % 4 behind it: symbol t < n of x is symbol t of x / 4, since
+-- dividing by 4 and then by 4 ^ k is dividing by 4 ^ (k + 1), and symbol n of x is x % 4. So whatever holds of labels is shown by dropping
+-- the last symbol.
 use mathlib.Core.Path.{_≡_}
 use Prim.Native.Nat.{ℕ, suc, _-_, _/_, _%_, _^_, _<_}
 use native.Mathlib.Omega.{arith}

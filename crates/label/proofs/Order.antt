@@ -1,5 +1,6 @@
--- The order of labels is the order of their symbols. Drop the last symbol of both: if what is left differs, it decides, for numbers (x / 4 < y / 4
--- gives x < y) as for symbols; if it is the same, the last symbols decide, and every symbol before them agrees. So by induction on n.
+-- The order of labels is the order of their symbols. Drop the last symbol of both: if what is left differs, it decides, for numbers (x / 4
+-- < y / 4 gives x < y) as for symbols; if it is the same, the last symbols decide, and every symbol before them agrees. So by induction on
+-- n.
 use mathlib.Core.Path.{_≡_, refl, sym, _∙_, ap}
 use mathlib.Core.Logic.{_↔_}
 use Prim.Native.Nat.{ℕ, zero, suc, _/_, _%_, _^_, _<_}

@@ -1,6 +1,6 @@
--- Whether x is a label of n + 1 symbols below q is whether its last symbol is below q and x / 4 is a label of n such symbols. From this step, by
--- induction: the test says what it ought to of every symbol; and asking for more symbols than x has changes nothing, because those are zeros, and
--- a zero is below q whenever the last symbol is.
+-- Whether x is a label of n + 1 symbols below q is whether its last symbol is below q and x / 4 is a label of n such symbols. From this
+-- step, by induction: the test says what it ought to of every symbol; and asking for more symbols than x has changes nothing, because those
+-- are zeros, and a zero is below q whenever the last symbol is.
 use mathlib.Core.Path.{_≡_, refl, sym, _∙_, ap}
 use mathlib.Core.Bool.{Bool, true, false, _&&_}
 use mathlib.Core.Logic.{_↔_}

@@ -1,5 +1,5 @@
--- Shifts and masks at two bits a symbol are division and remainder by powers of 4, because 2 ^ (2 * k) is 4 ^ k. Where the width is used up, as many
--- symbols as the number has are shifted out, so nothing is left, and none is masked off.
+-- Shifts and masks at two bits a symbol are division and remainder by powers of 4, because 2 ^ (2 * k) is 4 ^ k. Where the width is used
+-- up, as many symbols as the number has are shifted out, so nothing is left, and none is masked off.
 use mathlib.Core.Path.{_≡_, refl, sym, _∙_, ap}
 use Prim.Native.Nat.{ℕ, zero, suc, _+_, _-_, _*_, _/_, _%_, _^_, _<_, _≤_}
 use native.Mathlib.Omega.{arith}

@@ -1,5 +1,5 @@
-// Symbols and packed labels, taken apart and put together by shifts and masks. Every function answers for all arguments, by an equation with the
-// definitions of labels in trellis: symbols are base-4 digits, the first one highest.
+// Symbols and packed labels, taken apart and put together by shifts and masks. Every function answers for all arguments, by an equation
+// with the definitions of labels in trellis: symbols are base-4 digits, the first one highest.
 ghost use mathlib.Core.Path.{_≡_};
 ghost use Prim.Native.Nat.{_-_, _/_, _%_, _^_, min};
 ghost use Rattle.trellis.specs.Label.{symbol, front, back, isLabel, distance};
@@ -69,8 +69,8 @@ fn held(n: usize) -> usize
     if n < 8 { n } else { 8 }
 }
 
-// Whether the label is one of n symbols below q. It is enough to look at eight symbols: those in front of them are zeros, and a zero is below q if
-// the last symbol is.
+// Whether the label is one of n symbols below q. It is enough to look at eight symbols: those in front of them are zeros, and a zero is
+// below q if the last symbol is.
 pub fn is_label(label: u16, q: u16, n: usize) -> bool
     ensures { λ r. ⌜ r ≡ isLabel q n label ⌝ }
 {

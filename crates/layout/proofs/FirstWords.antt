@@ -1,6 +1,6 @@
 -- The words that lead higher than all before them are the first on their edges, and their edges are those of our section in order.
--- A word that leads higher takes an edge that no word before it took. A word that does not would, if its edge were new, come after an edge of its own
--- vertex and symbol that leads as high or higher; but new edges come in order.
+-- A word that leads higher takes an edge that no word before it took. A word that does not would, if its edge were new, come after an edge
+-- of its own vertex and symbol that leads as high or higher; but new edges come in order.
 use mathlib.Core.Path.{_≡_, refl, sym, ap, ap₂, _∙_}
 use mathlib.Core.Bool.{Bool, true, false, cond}
 use mathlib.Core.Logic.{_⊎_, inl, inr}
@@ -40,7 +40,8 @@ module _ (f : ℕ → Edge) where
   above-all zero k j h e = absurd (omega arith)
   above-all (suc m) k j h e = go (eqb (keyOf (f m)) k) refl (leb (highest f m k) (f m .to)) refl (ℕ-discrete j m) (above-all m k j)
     where
-      go : (b : Bool) → eqb (keyOf (f m)) k ≡ b → (c : Bool) → leb (highest f m k) (f m .to) ≡ c → Dec (j ≡ m) → (j < m → keyOf (f j) ≡ k → f j .to < highest f m k)
+      go : (b : Bool) → eqb (keyOf (f m)) k ≡ b → (c : Bool) → leb (highest f m k) (f m .to) ≡ c → Dec (j ≡ m)
+          → (j < m → keyOf (f j) ≡ k → f j .to < highest f m k)
           → f j .to < cond b (cond c (f m .to + 1) (highest f m k)) (highest f m k)
       go true p true q (yes d) r = let x : f j .to ≡ f m .to = ap (λ i. f i .to) d in omega arith
       go true p true q (no d) r = omega (arith, r (omega arith) e, leb-true (highest f m k) (f m .to) q)
@@ -59,7 +60,8 @@ module _ (f : ℕ → Edge) where
       later (inr H) = inr (record { at = H .at; below = omega (arith, H .below); key-is = H .key-is; high-is = H .high-is })
 
       go : (b : Bool) → eqb (keyOf (f m)) k ≡ b → (c : Bool) → (highest f m k ≡ 0) ⊎ Highest f m k (highest f m k)
-          → (cond b (cond c (f m .to + 1) (highest f m k)) (highest f m k) ≡ 0) ⊎ Highest f (suc m) k (cond b (cond c (f m .to + 1) (highest f m k)) (highest f m k))
+          → (cond b (cond c (f m .to + 1) (highest f m k)) (highest f m k) ≡ 0)
+          ⊎ Highest f (suc m) k (cond b (cond c (f m .to + 1) (highest f m k)) (highest f m k))
       go true p true r = inr (record { at = m; below = omega arith; key-is = eqb-true (keyOf (f m)) k p; high-is = omega arith })
       go true p false r = later r
       go false p c r = later r
@@ -92,16 +94,19 @@ module _ (n : ℕ) (table : List Word) (G : Table n table) (R : Rectangular n ta
       not-last : (j : ℕ) → keyOf (g j) ≡ keyOf (g m) → g m .to ≤ g j .to → T (edgeLess (g j) (g m)) → ⊥
       not-last j e l s = cases (lower-yes _ _ _ _ _ _ s) (same-symbol j m e)
         where
-          cases : Lower (g j .from) (g j .symbol) (g j .to) (g m .from) (g m .symbol) (g m .to) → (g j .from ≡ g m .from) × (g j .symbol ≡ g m .symbol) → ⊥
+          cases : Lower (g j .from) (g j .symbol) (g j .to) (g m .from) (g m .symbol) (g m .to) → (g j .from ≡ g m .from)
+              × (g j .symbol ≡ g m .symbol) → ⊥
           cases (byFirst p) (x, y) = omega arith
           cases (bySecond p q) (x, y) = omega arith
           cases (byThird p q r) (x, y) = omega arith
 
-      go : (s : Bool) → isIn sameEdge (g m) (each g m) ≡ s → (highest g m (keyOf (g m)) ≡ 0) ⊎ Highest g m (keyOf (g m)) (highest g m (keyOf (g m))) → g m ∈ each g m
+      go : (s : Bool) → isIn sameEdge (g m) (each g m) ≡ s → (highest g m (keyOf (g m)) ≡ 0)
+          ⊎ Highest g m (keyOf (g m)) (highest g m (keyOf (g m))) → g m ∈ each g m
       go true e r = in-yes sameEdge edge-ok edge-rf (g m) (each g m) (holds e)
       go false e (inl z) = absurd (less (omega arith))
       go false e (inr H) =
-          let fresh : New n table G R t deep m = λ j l q. fails e (in-of sameEdge edge-ok edge-rf (g m) (each g m) (in-each g m j (g m) l (sym q))) in
+          let fresh : New n table G R t deep m =
+          λ j l q. fails e (in-of sameEdge edge-ok edge-rf (g m) (each g m) (in-each g m j (g m) l (sym q))) in
           let k = leb-false (highest g m (keyOf (g m))) (g m .to) h in
           absurd (not-last (H .at) (H .key-is) (omega (arith, H .high-is)) (new-last n table G R t deep m b fresh (H .at) (H .below)))
 
@@ -131,7 +136,9 @@ module _ (f g : ℕ → Edge) where
   takers-same zero h = refl
   takers-same (suc m) h =
       ap₂ (λ b l. cond b (l ++ (m ∷ [])) l)
-      (ap₂ (λ x e. leb x (e .to)) (highest-same m (keyOf (f m)) (λ i l. h i (omega arith)) ∙ ap (λ e. highest g m (keyOf e)) (h m (omega arith))) (h m (omega arith)))
+      (ap₂ (λ x e. leb x (e .to))
+      (highest-same m (keyOf (f m)) (λ i l. h i (omega arith)) ∙ ap (λ e. highest g m (keyOf e)) (h m (omega arith)))
+      (h m (omega arith)))
       (takers-same m (λ i l. h i (omega arith)))
 
   edges-same : (m : ℕ) → ((i : ℕ) → i < m → f i ≡ g i) → map f (takers g m) ≡ map g (takers g m)
@@ -139,8 +146,10 @@ module _ (f g : ℕ → Edge) where
   edges-same zero h = refl
   edges-same (suc m) h = go (leadsHigher g m) (edges-same m (λ i l. h i (omega arith)))
     where
-      go : (b : Bool) → map f (takers g m) ≡ map g (takers g m) → map f (cond b (takers g m ++ (m ∷ [])) (takers g m)) ≡ map g (cond b (takers g m ++ (m ∷ [])) (takers g m))
-      go true r = map-append f (takers g m) (m ∷ []) ∙ ap₂ (λ l e. l ++ (e ∷ [])) r (h m (omega arith)) ∙ sym (map-append g (takers g m) (m ∷ []))
+      go : (b : Bool) → map f (takers g m) ≡ map g (takers g m)
+          → map f (cond b (takers g m ++ (m ∷ [])) (takers g m)) ≡ map g (cond b (takers g m ++ (m ∷ [])) (takers g m))
+      go true r = map-append f (takers g m) (m ∷ []) ∙ ap₂ (λ l e. l ++ (e ∷ [])) r (h m (omega arith))
+          ∙ sym (map-append g (takers g m) (m ∷ []))
       go false r = r
 
 -- edges f that are those of the words: their first takers give the step's edges

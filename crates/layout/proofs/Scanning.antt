@@ -1,4 +1,5 @@
--- What the scan of take_step reads and keeps: the numbers of each word's edge, the words noted so far, and for each key one more than the highest vertex.
+-- What the scan of take_step reads and keeps: the numbers of each word's edge, the words noted so far, and for each key one more than the
+-- highest vertex.
 use mathlib.Core.Path.{_≡_, refl, sym, ap, ap₂, subst, _∙_}
 use mathlib.Core.Bool.{Bool, true, false, cond}
 use mathlib.Core.List.{List, [], _∷_, _++_, append-nil}
@@ -55,11 +56,13 @@ takers-none f words old at = record {
   len = refl;
 }
 
-module _ {f : ℕ → Edge} {words at to i key next : ℕ} {old out high : List ℕ} (c : InTakers f words old at out high to i) (A : ArcOf (f i) key next) where
+module _ {f : ℕ → Edge} {words at to i key next : ℕ} {old out high : List ℕ} (c : InTakers f words old at out high to i)
+    (A : ArcOf (f i) key next) where
   high-now : (before : ℕ) → before ≡ getD high key 0 → before ≡ highest f i (keyOf (f i))
   high-now before e = e ∙ c .kept key (A .key-lt) ∙ ap (highest f i) (A .key-is)
 
-  keep : (before now k : ℕ) → k < 4096 → before ≡ getD high key 0 → now ≡ raised before next → getD (set high key now) k 0 ≡ highest f (suc i) k
+  keep : (before now k : ℕ) → k < 4096 → before ≡ getD high key 0 → now ≡ raised before next
+      → getD (set high key now) k 0 ≡ highest f (suc i) k
   unfolding highest
   keep before now k h e g = go (ℕ-discrete k key)
     where
@@ -71,9 +74,11 @@ module _ {f : ℕ → Edge} {words at to i key next : ℕ} {old out high : List 
           ∙ sym (ap (λ b. cond b (raised (highest f i k) (f i .to)) (highest f i k)) (eq-eqb (keyOf (f i)) k p))
       go (no q) =
           getD-set-other high key k now 0 q ∙ c .kept k h
-          ∙ sym (ap (λ b. cond b (raised (highest f i k) (f i .to)) (highest f i k)) (ne-eqb (keyOf (f i)) k (λ p. q (sym p ∙ sym (A .key-is)))))
+          ∙ sym (ap (λ b. cond b (raised (highest f i k) (f i .to)) (highest f i k))
+          (ne-eqb (keyOf (f i)) k (λ p. q (sym p ∙ sym (A .key-is)))))
 
-  grow : (wanted : Bool) (out′ : List ℕ) (end : ℕ) → wanted ≡ leadsHigher f i → Wrote out to (cond wanted (i ∷ []) []) out′ end → Wrote old at (takers f (suc i)) out′ end
+  grow : (wanted : Bool) (out′ : List ℕ) (end : ℕ) → wanted ≡ leadsHigher f i → Wrote out to (cond wanted (i ∷ []) []) out′ end
+      → Wrote old at (takers f (suc i)) out′ end
   unfolding takers
   grow wanted out′ end e W = go (leadsHigher f i) (subst (λ b. Wrote out to (cond b (i ∷ []) []) out′ end) e W)
     where
@@ -85,7 +90,8 @@ module _ {f : ℕ → Edge} {words at to i key next : ℕ} {old out high : List 
   step-end true out′ end W = omega (arith, W .end-is)
   step-end false out′ end W = omega (arith, W .end-is)
 
-  pub takers-more : {before now end : ℕ} {wanted : Bool} {out′ : List ℕ} → before ≡ getD high key 0 → now ≡ raised before next → wanted ≡ leb before next
+  pub takers-more : {before now end : ℕ} {wanted : Bool} {out′ : List ℕ} → before ≡ getD high key 0 → now ≡ raised before next
+      → wanted ≡ leb before next
       → Wrote out to (cond wanted (i ∷ []) []) out′ end → i < words → InTakers f words old at out′ (set high key now) end (i + 1)
   unfolding leadsHigher
   takers-more {before} {now} {end} {wanted} {out′} e g w W h = rw (add-one i) (record {
@@ -97,5 +103,7 @@ module _ {f : ℕ → Edge} {words at to i key next : ℕ} {old out high : List 
     len = wrote-length W ∙ c .len;
   })
 
-pub takers-end : {f : ℕ → Edge} {words at to i : ℕ} {old out high : List ℕ} → InTakers f words old at out high to i → words ≤ i → Wrote old at (takers f words) out to
-takers-end {f} {words} {at} {to} {i} {old} {out} {high} c h = let e : i ≡ words = omega (arith, c .i-le) in subst (λ k. Wrote old at (takers f k) out to) e (c .noted)
+pub takers-end : {f : ℕ → Edge} {words at to i : ℕ} {old out high : List ℕ} → InTakers f words old at out high to i → words ≤ i
+    → Wrote old at (takers f words) out to
+takers-end {f} {words} {at} {to} {i} {old} {out} {high} c h = let e : i ≡ words = omega (arith, c .i-le) in
+    subst (λ k. Wrote old at (takers f k) out to) e (c .noted)

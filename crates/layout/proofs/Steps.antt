@@ -48,12 +48,14 @@ steps-none m labels n old counts h = record {
 }
 
 -- the rows of a step and the next are in the map
-pub rows-fit : {m labels : List ℕ} {n row t : ℕ} → SmallMap m labels n → row ≡ t * length labels → t < n → row + length labels + length labels ≤ suc n * length labels
+pub rows-fit : {m labels : List ℕ} {n row t : ℕ} → SmallMap m labels n → row ≡ t * length labels → t < n
+    → row + length labels + length labels ≤ suc n * length labels
 rows-fit {m} {labels} {n} {row} {t} S e h =
     let p : suc (suc t) * length labels ≤ suc n * length labels = mul-le-mul-right (length labels) (omega arith) in
     omega (arith, suc-mul t (length labels), suc-mul (suc t) (length labels))
 
-module _ {m labels : List ℕ} {n : ℕ} {old out counts : List ℕ} {at row t : ℕ} (S : SmallMap m labels n) (c : InSteps m labels n old out counts at row t) (h : t < n) where
+module _ {m labels : List ℕ} {n : ℕ} {old out counts : List ℕ} {at row t : ℕ} (S : SmallMap m labels n)
+    (c : InSteps m labels n old out counts at row t) (h : t < n) where
   fit : row + length labels + length labels ≤ suc n * length labels
   fit = rows-fit {m = m} S (c .row-is) h
 
@@ -107,7 +109,8 @@ module _ {m labels : List ℕ} {n : ℕ} {old out counts : List ℕ} {at row t :
             ∙ omega (arith, W .end-is) ∙ ap length is-step ∙ sym (ap (λ k. length (stepTakers m labels n k)) e)
         counted u l (no e) = getD-set-other counts t u (end - at) 0 e ∙ c .counted u (omega arith)
 
-pub steps-end : {m labels : List ℕ} {n : ℕ} {old out counts : List ℕ} {at row t : ℕ} → InSteps m labels n old out counts at row t → n ≤ t → AllTaken m labels n old out at counts
+pub steps-end : {m labels : List ℕ} {n : ℕ} {old out counts : List ℕ} {at row t : ℕ} → InSteps m labels n old out counts at row t → n ≤ t
+    → AllTaken m labels n old out at counts
 steps-end {m} {labels} {n} {old} {out} {counts} {at} {row} {t} c h =
     let e : t ≡ n = omega (arith, c .t-le) in
     record {

@@ -8,7 +8,8 @@ ghost use lib.Dec.{leb};
 ghost use Rattle.trellis.specs.Bounds.{mostWords};
 ghost use Rattle.trellis.specs.inner.Write.{Wrote};
 ghost use Rattle.trellis.specs.Layout.{joinedUp};
-ghost use Rattle.layout.specs.inner.Pieces.{SmallMap, AllTaken, stepTakers, part, pairsOf, symbolsOf, WordsAt, Taken, stepPairs, stepSymbols};
+ghost use Rattle.layout.specs.inner.Pieces.{SmallMap, AllTaken, stepTakers, part, pairsOf, symbolsOf, WordsAt, Taken, stepPairs};
+ghost use Rattle.layout.specs.inner.Pieces.{stepSymbols};
 ghost use Rattle.layout.specs.inner.Takers.{rowEdge, raised, takers, SmallRows, ArcOf};
 use numbers::wide;
 use trellis::MOST_Q;
@@ -76,7 +77,8 @@ pub fn take_step(
     at: usize,
 ) -> usize
     requires { ⌜ SmallRows (now map) (now labels) row × (at + length (now labels) ≤ length (now out)) ⌝ }
-    ensures { λ r. ⌜ Wrote (now (out .entry)) at (takers (rowEdge (now (map .entry)) (now (labels .entry)) n t row) (length (now (labels .entry)))) (now (out .exit)) r ⌝ }
+    ensures { λ r. ⌜ Wrote (now (out .entry)) at
+        (takers (rowEdge (now (map .entry)) (now (labels .entry)) n t row) (length (now (labels .entry)))) (now (out .exit)) r ⌝ }
 {
     let mut high = [0u16; MOST_Q * MOST_WORDS];
     let mut to = at;
@@ -130,7 +132,8 @@ fn put_pairs(
     at: usize,
 ) -> usize
     requires { ⌜ WordsAt (now words) lo hi w × (row + w + w ≤ length (now map)) × (at + 2 * (hi - lo) ≤ length (now section)) ⌝ }
-    ensures { λ r. ⌜ Wrote (now (section .entry)) at (pairsOf (now (map .entry)) w row (part (now (words .entry)) lo (hi - lo))) (now (section .exit)) r ⌝ }
+    ensures { λ r. ⌜ Wrote (now (section .entry)) at (pairsOf (now (map .entry)) w row (part (now (words .entry)) lo (hi - lo)))
+        (now (section .exit)) r ⌝ }
 {
     let mut to = at;
     let mut k = lo;
@@ -156,7 +159,8 @@ fn put_symbols(
     at: usize,
 ) -> usize
     requires { ⌜ WordsAt (now words) lo hi (length (now labels)) × (at + (hi - lo) ≤ length (now section)) ⌝ }
-    ensures { λ r. ⌜ Wrote (now (section .entry)) at (symbolsOf (now (labels .entry)) n t (part (now (words .entry)) lo (hi - lo))) (now (section .exit)) r ⌝ }
+    ensures { λ r. ⌜ Wrote (now (section .entry)) at (symbolsOf (now (labels .entry)) n t (part (now (words .entry)) lo (hi - lo)))
+        (now (section .exit)) r ⌝ }
 {
     let mut to = at;
     let mut k = lo;
@@ -179,9 +183,11 @@ pub fn put_all_pairs(
     section: &mut [u16],
     at: usize,
 ) -> usize
-    requires { ⌜ SmallMap (now map) (now labels) n × Taken (now map) (now labels) n (now words) (now counts) × (at + 2 * length (joinedUp (stepTakers (now map)
+    requires { ⌜ SmallMap (now map) (now labels) n × Taken (now map) (now labels) n (now words) (now counts)
+        × (at + 2 * length (joinedUp (stepTakers (now map)
         (now labels) n) n) ≤ length (now section)) ⌝ }
-    ensures { λ r. ⌜ Wrote (now (section .entry)) at (joinedUp (stepPairs (now (map .entry)) (now (labels .entry)) n) n) (now (section .exit)) r ⌝ }
+    ensures { λ r. ⌜ Wrote (now (section .entry)) at (joinedUp (stepPairs (now (map .entry)) (now (labels .entry)) n) n)
+        (now (section .exit)) r ⌝ }
 {
     let w = labels.len();
     let mut to = at;
@@ -208,9 +214,11 @@ pub fn put_all_symbols(
     section: &mut [u16],
     at: usize,
 ) -> usize
-    requires { ⌜ SmallMap (now map) (now labels) n × Taken (now map) (now labels) n (now words) (now counts) × (at + 1 * length (joinedUp (stepTakers (now map)
+    requires { ⌜ SmallMap (now map) (now labels) n × Taken (now map) (now labels) n (now words) (now counts)
+        × (at + 1 * length (joinedUp (stepTakers (now map)
         (now labels) n) n) ≤ length (now section)) ⌝ }
-    ensures { λ r. ⌜ Wrote (now (section .entry)) at (joinedUp (stepSymbols (now (map .entry)) (now (labels .entry)) n) n) (now (section .exit)) r ⌝ }
+    ensures { λ r. ⌜ Wrote (now (section .entry)) at (joinedUp (stepSymbols (now (map .entry)) (now (labels .entry)) n) n)
+        (now (section .exit)) r ⌝ }
 {
     let mut to = at;
     let mut lo: usize = 0;

@@ -15,7 +15,8 @@ use Rattle.merge.specs.Merging.{left, mergedFile, merging, mergedTable}
 use Rattle.merge.specs.declared.Merged.{Merged}
 use Rattle.merge.proofs.LastStage.{ends-by}
 
-pub table-asked : (file : List ℕ) {r : Checked} {q n states count : ℕ} → checkedOutcome r ≡ fileOutcome (tableFile file) → r ≡ Table q n states count
+pub table-asked : (file : List ℕ) {r : Checked} {q n states count : ℕ} → checkedOutcome r ≡ fileOutcome (tableFile file)
+    → r ≡ Table q n states count
     → (tableFile file ≡ accepted q n states (fileWords file)) × (count ≡ length (fileWords file))
 table-asked file e s = checked-table file (ap checkedOutcome (sym s) ∙ e)
 
@@ -25,13 +26,15 @@ module _ (file map section : List ℕ) where
   left-unchanged o e = ap (mergedFile map section) e
 
   -- 1 to 4
-  pub ends-refused : (a : Merged) {r x : Checked} → checkedOutcome r ≡ fileOutcome (tableFile file) → r ≡ x → isTable x ≡ false → outcomeOf a ≡ checkedOutcome x
+  pub ends-refused : (a : Merged) {r x : Checked} → checkedOutcome r ≡ fileOutcome (tableFile file) → r ≡ x → isTable x ≡ false
+      → outcomeOf a ≡ checkedOutcome x
       → Ends (merging file map section) a map section
   ends-refused a {r} {x} e s h o =
       let k = left-unchanged (checkedOutcome x) (checked-refused file x (ap checkedOutcome (sym s) ∙ e) h) in
       ends-by k o refl refl
 
-  by-words : (q n states : ℕ) → tableFile file ≡ accepted q n states (fileWords file) → merging file map section ≡ mergedTable q n states (fileWords file) map section
+  by-words : (q n states : ℕ) → tableFile file ≡ accepted q n states (fileWords file)
+      → merging file map section ≡ mergedTable q n states (fileWords file) map section
   unfolding merging mergedFile
   by-words q n states e = ap (mergedFile map section) e
 

@@ -15,7 +15,8 @@ pub record InClear (count : ℕ) (old new : List ℕ) (i : ℕ) : Type 0 where
 pub clear-none : (count : ℕ) (old : List ℕ) → InClear count old old 0
 clear-none count old = record { i-le = omega arith; now-is = refl; len = refl }
 
-pub clear-more : {count i : ℕ} {old new : List ℕ} → InClear count old new i → i < count → i < length new → InClear count old (set new i 0) (i + 1)
+pub clear-more : {count i : ℕ} {old new : List ℕ} → InClear count old new i → i < count → i < length new
+    → InClear count old (set new i 0) (i + 1)
 clear-more {count} {i} {old} {new} c h l =
     let g : i < length old = omega (arith, c .len) in
     record { i-le = omega arith; now-is = rw (c .now-is) (fill-more i 0 old g); len = simp length-set (c .len) }

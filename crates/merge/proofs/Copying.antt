@@ -15,7 +15,8 @@ pub record InCopy (file : List ℕ) (count : ℕ) (roots labels goals : List ℕ
   pub few : count ≤ mostWords
   pub copied : Copied file i roots labels goals
 
-pub copy-none : (file : List ℕ) (count : ℕ) → count ≤ mostWords → InCopy file count (replicate mostWords 0) (replicate mostWords 0) (replicate mostWords 0) 0
+pub copy-none : (file : List ℕ) (count : ℕ) → count ≤ mostWords
+    → InCopy file count (replicate mostWords 0) (replicate mostWords 0) (replicate mostWords 0) 0
 copy-none file count h = record {
   i-le = omega arith;
   few = h;
@@ -30,14 +31,16 @@ copy-none file count h = record {
 }
 
 -- one place more of an array that agrees with f
-more : (l : List ℕ) (f : ℕ → ℕ) (i at v : ℕ) → at ≡ i → v ≡ f i → i < length l → ((j : ℕ) → j < i → getD l j 0 ≡ f j) → (j : ℕ) → j < i + 1 → getD (set l at v) j 0 ≡ f j
+more : (l : List ℕ) (f : ℕ → ℕ) (i at v : ℕ) → at ≡ i → v ≡ f i → i < length l → ((j : ℕ) → j < i → getD l j 0 ≡ f j) → (j : ℕ) → j < i + 1
+    → getD (set l at v) j 0 ≡ f j
 more l f i at v p e h r j k = go (ℕ-discrete j i)
   where
     go : Dec (j ≡ i) → getD (set l at v) j 0 ≡ f j
     go (yes q) = ap (λ x. getD (set l at v) x 0) (q ∙ sym p) ∙ getD-set-same l at v 0 (omega arith) ∙ e ∙ ap f (sym q)
     go (no q) = getD-set-other l at j v 0 (λ d. q (d ∙ p)) ∙ r j (omega arith)
 
-pub copy-more : {file roots labels goals : List ℕ} {count i at a b c : ℕ} → InCopy file count roots labels goals i → at ≡ i → a ≡ fileWord file i .root → b ≡ fileWord file i .label
+pub copy-more : {file roots labels goals : List ℕ} {count i at a b c : ℕ} → InCopy file count roots labels goals i → at ≡ i
+    → a ≡ fileWord file i .root → b ≡ fileWord file i .label
     → c ≡ fileWord file i .goal → i < count → InCopy file count (set roots at a) (set labels at b) (set goals at c) (i + 1)
 copy-more {file} {roots} {labels} {goals} {count} {i} {at} {a} {b} {c} C p x y z h = record {
   i-le = omega arith;
@@ -52,5 +55,7 @@ copy-more {file} {roots} {labels} {goals} {count} {i} {at} {a} {b} {c} C p x y z
   };
 }
 
-pub copy-end : {file roots labels goals : List ℕ} {count i : ℕ} → InCopy file count roots labels goals i → count ≤ i → Copied file count roots labels goals
-copy-end {file} {roots} {labels} {goals} {count} {i} C h = let e : i ≡ count = omega (arith, C .i-le) in subst (λ k. Copied file k roots labels goals) e (C .copied)
+pub copy-end : {file roots labels goals : List ℕ} {count i : ℕ} → InCopy file count roots labels goals i → count ≤ i
+    → Copied file count roots labels goals
+copy-end {file} {roots} {labels} {goals} {count} {i} C h = let e : i ≡ count = omega (arith, C .i-le) in
+    subst (λ k. Copied file k roots labels goals) e (C .copied)

@@ -25,7 +25,8 @@ use Rattle.merge.specs.declared.Merged.{Merged}
 use Rattle.merge.specs.declared.Merged.the-variants.{ShortMap}
 use Rattle.merge.proofs.LastStage.{ends-by}
 
-module _ (file : List ℕ) {q n states count : ℕ} (A : (tableFile file ≡ accepted q n states (fileWords file)) × (count ≡ length (fileWords file))) where
+module _ (file : List ℕ) {q n states count : ℕ}
+    (A : (tableFile file ≡ accepted q n states (fileWords file)) × (count ≡ length (fileWords file))) where
   G : GoodFile file q n states (fileWords file)
   G = accepted-good file (A .0)
 
@@ -43,9 +44,12 @@ module _ (file : List ℕ) {q n states count : ℕ} (A : (tableFile file ≡ acc
   needed-is w e = ap (λ k. k * (n + 1)) (e ∙ A .1)
 
   -- 5
-  pub ends-map : (w : ℕ) (map section : List ℕ) → w ≡ count → length map < w * (n + 1) → Ends (mergedTable q n states (fileWords file) map section) (ShortMap (w * (n + 1))) map section
+  pub ends-map : (w : ℕ) (map section : List ℕ) → w ≡ count → length map < w * (n + 1)
+      → Ends (mergedTable q n states (fileWords file) map section) (ShortMap (w * (n + 1))) map section
   unfolding mergedTable
-  ends-map w map section e h = ends-by (simp (lt-ltb (length map) (mapLength n (fileWords file)) (omega (arith, needed-is w e)))) (ap shortMap (needed-is w e)) refl refl
+  ends-map w map section e h =
+      ends-by (simp (lt-ltb (length map) (mapLength n (fileWords file)) (omega (arith, needed-is w e))))
+      (ap shortMap (needed-is w e)) refl refl
 
   module _ {roots labels goals : List ℕ} {w : ℕ} (C : Copied file count roots labels goals) (e : w ≡ count) where
     pub part-roots : w ≤ length roots
@@ -70,7 +74,8 @@ module _ (file : List ℕ) {q n states count : ℕ} (A : (tableFile file ≡ acc
     held-words = words (take w roots) (take w labels) (take w goals)
 
     long : length (words (take w roots) (take w labels) (take w goals)) ≡ w
-    long = words-length (take w roots) (take w labels) (take w goals) (sym size-labels ∙ size-roots) (sym size-goals ∙ size-roots) ∙ sym size-roots
+    long = words-length (take w roots) (take w labels) (take w goals) (sym size-labels ∙ size-roots) (sym size-goals ∙ size-roots)
+        ∙ sym size-roots
 
     -- the lists hold the file's words
     words-are : words (take w roots) (take w labels) (take w goals) ≡ fileWords file
@@ -79,21 +84,24 @@ module _ (file : List ℕ) {q n states count : ℕ} (A : (tableFile file ≡ acc
         same : (i : ℕ) → i < w → wordAt (words (take w roots) (take w labels) (take w goals)) i ≡ wordAt (fileWords file) i
         same i h =
             word-is (take w roots) (take w labels) (take w goals) i (omega (arith, long))
-            ∙ word-eq (getD-take w roots i 0 h ∙ C .root i (omega arith)) (getD-take w labels i 0 h ∙ C .label i (omega arith)) (getD-take w goals i 0 h ∙ C .goal i (omega arith))
+            ∙ word-eq (getD-take w roots i 0 h ∙ C .root i (omega arith)) (getD-take w labels i 0 h ∙ C .label i (omega arith))
+            (getD-take w goals i 0 h ∙ C .goal i (omega arith))
             ∙ sym (good-at file G i (omega (arith, A .1)))
 
     root-low : (i : ℕ) → i < length (take w roots) → getD (take w roots) i 0 < mostStates
     root-low i h =
         let l : i < w = omega (arith, size-roots) in
         let k : i < length (fileWords file) = omega (arith, A .1) in
-        let z : getD (take w roots) i 0 ≡ wordAt (fileWords file) i .root = getD-take w roots i 0 l ∙ C .root i (omega arith) ∙ sym (ap (λ (x : Word). x .root) (good-at file G i k)) in
+        let z : getD (take w roots) i 0 ≡ wordAt (fileWords file) i .root = getD-take w roots i 0 l ∙ C .root i (omega arith)
+        ∙ sym (ap (λ (x : Word). x .root) (good-at file G i k)) in
         omega (arith, G .rootsBelow (wordAt (fileWords file) i) (word-in (fileWords file) i k), G .statesTo)
 
     goal-low : (i : ℕ) → i < length (take w goals) → getD (take w goals) i 0 < mostStates
     goal-low i h =
         let l : i < w = omega (arith, size-goals) in
         let k : i < length (fileWords file) = omega (arith, A .1) in
-        let z : getD (take w goals) i 0 ≡ wordAt (fileWords file) i .goal = getD-take w goals i 0 l ∙ C .goal i (omega arith) ∙ sym (ap (λ (x : Word). x .goal) (good-at file G i k)) in
+        let z : getD (take w goals) i 0 ≡ wordAt (fileWords file) i .goal = getD-take w goals i 0 l ∙ C .goal i (omega arith)
+        ∙ sym (ap (λ (x : Word). x .goal) (good-at file G i k)) in
         omega (arith, G .goalsBelow (wordAt (fileWords file) i) (word-in (fileWords file) i k), G .statesTo)
 
     pub words-asked : (map : List ℕ) → w * (n + 1) ≤ length map → WordsHeld n (take w roots) (take w labels) (take w goals) map
@@ -117,4 +125,6 @@ module _ (file : List ℕ) {q n states count : ℕ} (A : (tableFile file ≡ acc
     unfolding mergedTable
     ends-words map section map2 section2 a room E =
         let k : mapLength n (fileWords file) ≤ length map = omega (arith, needed-is w e) in
-        subst (λ m. Ends m a map2 section2) (ap (λ t. merged q n states t map section (witness n t)) words-are ∙ sym (simp (le-ltb (length map) (mapLength n (fileWords file)) k))) E
+        subst (λ m. Ends m a map2 section2)
+        (ap (λ t. merged q n states t map section (witness n t)) words-are
+        ∙ sym (simp (le-ltb (length map) (mapLength n (fileWords file)) k))) E

@@ -1,5 +1,5 @@
--- At the first inner depth that is not rectangular there is a witness, and it is the table's: no witness is at a smaller depth, since those are
--- rectangular, and a depth without a witness is rectangular.
+-- At the first inner depth that is not rectangular there is a witness, and it is the table's: no witness is at a smaller depth, since those
+-- are rectangular, and a depth without a witness is rectangular.
 use mathlib.Core.Path.{_≡_, refl, sym, ap, _∙_}
 use mathlib.Core.Bool.{Bool, true, false}
 use mathlib.Core.List.{List}
@@ -29,7 +29,8 @@ module _ (n : ℕ) (table : List Word) where
   same-depth t a p q r e =
       let I = search-hit (length table) 0 (overJ n table t) a p q r e in
       let J = search-hit (length table) 0 (overK n table t (I .place)) a p q r (I .is) in
-      let K = search-hit (length table) 0 (λ k. when (refutes n table t (I .place) (J .place) k) (found t (I .place) (J .place) k)) a p q r (J .is) in
+      let K = search-hit (length table) 0 (λ k. when (refutes n table t (I .place) (J .place) k) (found t (I .place) (J .place) k)) a p q r
+      (J .is) in
       tag (refutes n table t (I .place) (J .place) (K .place)) (I .place) (J .place) (K .place) (K .is)
     where
       tag : (b : Bool) (i j k : ℕ) → when b (found t i j k) ≡ found a p q r → a ≡ t
@@ -39,7 +40,9 @@ module _ (n : ℕ) (table : List Word) where
   -- a depth without a witness is rectangular
   no-witness : (t : ℕ) → 0 < t → t < n → witnessAt n table t ≡ nothing → RectangularAt n t table
   unfolding witnessAt overJ overK
-  no-witness t low deep e = rectangular-by n t table (λ i j k a b c x y. go i j k a b c x y (isIn sameWord (joined n t (wordAt table k) (wordAt table j)) table) refl)
+  no-witness t low deep e =
+      rectangular-by n t table
+      (λ i j k a b c x y. go i j k a b c x y (isIn sameWord (joined n t (wordAt table k) (wordAt table j)) table) refl)
     where
       silent : (b : Bool) (i j k : ℕ) → when b (found t i j k) ≡ nothing → T b → ⊥
       silent true i j k f s = none-found (sym f)
@@ -48,15 +51,25 @@ module _ (n : ℕ) (table : List Word) where
       none : (i j k : ℕ) → i < length table → j < length table → k < length table → T (refutes n table t i j k) → ⊥
       none i j k a b c = silent (refutes n table t i j k) i j k
           (search-none (length table) 0 (λ k. when (refutes n table t i j k) (found t i j k))
-          (search-none (length table) 0 (overK n table t i) (search-none (length table) 0 (overJ n table t) e i (omega arith) (omega arith)) j (omega arith) (omega arith))
+          (search-none (length table) 0 (overK n table t i)
+          (search-none (length table) 0 (overJ n table t) e i (omega arith) (omega arith)) j (omega arith) (omega arith))
           k (omega arith) (omega arith))
 
-      go : (i j k : ℕ) → i < length table → j < length table → k < length table → beginning n t (wordAt table i) ≡ beginning n t (wordAt table j)
-          → ending n t (wordAt table i) ≡ ending n t (wordAt table k) → (b : Bool) → isIn sameWord (joined n t (wordAt table k) (wordAt table j)) table ≡ b
+      go : (i j k : ℕ) → i < length table → j < length table → k < length table
+          → beginning n t (wordAt table i) ≡ beginning n t (wordAt table j)
+          → ending n t (wordAt table i) ≡ ending n t (wordAt table k) → (b : Bool)
+          → isIn sameWord (joined n t (wordAt table k) (wordAt table j)) table ≡ b
           → joined n t (wordAt table k) (wordAt table j) ∈ table
       go i j k a b c x y true f = in-yes sameWord same-yes same-self _ table (holds f)
       go i j k a b c x y false f = absurd (none i j k a b c (refutes-of n table t i j k
-          (record { inner = (low, deep); words = (a, b, c); begins = x; ends = y; missing = λ m. fails f (in-of sameWord same-yes same-self _ table m) })))
+          (record {
+            inner = (low, deep);
+            words = (a, b, c);
+            begins = x;
+            ends = y;
+            missing =
+                λ m. fails f (in-of sameWord same-yes same-self _ table m);
+          })))
 
   witness-hit : (a b d g : ℕ) → witness n table ≡ found a b d g → Hit (witnessAt n table) 1 (n - 1) (found a b d g)
   unfolding witness
@@ -96,7 +109,8 @@ module _ (n : ℕ) (table : List Word) where
                   where
                     pick : Dec (u < t) → t ≤ u
                     pick (yes l) = absurd (W .missing (F .sooner u (W .inner .0) l (wordAt table b) (wordAt table d) (wordAt table g)
-                        (word-in table b (W .words .0)) (word-in table d (W .words .1)) (word-in table g (W .words .2)) (W .begins) (W .ends)))
+                        (word-in table b (W .words .0)) (word-in table d (W .words .1)) (word-in table g (W .words .2)) (W .begins)
+                        (W .ends)))
                     pick (no l) = omega arith
 
                 not-later : (u : ℕ) → (H : Hit (witnessAt n table) 1 (n - 1) (found a b d g)) → H .place ≤ t

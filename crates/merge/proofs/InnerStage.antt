@@ -1,5 +1,5 @@
--- From the inner depths on: where they are all rectangular the last stage follows, and else the refusal with its witness. Writing inner rows leaves what
--- stands beyond the map as it was, so both ends are the same for the buffer as it was before.
+-- From the inner depths on: where they are all rectangular the last stage follows, and else the refusal with its witness. Writing inner
+-- rows leaves what stands beyond the map as it was, so both ends are the same for the buffer as it was before.
 use mathlib.Core.Path.{_≡_, refl, sym, ap, ap₂, subst, _∙_}
 use mathlib.Core.List.{List}
 use Prim.Native.Nat.{ℕ, zero, suc, _+_, _*_}
@@ -55,7 +55,8 @@ module _ {n r : ℕ} {roots labels goals map0 map1 counts0 counts : List ℕ} (A
       let e = same-behind (mapOf n table) (map-length n table ∙ ap (λ w. suc n * w) size) in
       rw e
 
-  pub ends-written : (q states : ℕ) (section : List ℕ) {map2 section2 : List ℕ} {a : Merged} → r ≡ 0 → Ends (written q n states table map1 section) a map2 section2
+  pub ends-written : (q states : ℕ) (section : List ℕ) {map2 section2 : List ℕ} {a : Merged} → r ≡ 0
+      → Ends (written q n states table map1 section) a map2 section2
       → Ends (merged q n states table map0 section (witness n table)) a map2 section2
   unfolding merged
   ends-written q states section {map2} {section2} {a} e E =
@@ -70,7 +71,8 @@ module _ {n r : ℕ} {roots labels goals map0 map1 counts0 counts : List ℕ} (A
   pub refused : (r ≡ 0 → ⊥) → RefusedAt n r roots labels goals map1
   refused d = record { asked = asked; first = first-of r d (D .found) }
 
-  pub ends-refused : (q states : ℕ) {section map2 : List ℕ} {a : Merged} → (r ≡ 0 → ⊥) → (outcomeOf a ≡ refusalOf (witness n table)) × (map2 ≡ cleared (length roots * (n + 1)) map1)
+  pub ends-refused : (q states : ℕ) {section map2 : List ℕ} {a : Merged} → (r ≡ 0 → ⊥) → (outcomeOf a ≡ refusalOf (witness n table))
+      × (map2 ≡ cleared (length roots * (n + 1)) map1)
       → Ends (merged q n states table map0 section (witness n table)) a map2 section
   unfolding merged
   ends-refused q states {section} {map2} {a} d (p, m) = go (witness n table) refl p
@@ -78,7 +80,10 @@ module _ {n r : ℕ} {roots labels goals map0 map1 counts0 counts : List ℕ} (A
       F : FirstRefused n (words roots labels goals) 1 r
       F = first-of r d (D .found)
 
-      go : (w : Witness) → witness n (words roots labels goals) ≡ w → outcomeOf a ≡ refusalOf w → Ends (merged q n states (words roots labels goals) map0 section w) a map2 section
+      go : (w : Witness) → witness n (words roots labels goals) ≡ w → outcomeOf a ≡ refusalOf w
+          → Ends (merged q n states (words roots labels goals) map0 section w) a map2 section
       go nothing e o = absurd (F .fails (witness-none n (words roots labels goals) .0 e r (F .from) (F .inner)))
       go (found t i j k) e o = ends-by refl o
-          (m ∙ ap (λ w. cleared (w * (n + 1)) map1) (sym size) ∙ same-behind (replicate (mapLength n (words roots labels goals)) 0) (length-replicate (mapLength n (words roots labels goals)) 0 ∙ rows-long)) refl
+          (m ∙ ap (λ w. cleared (w * (n + 1)) map1) (sym size)
+          ∙ same-behind (replicate (mapLength n (words roots labels goals)) 0)
+          (length-replicate (mapLength n (words roots labels goals)) 0 ∙ rows-long)) refl

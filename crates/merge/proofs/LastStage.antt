@@ -61,7 +61,8 @@ module _ (q n states : ℕ) (table : List Word) (map section : List ℕ) where
   unfolding written
   written-done h = simp (le-ltb (length section) (length (sectionOf q n states table)) h)
 
-pub ends-by : {m : Merging} {r : Merged} {o : Outcome} {map section map′ section′ : List ℕ} → m ≡ left o map section → outcomeOf r ≡ o → map′ ≡ map → section′ ≡ section
+pub ends-by : {m : Merging} {r : Merged} {o : Outcome} {map section map′ section′ : List ℕ} → m ≡ left o map section → outcomeOf r ≡ o
+    → map′ ≡ map → section′ ≡ section
     → Ends m r map′ section′
 ends-by {m} {r} {o} {map} {section} {map′} {section′} e p q s = record {
   answerIs = p ∙ sym (ap (λ (x : Merging). x .answer) e);
@@ -124,15 +125,18 @@ module _ {n : ℕ} {roots labels goals map0 map1 inner rootMarks goalMarks count
       needed = 4 + 2 * n + (c0 + cn) + 3 * total
 
       needed-is : 4 + 2 * n + (c0 + cn) + 3 * total ≡ length (sectionOf q n states table)
-      needed-is = ap₂ (λ x y. 4 + 2 * n + (x + y) + 3 * total) e0 en ∙ sym (section-length H (I .sound) P rectangular q states total total-is)
+      needed-is = ap₂ (λ x y. 4 + 2 * n + (x + y) + 3 * total) e0 en
+          ∙ sym (section-length H (I .sound) P rectangular q states total total-is)
 
       module _ {section : List ℕ} where
         -- 7: the map is finished, the section is as it was
         pub ends-short : length section < 4 + 2 * n + (c0 + cn) + 3 * total
             → Ends (written q n states table map0 section) (ShortSection (4 + 2 * n + (c0 + cn) + 3 * total)) map1 section
-        ends-short h = ends-by (written-short q n states table map0 section (omega (arith, needed-is))) (ap shortSection needed-is) map-whole refl
+        ends-short h = ends-by (written-short q n states table map0 section (omega (arith, needed-is)))
+            (ap shortSection needed-is) map-whole refl
 
-        pub parts : 4 + 2 * n + (c0 + cn) + 3 * total ≤ length section → Parts n counts edgeCounts rootMarks goalMarks map1 labels firsts section
+        pub parts : 4 + 2 * n + (c0 + cn) + 3 * total ≤ length section
+            → Parts n counts edgeCounts rootMarks goalMarks map1 labels firsts section
         parts h = record {
           small = map-small;
           taken = K;
@@ -142,7 +146,16 @@ module _ {n : ℕ} {roots labels goals map0 map1 inner rootMarks goalMarks count
           rootBits = bits-of (P .rootsMarked);
           goalBits = bits-of (P .goalsMarked);
           some = some-edges;
-          room = omega (arith, e0, en, all-marks (I .asked .fewRoots) (P .rootsMarked), all-marks (I .asked .fewGoals) (P .goalsMarked), P .rootCount, P .goalCount, total-is);
+          room = omega (
+            arith,
+            e0,
+            en,
+            all-marks (I .asked .fewRoots) (P .rootsMarked),
+            all-marks (I .asked .fewGoals) (P .goalsMarked),
+            P .rootCount,
+            P .goalCount,
+            total-is,
+          );
         }
 
         -- success: the section's numbers stand in front
@@ -152,4 +165,5 @@ module _ {n : ℕ} {roots labels goals map0 map1 inner rootMarks goalMarks count
         ends-done {new} {end} h W =
             let same = numbers-are H (I .sound) P rectangular q states (I .asked .fewRoots) (I .asked .fewGoals) K in
             let W′ : Wrote section 0 (sectionOf q n states table) new end = subst (λ vs. Wrote section 0 vs new end) same W in
-            ends-by (written-done q n states table map0 section (omega (arith, needed-is))) (ap success needed-is) map-whole (wrote-front W′ (omega (arith, needed-is)))
+            ends-by (written-done q n states table map0 section (omega (arith, needed-is))) (ap success needed-is) map-whole
+            (wrote-front W′ (omega (arith, needed-is)))

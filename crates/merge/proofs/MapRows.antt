@@ -1,5 +1,5 @@
--- The map row by row: a buffer that has each word's vertex at each depth in its front, and beyond it what stood there, is the map over that buffer.
--- Place j of the front is of word j % W at depth j / W.
+-- The map row by row: a buffer that has each word's vertex at each depth in its front, and beyond it what stood there, is the map over that
+-- buffer. Place j of the front is of word j % W at depth j / W.
 use mathlib.Core.Path.{_≡_, sym, ap, _∙_}
 use mathlib.Core.List.{List, _++_}
 use Prim.Native.Nat.{ℕ, zero, suc, _+_, _*_, _/_, _%_, _<_, _≤_}
@@ -25,7 +25,8 @@ module _ (f : ℕ → ℕ → ℕ) (w : ℕ) where
   rows-length : (m : ℕ) → length (joinedUp (λ t. each (f t) w) m) ≡ m * w
   unfolding joinedUp
   rows-length zero = sym (zero-mul w)
-  rows-length (suc m) = length-append (joinedUp (λ t. each (f t) w) m) (each (f m) w) ∙ omega (arith, rows-length m, length-run (f m) 0 w, suc-mul m w)
+  rows-length (suc m) = length-append (joinedUp (λ t. each (f t) w) m) (each (f m) w)
+      ∙ omega (arith, rows-length m, length-run (f m) 0 w, suc-mul m w)
 
   rows-at : (m t i : ℕ) → t < m → i < w → getD (joinedUp (λ t. each (f t) w) m) (t * w + i) 0 ≡ f t i
   unfolding joinedUp
@@ -43,7 +44,8 @@ module _ (f : ℕ → ℕ → ℕ) (w : ℕ) where
       go : Dec (t ≡ m) → (t < m → i < w → getD (joinedUp (λ t. each (f t) w) m) (t * w + i) 0 ≡ f t i)
           → getD (joinedUp (λ t. each (f t) w) m ++ each (f m) w) (t * w + i) 0 ≡ f t i
       go (yes e) r = ap (λ k. getD (joinedUp (λ t. each (f t) w) m ++ each (f m) w) (k * w + i) 0) e ∙ last ∙ ap (λ k. f k i) (sym e)
-      go (no e) r = List·getD-append (joinedUp (λ t. each (f t) w) m) (each (f m) w) 0 (t * w + i) (before (omega arith)) ∙ r (omega arith) l
+      go (no e) r = List·getD-append (joinedUp (λ t. each (f t) w) m) (each (f m) w) 0 (t * w + i) (before (omega arith))
+          ∙ r (omega arith) l
 
 -- ---- a buffer with a front of its own
 
@@ -57,7 +59,8 @@ pub map-is : (n : ℕ) (table : List Word) (old new : List ℕ) → 0 < length t
     → ((t i : ℕ) → t ≤ n → i < length table → getD new (t * length table + i) 0 ≡ vertexOf n table t i)
     → ((j : ℕ) → suc n * length table ≤ j → getD new j 0 ≡ getD old j 0) → new ≡ over (mapOf n table) old
 unfolding mapOf
-map-is n table old new some room len vertices behind = over-is (mapOf n table) old new (omega (arith, map-length n table)) len front (λ j h. behind j (omega (arith, map-length n table)))
+map-is n table old new some room len vertices behind =
+    over-is (mapOf n table) old new (omega (arith, map-length n table)) len front (λ j h. behind j (omega (arith, map-length n table)))
   where
     front : (j : ℕ) → j < length (mapOf n table) → getD new j 0 ≡ getD (mapOf n table) j 0
     front j h =

@@ -1,5 +1,5 @@
--- What merging a table file leaves: document 01's answer and the whole content of both buffers, from the file's bytes and the buffers before the call.
--- Everything here computes.
+-- What merging a table file leaves: document 01's answer and the whole content of both buffers, from the file's bytes and the buffers
+-- before the call. Everything here computes.
 use mathlib.Core.Bool.{cond}
 use mathlib.Core.List.{List}
 use Prim.Native.Nat.{ℕ, suc, _+_, _*_}

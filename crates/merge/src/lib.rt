@@ -1,5 +1,6 @@
-// Merging: a table file becomes the map of its words' vertices and the smallest section that has just its words. The promise, for all arguments, is an
-// equation with one definition, `merging`: the answer with document 01's number and values, and every place of both buffers.
+// Merging: a table file becomes the map of its words' vertices and the smallest section that has just its words. The promise, for all
+// arguments, is an equation with one definition, `merging`: the answer with document 01's number and values, and every place of both
+// buffers.
 ghost use mathlib.Core.Path.{_≡_};
 ghost use Prim.Native.Nat.{_+_, _*_, _<_, _≤_};
 ghost use lib.ListN.{length};
@@ -50,7 +51,9 @@ fn finish(
     section: &mut [u16],
 ) -> Merged
     requires { ⌜ Inside n (now roots) (now labels) (now goals) (now map) inner ⌝ }
-    ensures { λ r. ⌜ Ends (written q n states (words (now (roots .entry)) (now (labels .entry)) (now (goals .entry))) (now (map .entry)) (now (section .entry))) r
+    ensures { λ r. ⌜ Ends
+        (written q n states (words (now (roots .entry)) (now (labels .entry)) (now (goals .entry))) (now (map .entry))
+        (now (section .entry))) r
         (now (map .exit)) (now (section .exit)) ⌝ }
 {
     let outer = assemble::put_outer(roots, goals, n, map, inner);
@@ -68,7 +71,8 @@ fn finish(
 // Refusal 6 at the first inner depth that is not rectangular: its witness, and a map of zeros.
 fn refuse(n: usize, t: usize, roots: &[u8], labels: &[u16], goals: &[u8], map: &mut [u16]) -> Merged
     requires { ⌜ RefusedAt n t (now roots) (now labels) (now goals) (now map) ⌝ }
-    ensures { λ r. ⌜ (outcomeOf r ≡ refusalOf (witness n (words (now (roots .entry)) (now (labels .entry)) (now (goals .entry))))) × (now (map .exit)
+    ensures { λ r. ⌜ (outcomeOf r ≡ refusalOf (witness n (words (now (roots .entry)) (now (labels .entry)) (now (goals .entry)))))
+        × (now (map .exit)
         ≡ cleared (length (now (roots .entry)) * (n + 1)) (now (map .entry))) ⌝ }
 {
     clear(map, roots.len() * (n + 1));
@@ -92,7 +96,8 @@ fn merge_words(
 ) -> Merged
     requires { ⌜ WordsHeld n (now roots) (now labels) (now goals) (now map) ⌝ }
     ensures { λ r. ⌜ Ends (merged q n states (words (now (roots .entry)) (now (labels .entry)) (now (goals .entry))) (now (map .entry))
-        (now (section .entry)) (witness n (words (now (roots .entry)) (now (labels .entry)) (now (goals .entry))))) r (now (map .exit)) (now (section .exit)) ⌝ }
+        (now (section .entry)) (witness n (words (now (roots .entry)) (now (labels .entry)) (now (goals .entry))))) r (now (map .exit))
+        (now (section .exit)) ⌝ }
 {
     let mut counts = [0u16; MOST_SYMBOLS + 1];
     let depth = depths::merge_inner(roots, labels, goals, n, map, &mut counts);
@@ -143,7 +148,8 @@ fn merge_table(
     section: &mut [u16],
 ) -> Merged
     requires { ⌜ (tableFile (now file) ≡ accepted q n states (fileWords (now file))) × (count ≡ length (fileWords (now file))) ⌝ }
-    ensures { λ r. ⌜ Ends (mergedTable q n states (fileWords (now (file .entry))) (now (map .entry)) (now (section .entry))) r (now (map .exit)) (now (section .exit)) ⌝ }
+    ensures { λ r. ⌜ Ends (mergedTable q n states (fileWords (now (file .entry))) (now (map .entry)) (now (section .entry))) r
+        (now (map .exit)) (now (section .exit)) ⌝ }
 {
     let w = wide(count);
     let steps = n as usize;
@@ -169,7 +175,8 @@ fn merge_table(
 
 // Merges the table in `file`: the vertex of each word at each depth into `map`, the section into `section`.
 pub fn merge(file: &[u8], map: &mut [u16], section: &mut [u16]) -> Merged
-    ensures { λ r. ⌜ Ends (merging (now (file .entry)) (now (map .entry)) (now (section .entry))) r (now (map .exit)) (now (section .exit)) ⌝ }
+    ensures { λ r. ⌜ Ends (merging (now (file .entry)) (now (map .entry)) (now (section .entry))) r (now (map .exit))
+        (now (section .exit)) ⌝ }
 {
     match table::check(file) {
         table::Checked::Table {

@@ -20,10 +20,12 @@ pub summed-start : (f : ℕ → ℕ) (count : ℕ) → Summed f count 0 0
 unfolding sum
 summed-start f count = record { inside = omega arith; is = refl; small = omega arith }
 
-pub summed-next : {f : ℕ → ℕ} {count total t x y : ℕ} → Summed f count total t → t < count → x ≡ f t → (y ≡ x) × (y < 65536) → Summed f count (total + y) (t + 1)
+pub summed-next : {f : ℕ → ℕ} {count total t x y : ℕ} → Summed f count total t → t < count → x ≡ f t → (y ≡ x) × (y < 65536)
+    → Summed f count (total + y) (t + 1)
 summed-next {f} {count} {total} {t} {x} {y} s h e g = record {
   inside = omega arith;
-  is = let a : sum f 0 (t + 1) ≡ sum f 0 t + f t = ap (sum f 0) (let o : t + 1 ≡ suc t = omega arith in o) ∙ sum-last f 0 t ∙ ap (λ k. sum f 0 t + f k) (zero-add t) in omega (arith, s .is, g .0);
+  is = let a : sum f 0 (t + 1) ≡ sum f 0 t + f t = ap (sum f 0) (let o : t + 1 ≡ suc t = omega arith in o) ∙ sum-last f 0 t
+      ∙ ap (λ k. sum f 0 t + f k) (zero-add t) in omega (arith, s .is, g .0);
   small = omega (arith, s .small, g .1);
 }
 

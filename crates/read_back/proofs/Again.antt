@@ -1,5 +1,6 @@
--- Reading back what merging wrote gives the very file that was merged, byte for byte: our section of an accepted rectangular table is usable, its
--- words are the table's words, and the bytes of those words are the file. Each byte of the file stands at the place where the file's layout says.
+-- Reading back what merging wrote gives the very file that was merged, byte for byte: our section of an accepted rectangular table is
+-- usable, its words are the table's words, and the bytes of those words are the file. Each byte of the file stands at the place where the
+-- file's layout says.
 use mathlib.Core.Path.{_≡_, refl, sym, ap, ap₂, subst, _∙_}
 use mathlib.Core.Bool.{true, cond}
 use mathlib.Core.List.{List, [], _∷_, _++_, flatMap}
@@ -31,11 +32,14 @@ use Rattle.read_back.specs.ReadingBack.{left, isSection, readingBack}
 run-append : {A : Type 0} (f : ℕ → A) (a c d : ℕ) → run f a c ++ run f (a + c) d ≡ run f a (c + d)
 unfolding run
 run-append f a zero d = ap₂ (λ x y. run f x y) (add-zero a) (sym (zero-add d))
-run-append f a (suc c) d = rw (suc-add c d) (ap (λ l. f a ∷ l) (ap (λ k. run f (suc a) c ++ run f k d) (add-suc a c ∙ sym (suc-add a c)) ∙ run-append f (suc a) c d))
+run-append f a (suc c) d =
+    rw (suc-add c d) (ap (λ l. f a ∷ l)
+    (ap (λ k. run f (suc a) c ++ run f k d) (add-suc a c ∙ sym (suc-add a c)) ∙ run-append f (suc a) c d))
 
 run-whole : (file : List ℕ) → run (λ i. getD file i 0) 0 (length file) ≡ file
 run-whole file = ext-getD 0 (run (λ i. getD file i 0) 0 (length file)) file (length-run (λ i. getD file i 0) 0 (length file))
-    (λ i h. run-at (λ i. getD file i 0) 0 (length file) i 0 (subst (λ m. i < m) (length-run (λ i. getD file i 0) 0 (length file)) h) ∙ ap (λ k. getD file k 0) (zero-add i))
+    (λ i h. run-at (λ i. getD file i 0) 0 (length file) i 0 (subst (λ m. i < m) (length-run (λ i. getD file i 0) 0 (length file)) h)
+    ∙ ap (λ k. getD file k 0) (zero-add i))
 
 two-more : {A : Type 0} (f : ℕ → A) (a c : ℕ) → run f a (2 * suc c) ≡ f a ∷ f (a + 1) ∷ run f (a + 2) (2 * c)
 unfolding run
@@ -54,7 +58,8 @@ module _ (file : List ℕ) (bytes : (i : ℕ) → getD file i 0 < 256) where
   pairs-are i zero = refl
   pairs-are i (suc c) =
       let e : 5 + 2 * suc i ≡ 5 + 2 * i + 2 = omega arith in
-      ap (λ l. at (5 + 2 * i) ∷ at (5 + 2 * i + 1) ∷ l) (pairs-are (suc i) c ∙ ap (λ k. run (λ i. byteAt file i) k (2 * c)) e) ∙ sym (two-more (λ i. byteAt file i) (5 + 2 * i) c)
+      ap (λ l. at (5 + 2 * i) ∷ at (5 + 2 * i + 1) ∷ l) (pairs-are (suc i) c ∙ ap (λ k. run (λ i. byteAt file i) k (2 * c)) e)
+      ∙ sym (two-more (λ i. byteAt file i) (5 + 2 * i) c)
 
   labels-are : (i c : ℕ) → flatMap labelBytes (run (fileWord file) i c) ≡ run (λ i. byteAt file i) (5 + 2 * wordCount file + 2 * i) (2 * c)
   unfolding run flatMap fileWord
@@ -62,10 +67,13 @@ module _ (file : List ℕ) (bytes : (i : ℕ) → getD file i 0 < 256) where
   labels-are i (suc c) =
       let k = 5 + 2 * wordCount file + 2 * i in
       let e : 5 + 2 * wordCount file + 2 * suc i ≡ 5 + 2 * wordCount file + 2 * i + 2 = omega arith in
-      let low : twoBytes (at (5 + 2 * wordCount file + 2 * i)) (at (5 + 2 * wordCount file + 2 * i + 1)) % 256 ≡ at (5 + 2 * wordCount file + 2 * i) = omega (arith, bytes (5 + 2 * wordCount file + 2 * i)) in
-      let high : twoBytes (at (5 + 2 * wordCount file + 2 * i)) (at (5 + 2 * wordCount file + 2 * i + 1)) / 256 ≡ at (5 + 2 * wordCount file + 2 * i + 1) = omega (arith, bytes (5 + 2 * wordCount file + 2 * i)) in
+      let low : twoBytes (at (5 + 2 * wordCount file + 2 * i)) (at (5 + 2 * wordCount file + 2 * i + 1)) % 256 ≡ at
+      (5 + 2 * wordCount file + 2 * i) = omega (arith, bytes (5 + 2 * wordCount file + 2 * i)) in
+      let high : twoBytes (at (5 + 2 * wordCount file + 2 * i)) (at (5 + 2 * wordCount file + 2 * i + 1)) / 256 ≡ at
+      (5 + 2 * wordCount file + 2 * i + 1) = omega (arith, bytes (5 + 2 * wordCount file + 2 * i)) in
       ap₂ (λ a b. a ∷ b ∷ flatMap labelBytes (run (fileWord file) (suc i) c)) low high
-      ∙ ap (λ l. at (5 + 2 * wordCount file + 2 * i) ∷ at (5 + 2 * wordCount file + 2 * i + 1) ∷ l) (labels-are (suc i) c ∙ ap (λ k. run (λ i. byteAt file i) k (2 * c)) e)
+      ∙ ap (λ l. at (5 + 2 * wordCount file + 2 * i) ∷ at (5 + 2 * wordCount file + 2 * i + 1) ∷ l)
+      (labels-are (suc i) c ∙ ap (λ k. run (λ i. byteAt file i) k (2 * c)) e)
       ∙ sym (two-more (λ i. byteAt file i) (5 + 2 * wordCount file + 2 * i) c)
 
   module _ {q n S : ℕ} {words : List Word} (G : GoodFile file q n S words) where
@@ -80,12 +88,14 @@ module _ (file : List ℕ) (bytes : (i : ℕ) → getD file i 0 < 256) where
     unfolding fileWords
     behind =
         let w = G .countIs in
-        let p : flatMap pairBytes words ≡ run (λ i. byteAt file i) 5 (2 * length words) = ap (flatMap pairBytes) (G .wordsAre) ∙ pairs-are 0 (wordCount file) ∙ ap (λ k. run (λ i. byteAt file i) 5 (2 * k)) (sym w) in
+        let p : flatMap pairBytes words ≡ run (λ i. byteAt file i) 5 (2 * length words) = ap (flatMap pairBytes) (G .wordsAre)
+        ∙ pairs-are 0 (wordCount file) ∙ ap (λ k. run (λ i. byteAt file i) 5 (2 * k)) (sym w) in
         let e : 5 + 2 * wordCount file + 2 * 0 ≡ 5 + 2 * length words = omega arith in
         let r : flatMap labelBytes words ≡ run (λ i. byteAt file i) (5 + 2 * length words) (2 * length words) =
         ap (flatMap labelBytes) (G .wordsAre) ∙ labels-are 0 (wordCount file) ∙ ap₂ (λ k m. run (λ i. byteAt file i) k (2 * m)) e (sym w) in
         let d : 2 * length words + 2 * length words ≡ 4 * length words = omega arith in
-        ap₂ (λ x y. x ++ y) p r ∙ run-append (λ i. byteAt file i) 5 (2 * length words) (2 * length words) ∙ ap (run (λ i. byteAt file i) 5) d
+        ap₂ (λ x y. x ++ y) p r ∙ run-append (λ i. byteAt file i) 5 (2 * length words) (2 * length words)
+        ∙ ap (run (λ i. byteAt file i) 5) d
 
     pub bytes-again : tableBytes q n S words ≡ file
     unfolding tableBytes run
@@ -140,7 +150,8 @@ module _ (q n S : ℕ) (words : List Word) (A : Fitting q n S words) where
       rw (e, w, d, x, y, z)
 
 -- of a file that is accepted as a rectangular table
-pub read-back-again : (file : List ℕ) → ((i : ℕ) → getD file i 0 < 256) → {q n S : ℕ} {words : List Word} → tableFile file ≡ accepted q n S words → Rectangular n words → (buffer : List ℕ)
+pub read-back-again : (file : List ℕ) → ((i : ℕ) → getD file i 0 < 256) → {q n S : ℕ} {words : List Word}
+    → tableFile file ≡ accepted q n S words → Rectangular n words → (buffer : List ℕ)
     → readingBack (sectionOf q n S words) buffer
     ≡ cond (ltb (length buffer) (length file)) (left (shortBuffer (length file)) buffer) (left (success (length file)) (over file buffer))
 read-back-again file bytes {q} {n} {S} {words} a R buffer =

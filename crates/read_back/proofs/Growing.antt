@@ -1,6 +1,6 @@
--- One step further, as the code makes it. Edges ascend by the vertex where they start, so those of a vertex stand together: noted downward, the last
--- note of a vertex is where its edges begin, and the first edge of another vertex ends them. What is put into the array is, at every moment, what
--- has been passed of the list that is to be put there.
+-- One step further, as the code makes it. Edges ascend by the vertex where they start, so those of a vertex stand together: noted downward,
+-- the last note of a vertex is where its edges begin, and the first edge of another vertex ends them. What is put into the array is, at
+-- every moment, what has been passed of the list that is to be put there.
 use mathlib.Core.Path.{_≡_, refl, sym, ap, ap₂, subst, _∙_}
 use mathlib.Core.List.{List, [], _∷_, _++_, append-nil, append-assoc, map, flatMap}
 use Prim.Native.Nat.{ℕ, zero, suc, _+_, _-_, _*_, _/_, _≤_, _<_}
@@ -23,7 +23,8 @@ use Rattle.read_back.proofs.Lists.{run-cons, run-none, leaving-yes, lea
 
 -- ---- one beginning further along one edge
 
-pub further-is : (c symbol vertex : ℕ) {w x y z : ℕ} → (w ≡ vertex) × (w < 65536) → x ≡ codeLabel c → y ≡ appended x symbol → (z ≡ y) × (z < 65536)
+pub further-is : (c symbol vertex : ℕ) {w x y z : ℕ} → (w ≡ vertex) × (w < 65536) → x ≡ codeLabel c → y ≡ appended x symbol → (z ≡ y)
+    × (z < 65536)
     → (c / 67108864 * 1024 + w) * 65536 + z ≡ furtherCode c (edge 0 symbol vertex)
 further-is c symbol vertex p q r t = ap₂ (λ v a. (c / 67108864 * 1024 + v) * 65536 + a) (p .0) (t .0 ∙ r ∙ ap (λ a. appended a symbol) q)
 
@@ -54,7 +55,8 @@ noted-start e count {starts} q = record {
     is : (v : ℕ) → v < mostWords → getD starts v 0 ≡ count
     is v h = ap (λ s. getD s v 0) q ∙ getD-replicate {A = ℕ} mostWords v count 0 h
 
-pub noted-next : {e : ℕ → Edge} {count : ℕ} {starts : List ℕ} {k x v : ℕ} → Noted e count starts k → 0 < k → x ≡ e (k - 1) .from → (v ≡ x) × (v < 65536) → e (k - 1) .from < mostWords
+pub noted-next : {e : ℕ → Edge} {count : ℕ} {starts : List ℕ} {k x v : ℕ} → Noted e count starts k → 0 < k → x ≡ e (k - 1) .from → (v ≡ x)
+    × (v < 65536) → e (k - 1) .from < mostWords
     → Noted e count (set starts v (k - 1)) (k - 1)
 noted-next {e} {count} {starts} {k} {x} {v} n pos p g small = record {
   inside = omega (arith, n .inside);
@@ -86,12 +88,15 @@ noted-next {e} {count} {starts} {k} {x} {v} n pos p g small = record {
     go-to u h (no q) = omega (arith, old u q, n .to u h)
 
     go-same : (u : ℕ) → u < mostWords → Dec (u ≡ v)
-        → leaving u (run e (k - 1) (count - (k - 1))) ≡ leaving u (run e (getD (set starts v (k - 1)) u 0) (count - getD (set starts v (k - 1)) u 0))
+        → leaving u (run e (k - 1) (count - (k - 1))) ≡ leaving u
+        (run e (getD (set starts v (k - 1)) u 0) (count - getD (set starts v (k - 1)) u 0))
     go-same u h (yes q) = ap (λ a. leaving u (run e a (count - a))) (sym (put u q))
     go-same u h (no q) =
-        let c : run e (k - 1) (count - (k - 1)) ≡ e (k - 1) ∷ run e (suc (k - 1)) (count - suc (k - 1)) = run-cons e (k - 1) count (omega (arith, n .inside)) in
+        let c : run e (k - 1) (count - (k - 1)) ≡ e (k - 1) ∷ run e (suc (k - 1)) (count - suc (k - 1)) =
+        run-cons e (k - 1) count (omega (arith, n .inside)) in
         let d : suc (k - 1) ≡ k = omega arith in
-        ap (leaving u) c ∙ leaving-no u (e (k - 1)) (run e (suc (k - 1)) (count - suc (k - 1))) (ne-eqb (e (k - 1) .from) u (λ r. q (sym r ∙ sym v-is)))
+        ap (leaving u) c ∙ leaving-no u (e (k - 1)) (run e (suc (k - 1)) (count - suc (k - 1)))
+        (ne-eqb (e (k - 1) .from) u (λ r. q (sym r ∙ sym v-is)))
         ∙ ap (λ a. leaving u (run e a (count - a))) d ∙ n .same u h ∙ ap (λ a. leaving u (run e a (count - a))) (sym (old u q))
 
     go-hit : (u : ℕ) → u < mostWords → Dec (u ≡ v) → getD (set starts v (k - 1)) u 0 < count → e (getD (set starts v (k - 1)) u 0) .from ≡ u
@@ -103,12 +108,14 @@ noted-all {e} {count} {starts} {k} n h = record {
   long = n .long;
   at = λ v b. record {
     inside = n .to v b;
-    same = let q : 0 ≡ k = omega arith in let z : count ≡ count - 0 = omega arith in ap (λ m. leaving v (run e 0 m)) z ∙ ap (λ a. leaving v (run e a (count - a))) q ∙ n .same v b;
+    same = let q : 0 ≡ k = omega arith in let z : count ≡ count - 0 = omega arith in ap (λ m. leaving v (run e 0 m)) z
+        ∙ ap (λ a. leaving v (run e a (count - a))) q ∙ n .same v b;
     hit = n .hit v b;
   };
 }
 
-pub begins-of : {e : ℕ → Edge} {count : ℕ} {starts : List ℕ} (c : ℕ) {v r : ℕ} → Starts e count starts → v ≡ codeVertex c → (r ≡ getD starts v 0) × (r < 65536) → BeginsAt e count (codeVertex c) r
+pub begins-of : {e : ℕ → Edge} {count : ℕ} {starts : List ℕ} (c : ℕ) {v r : ℕ} → Starts e count starts → v ≡ codeVertex c
+    → (r ≡ getD starts v 0) × (r < 65536) → BeginsAt e count (codeVertex c) r
 begins-of {e} {count} {starts} c {v} {r} s q w =
     subst (BeginsAt e count (codeVertex c)) (sym (w .0 ∙ ap (λ u. getD starts u 0) q)) (s .at (codeVertex c) (omega arith))
 
@@ -127,10 +134,12 @@ module _ (e : ℕ → Edge) (v : ℕ) where
   none-later : (k m : ℕ) → ((j : ℕ) → k ≤ j → j < k + m → e j .from ≡ v → ⊥) → leaving v (run e k m) ≡ []
   unfolding run
   none-later k zero g = leaving-none v
-  none-later k (suc m) g = leaving-no v (e k) (run e (suc k) m) (ne-eqb (e k .from) v (g k (omega arith) (omega arith))) ∙ none-later (suc k) m (λ j a b. g j (omega arith) (omega arith))
+  none-later k (suc m) g = leaving-no v (e k) (run e (suc k) m) (ne-eqb (e k .from) v (g k (omega arith) (omega arith)))
+      ∙ none-later (suc k) m (λ j a b. g j (omega arith) (omega arith))
 
 module _ {f : Edge → ℕ} {e : ℕ → Edge} {count v : ℕ} {old : List ℕ} {made : ℕ} where
-  pub putting-start : {start : ℕ} → BeginsAt e count v start → made ≤ mostWords → length old ≡ mostWords → Putting f e count v old made old made start
+  pub putting-start : {start : ℕ} → BeginsAt e count v start → made ≤ mostWords → length old ≡ mostWords
+      → Putting f e count v old made old made start
   putting-start {start} b h l = record {
     inside = b .inside;
     room = h;
@@ -144,18 +153,21 @@ module _ {f : Edge → ℕ} {e : ℕ → Edge} {count v : ℕ} {old : List ℕ} 
     leaving-here : e k .from ≡ v → leaving v (run e k (count - k)) ≡ e k ∷ leaving v (run e (suc k) (count - suc k))
     leaving-here q = ap (leaving v) (run-cons e k count h) ∙ leaving-yes v (e k) (run e (suc k) (count - suc k)) (eq-eqb (e k .from) v q)
 
-    pub putting-next : {r : ℕ} → e k .from ≡ v → filled < mostWords → r ≡ f (e k) → ((j k : ℕ) → j ≤ k → k < count → e j .from ≤ e k .from) → Putting f e count v old made (set new filled r) (filled + 1) (k + 1)
+    pub putting-next : {r : ℕ} → e k .from ≡ v → filled < mostWords → r ≡ f (e k) → ((j k : ℕ) → j ≤ k → k < count → e j .from ≤ e k .from)
+        → Putting f e count v old made (set new filled r) (filled + 1) (k + 1)
     putting-next {r} q low is rise = subst (λ x. Putting f e count v old made (set new filled x) (filled + 1) (k + 1)) (sym is) (record {
       inside = omega arith;
       room = omega arith;
       long = length-set new filled (f (e k)) ∙ p .long;
       left =
-          let t : take (filled + 1) (set new filled (f (e k))) ≡ take filled new ++ (f (e k) ∷ []) = rw (add-one filled) (take-suc-set new filled (f (e k)) (omega (arith, p .long))) in
+          let t : take (filled + 1) (set new filled (f (e k))) ≡ take filled new ++ (f (e k) ∷ []) =
+          rw (add-one filled) (take-suc-set new filled (f (e k)) (omega (arith, p .long))) in
           let u : leaving v (run e k (count - k)) ≡ e k ∷ leaving v (run e (k + 1) (count - (k + 1))) = rw (add-one k) (leaving-here q) in
           ap (λ a. a ++ map f (leaving v (run e (k + 1) (count - (k + 1))))) t
           ∙ append-assoc (take filled new) (f (e k) ∷ []) (map f (leaving v (run e (k + 1) (count - (k + 1)))))
           ∙ ap (λ es. take filled new ++ map f es) (sym u) ∙ p .left;
-      size = let u : leaving v (run e k (count - k)) ≡ e k ∷ leaving v (run e (k + 1) (count - (k + 1))) = rw (add-one k) (leaving-here q) in omega (arith, p .size, ap length u);
+      size = let u : leaving v (run e k (count - k)) ≡ e k ∷ leaving v (run e (k + 1) (count - (k + 1))) =
+          rw (add-one k) (leaving-here q) in omega (arith, p .size, ap length u);
       above = λ g. omega (arith, rise k (k + 1) (omega arith) g);
     })
 
@@ -179,7 +191,8 @@ module _ {f : Edge → ℕ} {e : ℕ → Edge} {count v : ℕ} {old : List ℕ} 
     pub putting-done : count ≤ k → PutBehind (map f (leaving v (run e 0 count))) old made new filled
     putting-done h = done-by (ap (leaving v) (run-none e k count h) ∙ leaving-none v)
 
-    pub putting-stops : k < count → (e k .from ≡ v → ⊥) → ((j k : ℕ) → j ≤ k → k < count → e j .from ≤ e k .from) → PutBehind (map f (leaving v (run e 0 count))) old made new filled
+    pub putting-stops : k < count → (e k .from ≡ v → ⊥) → ((j k : ℕ) → j ≤ k → k < count → e j .from ≤ e k .from)
+        → PutBehind (map f (leaving v (run e 0 count))) old made new filled
     putting-stops h q rise = done-by (none-later e v k (count - k) (λ j a b r. later j a (omega arith) r))
       where
         later : (j : ℕ) → k ≤ j → j < count → e j .from ≡ v → ⊥
@@ -200,12 +213,14 @@ module _ {f : ℕ → List ℕ} {old : List ℕ} {have : ℕ} where
   unfolding flatMap
   growing-start l = record { inside = omega arith; room = omega arith; long = l; filled = refl; count = refl }
 
-  module _ {new newer : List ℕ} {made i r : ℕ} (g : Growing f old have new made i) (h : i < have) (l : have ≤ length old) (m : PutBehind (f (getD old i 0)) new made newer r) where
+  module _ {new newer : List ℕ} {made i r : ℕ} (g : Growing f old have new made i) (h : i < have) (l : have ≤ length old)
+      (m : PutBehind (f (getD old i 0)) new made newer r) where
     one-more : flatMap f (take (i + 1) old) ≡ flatMap f (take i old) ++ f (getD old i 0)
     unfolding flatMap
     one-more =
         let t : take (i + 1) old ≡ take i old ++ (getD old i 0 ∷ []) = rw (add-one i) (take-suc old i 0 (omega arith)) in
-        ap (flatMap f) t ∙ flatMap-append f (take i old) (getD old i 0 ∷ []) ∙ ap (λ ys. flatMap f (take i old) ++ ys) (append-nil (f (getD old i 0)))
+        ap (flatMap f) t ∙ flatMap-append f (take i old) (getD old i 0 ∷ [])
+        ∙ ap (λ ys. flatMap f (take i old) ++ ys) (append-nil (f (getD old i 0)))
 
     more-count : length (flatMap f (take (i + 1) old)) ≡ length (flatMap f (take i old)) + length (f (getD old i 0))
     more-count = ap length one-more ∙ length-append (flatMap f (take i old)) (f (getD old i 0))
@@ -231,10 +246,12 @@ module _ {f : ℕ → List ℕ} {old : List ℕ} {have : ℕ} where
         part zero j q = let e : j ≡ have = omega arith in rw e (omega arith)
         part (suc k) j q =
             let t : take (suc j) old ≡ take j old ++ (getD old j 0 ∷ []) = take-suc old j 0 (omega arith) in
-            let u = ap length (ap (flatMap f) t ∙ flatMap-append f (take j old) (getD old j 0 ∷ [])) ∙ length-append (flatMap f (take j old)) (flatMap f (getD old j 0 ∷ [])) in
+            let u = ap length (ap (flatMap f) t ∙ flatMap-append f (take j old) (getD old j 0 ∷ []))
+            ∙ length-append (flatMap f (take j old)) (flatMap f (getD old j 0 ∷ [])) in
             omega (arith, part k (suc j) (omega arith))
 
-  pub growing-all : {start new : List ℕ} {made i : ℕ} → Growing f old have new made i → have ≤ i → PutBehind (flatMap f (take have old)) start 0 new made
+  pub growing-all : {start new : List ℕ} {made i : ℕ} → Growing f old have new made i → have ≤ i
+      → PutBehind (flatMap f (take have old)) start 0 new made
   growing-all {start} {new} {made} {i} g h =
       let e : i ≡ have = omega (arith, g .inside) in
       record {
@@ -255,19 +272,24 @@ pub rooted-start : (s : List ℕ) (roots count : ℕ) {codes : List ℕ} → len
 unfolding run
 rooted-start s roots count l = record { inside = omega arith; long = l; filled = refl }
 
-pub rooted-next : {s : List ℕ} {roots count : ℕ} {codes : List ℕ} {v x r : ℕ} → Rooted s roots count codes v → FirstLevel s roots count → v < count → x ≡ getD s (roots + v) 0 → (r ≡ x) × (r < 65536)
+pub rooted-next : {s : List ℕ} {roots count : ℕ} {codes : List ℕ} {v x r : ℕ} → Rooted s roots count codes v → FirstLevel s roots count
+    → v < count → x ≡ getD s (roots + v) 0 → (r ≡ x) × (r < 65536)
     → Rooted s roots count (set codes v ((r * 1024 + v) * 65536)) (v + 1)
 rooted-next {s} {roots} {count} {codes} {v} {x} {r} g F h e w = record {
   inside = omega arith;
   long = length-set codes v ((r * 1024 + v) * 65536) ∙ g .long;
   filled =
       let q : (r * 1024 + v) * 65536 ≡ code (getD s (roots + v) 0) v 0 = omega (arith, w .0) in
-      let t : take (v + 1) (set codes v ((r * 1024 + v) * 65536)) ≡ take v codes ++ ((r * 1024 + v) * 65536 ∷ []) = rw (add-one v) (take-suc-set codes v _ (omega (arith, F .few, g .long))) in
-      let u : each (λ u. code (getD s (roots + u) 0) u 0) (v + 1) ≡ each (λ u. code (getD s (roots + u) 0) u 0) v ++ (code (getD s (roots + v) 0) v 0 ∷ []) = rw (add-one v) (run-snoc (λ u. code (getD s (roots + u) 0) u 0) 0 v ∙ rw (zero-add v)) in
+      let t : take (v + 1) (set codes v ((r * 1024 + v) * 65536)) ≡ take v codes ++ ((r * 1024 + v) * 65536 ∷ []) =
+      rw (add-one v) (take-suc-set codes v _ (omega (arith, F .few, g .long))) in
+      let u : each (λ u. code (getD s (roots + u) 0) u 0) (v + 1) ≡ each (λ u. code (getD s (roots + u) 0) u 0) v
+      ++ (code (getD s (roots + v) 0) v 0 ∷ []) =
+      rw (add-one v) (run-snoc (λ u. code (getD s (roots + u) 0) u 0) 0 v ∙ rw (zero-add v)) in
       t ∙ ap₂ (λ xs y. xs ++ (y ∷ [])) (g .filled) q ∙ sym u;
 }
 
-pub rooted-all : {s : List ℕ} {roots count : ℕ} {codes : List ℕ} {v : ℕ} → Rooted s roots count codes v → count ≤ v → RootCodes s roots count codes
+pub rooted-all : {s : List ℕ} {roots count : ℕ} {codes : List ℕ} {v : ℕ} → Rooted s roots count codes v → count ≤ v
+    → RootCodes s roots count codes
 rooted-all {s} {roots} {count} {codes} {v} g h =
     let e : v ≡ count = omega (arith, g .inside) in
     record { long = g .long; filled = subst (λ k. take k codes ≡ each (λ u. code (getD s (roots + u) 0) u 0) k) e (g .filled) }

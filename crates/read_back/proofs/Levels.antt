@@ -1,6 +1,6 @@
--- The words of a section are its beginnings up to depth n, and beginnings as numbers can be read again. From depth t on a beginning stands for all
--- words that go on from it, in their order; going one step further only splits them up by their next edge, so the list of words stays the same.
--- In a usable section every vertex has an edge onward, so there are no fewer beginnings at a later depth.
+-- The words of a section are its beginnings up to depth n, and beginnings as numbers can be read again. From depth t on a beginning stands
+-- for all words that go on from it, in their order; going one step further only splits them up by their next edge, so the list of words
+-- stays the same. In a usable section every vertex has an edge onward, so there are no fewer beginnings at a later depth.
 use mathlib.Core.Path.{_≡_, refl, sym, ap, ap₂, subst, _∙_}
 use mathlib.Core.List.{List, [], _∷_, map, map-map, flatMap, List·Memᴰ·not-nil, Memᴰ·of-map}
 use Prim.Native.Nat.{ℕ, zero, suc, _+_, _*_, _^_, _≤_, _<_}
@@ -23,7 +23,8 @@ use Rattle.paths.proofs.Sections.{listed-of}
 use Rattle.section_file.specs.Usable.{stepEdge}
 use Rattle.section_file.specs.inner.Sound.{Sound}
 use Rattle.section_file.proofs.Words.{edge-from}
-use Rattle.read_back.specs.inner.Levels.{Begun, begun, further, grown, finished, level, code, coded, codeRoot, codeVertex, codeLabel, furtherCode, grownCodes}
+use Rattle.read_back.specs.inner.Levels.{Begun, begun, further, grown, finished, level, code, coded, codeRoot, codeVertex, codeLabel}
+use Rattle.read_back.specs.inner.Levels.{furtherCode, grownCodes}
 use Rattle.read_back.proofs.Lists.{map-same, flatMap-same, flatMap-one, flatMap-more, map-flatMap, flatMap-flatMap}
 
 -- ---- words
@@ -32,7 +33,8 @@ use Rattle.read_back.proofs.Lists.{map-same, flatMap-same, flatMap-one,
 abbrev goesOn : (ℕ → List Edge) → (ℕ → ℕ) → ℕ → ℕ → Begun → List Word
 goesOn edges goalOf k t b = map (λ p. word (b .root) (packOnto (b .label) (p .symbols)) (goalOf (p .end))) (pathsFrom edges k t (b .vertex))
 
-step-on : (edges : ℕ → List Edge) (goalOf : ℕ → ℕ) (k t : ℕ) (b : Begun) → goesOn edges goalOf (suc k) t b ≡ flatMap (goesOn edges goalOf k (suc t)) (grown (edges t) b)
+step-on : (edges : ℕ → List Edge) (goalOf : ℕ → ℕ) (k t : ℕ) (b : Begun)
+    → goesOn edges goalOf (suc k) t b ≡ flatMap (goesOn edges goalOf k (suc t)) (grown (edges t) b)
 unfolding pathsFrom packOnto
 step-on edges goalOf k t b =
     map-flatMap _ (λ e. map (along e) (pathsFrom edges k (suc t) (e .to))) (leaving (b .vertex) (edges t))
@@ -45,7 +47,8 @@ module _ (l : List ℕ) where
   words-from zero k h =
       let e : nOf l ≡ k = omega arith in
       sym (flatMap-map (goesOn (stepEdges l) (goalState l) k 0) (λ v. begun (rootState l v) 0 v) (each (λ v. v) (vertexCountOf l 0))
-      ∙ ap (λ n. flatMap (λ v. map (λ p. word (rootState l v) (packOnto 0 (p .symbols)) (goalState l (p .end))) (pathsFrom (stepEdges l) n 0 v)) (each (λ v. v) (vertexCountOf l 0))) (sym e))
+      ∙ ap (λ n. flatMap (λ v. map (λ p. word (rootState l v) (packOnto 0 (p .symbols)) (goalState l (p .end)))
+      (pathsFrom (stepEdges l) n 0 v)) (each (λ v. v) (vertexCountOf l 0))) (sym e))
   words-from (suc t) k h =
       words-from t (suc k) (omega arith)
       ∙ flatMap-same _ _ (level l t) (λ b m. step-on (stepEdges l) (goalState l) k t b)
@@ -72,7 +75,8 @@ module _ {l : List ℕ} (s : Sound l) where
       let x = Memᴰ·of-map (λ v. begun (rootState l v) 0 v) (each (λ v. v) (vertexCountOf l 0)) m in
       let F = of-each (λ v. v) (vertexCountOf l 0) (x .0) (x .1) in
       let below : x .0 < vertexCountOf l 0 = omega (arith, F .is, F .below) in
-      subst (Fit l 0) (x .2) (record { rootSmall = omega (arith, s .rootsBelow (x .0) below, s .statesTo); labelShort = lit< tt; vertexBelow = below })
+      subst (Fit l 0) (x .2)
+      (record { rootSmall = omega (arith, s .rootsBelow (x .0) below, s .statesTo); labelShort = lit< tt; vertexBelow = below })
   level-fits (suc t) h b m =
       let z = of-flatMap (grown (stepEdges l t)) (level l t) b m in
       let p = z .source in
@@ -81,8 +85,10 @@ module _ {l : List ℕ} (s : Sound l) where
       let e = x .0 in
       let E = edge-from s t e (listed-of (p .vertex) (stepEdges l t) e (x .1)) in
       let a : e .symbol < 4 = omega (arith, s .symbolBelow t (E .at) h (E .below), s .qTo, ap (λ (g : Edge). g .symbol) (E .is)) in
-      let v : e .to < vertexCountOf l (suc t) = subst (λ (g : Edge). g .to < vertexCountOf l (suc t)) (sym (E .is)) (s .toBelow t (E .at) h (E .below)) in
-      subst (Fit l (suc t)) (x .2) (record { rootSmall = F .rootSmall; labelShort = longer (p .label) (e .symbol) (F .labelShort) a; vertexBelow = v })
+      let v : e .to < vertexCountOf l (suc t) =
+      subst (λ (g : Edge). g .to < vertexCountOf l (suc t)) (sym (E .is)) (s .toBelow t (E .at) h (E .below)) in
+      subst (Fit l (suc t)) (x .2)
+      (record { rootSmall = F .rootSmall; labelShort = longer (p .label) (e .symbol) (F .labelShort) a; vertexBelow = v })
     where
       longer : (x a : ℕ) → x < 4 ^ t → a < 4 → x * 4 + a < 4 ^ suc t
       longer x a h k = rw pow-suc (omega arith)
@@ -93,7 +99,8 @@ module _ {l : List ℕ} (s : Sound l) where
   edge-on t v h b =
       let w = s .onward t v h b in
       let m : stepEdge l t (w .at) ∈ stepEdges l t = in-run (edgeNumber l) (edgesBefore l t) (edgeCountOf l t) (w .at) _ (w .below) refl in
-      some (leaving v (stepEdges l t)) (in-keep (λ e. eqb (e .from) v) (stepEdges l t) (stepEdge l t (w .at)) m (eq-eqb (stepEdge l t (w .at) .from) v (w .is)))
+      some (leaving v (stepEdges l t))
+      (in-keep (λ e. eqb (e .from) v) (stepEdges l t) (stepEdge l t (w .at)) m (eq-eqb (stepEdge l t (w .at) .from) v (w .is)))
     where
       some : {e : Edge} (es : List Edge) → e ∈ es → 1 ≤ length es
       some [] m = absurd (List·Memᴰ·not-nil m)
@@ -102,7 +109,8 @@ module _ {l : List ℕ} (s : Sound l) where
   level-more : (t : ℕ) → t < nOf l → length (level l t) ≤ length (level l (suc t))
   unfolding level
   level-more t h = flatMap-more (grown (stepEdges l t)) (level l t)
-      (λ b m. rw (length-map (leaving (b .vertex) (stepEdges l t)) (further b)) (edge-on t (b .vertex) h (level-fits t (omega arith) b m .vertexBelow)))
+      (λ b m. rw (length-map (leaving (b .vertex) (stepEdges l t)) (further b))
+      (edge-on t (b .vertex) h (level-fits t (omega arith) b m .vertexBelow)))
 
   pub levels-rise : (k t : ℕ) → t + k ≡ nOf l → length (level l t) ≤ length (level l (nOf l))
   levels-rise zero t h = let e : t ≡ nOf l = omega arith in rw e (omega arith)
@@ -140,8 +148,10 @@ module _ {l : List ℕ} (s : Sound l) (t : ℕ) where
 
     grown-coded : (b : Begun) → Fit l t b → grownCodes (stepEdges l t) (coded b) ≡ map coded (grown (stepEdges l t) b)
     grown-coded b F =
-        ap (λ v. map (furtherCode (coded b)) (leaving v (stepEdges l t))) (vertex-coded b (fit-vertex (omega arith) F) (fit-label (omega arith) F))
-        ∙ map-same (furtherCode (coded b)) (λ e. coded (further b e)) (leaving (b .vertex) (stepEdges l t)) (λ e m. further-coded b e F (small e m))
+        ap (λ v. map (furtherCode (coded b)) (leaving v (stepEdges l t)))
+        (vertex-coded b (fit-vertex (omega arith) F) (fit-label (omega arith) F))
+        ∙ map-same (furtherCode (coded b)) (λ e. coded (further b e)) (leaving (b .vertex) (stepEdges l t))
+        (λ e m. further-coded b e F (small e m))
         ∙ sym (map-map coded (further b) (leaving (b .vertex) (stepEdges l t)))
       where
         small : (e : Edge) → e ∈ leaving (b .vertex) (stepEdges l t) → e .symbol < 4

@@ -1,5 +1,5 @@
--- The ways that reading back ends, each from the tests that lead there: what the code leaves is what the definition says. The words found are the
--- section's words, and of words whose numbers fit, the bytes put into the buffer are those of the table file.
+-- The ways that reading back ends, each from the tests that lead there: what the code leaves is what the definition says. The words found
+-- are the section's words, and of words whose numbers fit, the bytes put into the buffer are those of the table file.
 use mathlib.Core.Path.{_≡_, sym, ap, ap₂, _∙_}
 use mathlib.Core.Bool.{Bool, true, false, not}
 use mathlib.Core.List.{List, [], _∷_, _++_, map, flatMap}
@@ -21,7 +21,8 @@ use Rattle.read_back.specs.inner.Growing.{FilledPlaces, Gathered, byteOf
 use Rattle.read_back.proofs.Lists.{flatMap-same}
 use Rattle.trellis.proofs.Lists.{flatMap-map}
 use Rattle.read_back.proofs.Writing.{table-length}
-use Rattle.read_back.proofs.Levels.{words-are, words-count, Fit, level-fits, fit-vertex, fit-label, root-coded, vertex-coded, label-coded}
+use Rattle.read_back.proofs.Levels.{words-are, words-count, Fit, level-fits, fit-vertex, fit-label, root-coded, vertex-coded}
+use Rattle.read_back.proofs.Levels.{label-coded}
 use Rattle.read_back.proofs.Sections.{section-sound}
 
 -- ---- the bytes of words that fit
@@ -30,7 +31,8 @@ module _ {s : List ℕ} (g : Sound s) where
   fits : (b : Begun) → b ∈ level s (nOf s) → Fit s (nOf s) b
   fits b m = level-fits g (nOf s) (omega arith) b m
 
-  pair-of : (goals : ℕ) → goals ≡ goalsPlace s → (b : Begun) → b ∈ level s (nOf s) → pairOfCode s goals (coded b) ≡ pairBytes (finished (goalState s) b)
+  pair-of : (goals : ℕ) → goals ≡ goalsPlace s → (b : Begun) → b ∈ level s (nOf s)
+      → pairOfCode s goals (coded b) ≡ pairBytes (finished (goalState s) b)
   unfolding goalState
   pair-of goals e b m =
       let F = fits b m in
@@ -54,7 +56,8 @@ module _ {s : List ℕ} (g : Sound s) where
       let full : take count codes ≡ map coded (level s (nOf s)) = G .filled h ∙ ap (λ k. map coded (level s k)) n-is in
       let size : count ≡ length (sectionWords s) = G .count-is h ∙ ap (λ k. length (level s k)) n-is ∙ sym (words-count s) in
       let pairs : flatMap (pairOfCode s goals) (take count codes) ≡ flatMap pairBytes (sectionWords s) =
-      ap (flatMap (pairOfCode s goals)) full ∙ flatMap-map (pairOfCode s goals) coded (level s (nOf s)) ∙ flatMap-same _ _ (level s (nOf s)) (pair-of goals e)
+      ap (flatMap (pairOfCode s goals)) full ∙ flatMap-map (pairOfCode s goals) coded (level s (nOf s))
+      ∙ flatMap-same _ _ (level s (nOf s)) (pair-of goals e)
       ∙ sym (flatMap-map pairBytes (finished (goalState s)) (level s (nOf s))) ∙ sym (ap (flatMap pairBytes) (words-are s)) in
       let labels : flatMap labelOfCode (take count codes) ≡ flatMap labelBytes (sectionWords s) =
       ap (flatMap labelOfCode) full ∙ flatMap-map labelOfCode coded (level s (nOf s)) ∙ flatMap-same _ _ (level s (nOf s)) label-of
@@ -108,6 +111,8 @@ module _ (s f : List ℕ) {b : Bool} (b-is : b ≡ isSection s) where
           let d = le-ltb mostWords (length (sectionWords s)) (omega (arith, count-words)) in
           let m = le-ltb (length f) (5 + 4 * length (sectionWords s)) (omega (arith, count-words)) in
           let z = file-is sound (p .goalsIs) n-is G h in
-          let o : over (tableBytes (qOf s) (nOf s) (statesOf s) (sectionWords s)) f ≡ tableBytes (qOf s) (nOf s) (statesOf s) (sectionWords s) ++ drop (5 + 4 * length (sectionWords s)) f
-          = ap (λ k. tableBytes (qOf s) (nOf s) (statesOf s) (sectionWords s) ++ drop k f) (table-length (qOf s) (nOf s) (statesOf s) (sectionWords s)) in
+          let o : over (tableBytes (qOf s) (nOf s) (statesOf s) (sectionWords s)) f ≡ tableBytes (qOf s) (nOf s) (statesOf s)
+          (sectionWords s) ++ drop (5 + 4 * length (sectionWords s)) f
+          = ap (λ k. tableBytes (qOf s) (nOf s) (statesOf s) (sectionWords s) ++ drop k f)
+          (table-length (qOf s) (nOf s) (statesOf s) (sectionWords s)) in
           rw (e, d, m, o, q, z, count-words)

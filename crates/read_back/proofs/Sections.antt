@@ -1,5 +1,5 @@
--- A section that fills its list: where its parts stand, and what the code's arithmetic finds of its steps. Behind the place of the pairs stand three
--- numbers an edge, so a third of what is left counts the edges.
+-- A section that fills its list: where its parts stand, and what the code's arithmetic finds of its steps. Behind the place of the pairs
+-- stand three numbers an edge, so a third of what is left counts the edges.
 use mathlib.Core.Path.{_≡_, refl, sym, ap, _∙_}
 use mathlib.Core.Bool.{Bool, true, false, not, cond, _&&_}
 use mathlib.Core.List.{List}
@@ -12,7 +12,8 @@ use lib.Dec.{eqb}
 use borrow.Author.Tests.{eqb-true, not-false}
 use Rattle.trellis.specs.Lists.{run, byFirst, bySecond, byThird}
 use Rattle.trellis.specs.Own as own
-use Rattle.trellis.specs.Layout.{nOf, vertexCountOf, edgeCountOf, edgesBefore, rootsPlace, goalsPlace, pairsPlace, symbolsPlace, sectionLength, edgeNumber, stepEdges}
+use Rattle.trellis.specs.Layout.{nOf, vertexCountOf, edgeCountOf, edgesBefore, rootsPlace, goalsPlace, pairsPlace, symbolsPlace}
+use Rattle.trellis.specs.Layout.{sectionLength, edgeNumber, stepEdges}
 use Rattle.section_file.specs.Usable.{stepEdge, usable}
 use Rattle.section_file.specs.inner.Sound.{EdgeBefore, Sound}
 use Rattle.section_file.specs.inner.Answer.{edgeAt, partOf}
@@ -27,7 +28,8 @@ use Rattle.read_back.proofs.Lists.{run-shift}
 -- ---- places
 
 module _ {s : List ℕ} (g : Sound s) where
-  module _ (whole : sectionLength s ≡ length s) {n x v y w : ℕ} (n-is : n ≡ nOf s) (x-is : x ≡ getD s 3 0) (v-is : (v ≡ x) × (v < 65536)) (y-is : y ≡ getD s (3 + n) 0) (w-is : (w ≡ y) × (w < 65536)) where
+  module _ (whole : sectionLength s ≡ length s) {n x v y w : ℕ} (n-is : n ≡ nOf s) (x-is : x ≡ getD s 3 0) (v-is : (v ≡ x) × (v < 65536))
+      (y-is : y ≡ getD s (3 + n) 0) (w-is : (w ≡ y) × (w < 65536)) where
     goals-are : 4 + 2 * n + v ≡ goalsPlace s
     unfolding goalsPlace rootsPlace vertexCountOf
     goals-are = rw (← n-is, v-is .0, x-is)
@@ -58,7 +60,8 @@ module _ {s : List ℕ} (g : Sound s) where
 
 -- ---- one step
 
-module _ (s : List ℕ) (t : ℕ) {pairs symbols count : ℕ} (p : pairs ≡ pairsPlace s + 2 * edgesBefore s t) (q : symbols ≡ symbolsPlace s + edgesBefore s t) (c : count ≡ edgeCountOf s t) where
+module _ (s : List ℕ) (t : ℕ) {pairs symbols count : ℕ} (p : pairs ≡ pairsPlace s + 2 * edgesBefore s t)
+    (q : symbols ≡ symbolsPlace s + edgesBefore s t) (c : count ≡ edgeCountOf s t) where
   pub step-edges : run (edgeAt s pairs symbols) 0 count ≡ stepEdges s t
   unfolding stepEdges stepEdge
   step-edges =

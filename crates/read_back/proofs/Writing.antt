@@ -1,5 +1,5 @@
--- The table file put into the buffer piece by piece: two bytes for each number of an array, one behind another, are the bytes of the whole list; and
--- the pieces of a file, one behind another, are the file. Of words that fit, the bytes are those that document 01 asks for.
+-- The table file put into the buffer piece by piece: two bytes for each number of an array, one behind another, are the bytes of the whole
+-- list; and the pieces of a file, one behind another, are the file. Of words that fit, the bytes are those that document 01 asks for.
 use mathlib.Core.Path.{_≡_, refl, sym, ap, ap₂, subst, _∙_}
 use mathlib.Core.List.{List, [], _∷_, _++_, append-nil, flatMap}
 use Prim.Native.Nat.{ℕ, _+_, _*_, _/_, _≤_, _<_}
@@ -30,7 +30,8 @@ module _ {f : ℕ → List ℕ} {old : List ℕ} {start : ℕ} {codes : List ℕ
   unfolding flatMap
   pieces-start = record { inside = omega arith; so-far = wrote-none; len = refl; at-is = omega arith }
 
-  pub pieces-next : {new : List ℕ} {at i a b : ℕ} → Pieces f old start codes count new at i → i < count → count ≤ length codes → f (getD codes i 0) ≡ a ∷ b ∷ []
+  pub pieces-next : {new : List ℕ} {at i a b : ℕ} → Pieces f old start codes count new at i → i < count → count ≤ length codes
+      → f (getD codes i 0) ≡ a ∷ b ∷ []
       → Pieces f old start codes count (set (set new at a) (at + 1) b) (at + 2) (i + 1)
   unfolding flatMap
   pieces-next {new} {at} {i} {a} {b} p h l e = record {
@@ -38,29 +39,37 @@ module _ {f : ℕ → List ℕ} {old : List ℕ} {start : ℕ} {codes : List ℕ
     so-far =
         let t : take (i + 1) codes ≡ take i codes ++ (getD codes i 0 ∷ []) = rw (add-one i) (take-suc codes i 0 (omega arith)) in
         let q : flatMap f (take (i + 1) codes) ≡ flatMap f (take i codes) ++ (a ∷ b ∷ []) =
-        ap (flatMap f) t ∙ flatMap-append f (take i codes) (getD codes i 0 ∷ []) ∙ ap (λ ys. flatMap f (take i codes) ++ ys) (append-nil (f (getD codes i 0)) ∙ e) in
+        ap (flatMap f) t ∙ flatMap-append f (take i codes) (getD codes i 0 ∷ [])
+        ∙ ap (λ ys. flatMap f (take i codes) ++ ys) (append-nil (f (getD codes i 0)) ∙ e) in
         let w : Wrote new at (a ∷ b ∷ []) (set (set new at a) (at + 1) b) (at + 2) = record { new-is = rw (add-one at); end-is = refl } in
         rw q (wrote-then (p .so-far) w);
     len = length-set (set new at a) (at + 1) b ∙ length-set new at a ∙ p .len;
     at-is = omega (arith, p .at-is);
   }
 
-  pub pieces-all : {new : List ℕ} {at i : ℕ} → Pieces f old start codes count new at i → count ≤ i → Wrote old start (flatMap f (take count codes)) new at
-  pieces-all {new} {at} {i} p h = let e : i ≡ count = omega (arith, p .inside) in subst (λ k. Wrote old start (flatMap f (take k codes)) new at) e (p .so-far)
+  pub pieces-all : {new : List ℕ} {at i : ℕ} → Pieces f old start codes count new at i → count ≤ i
+      → Wrote old start (flatMap f (take count codes)) new at
+  pieces-all {new} {at} {i} p h = let e : i ≡ count = omega (arith, p .inside) in
+      subst (λ k. Wrote old start (flatMap f (take k codes)) new at) e (p .so-far)
 
-pub pair-is : (s : List ℕ) (goals c : ℕ) {r a v x w b : ℕ} → r ≡ codeRoot c → a ≡ byteOf r → v ≡ codeVertex c → x ≡ getD s (goals + v) 0 → (w ≡ x) × (w < 65536) → b ≡ byteOf w
+pub pair-is : (s : List ℕ) (goals c : ℕ) {r a v x w b : ℕ} → r ≡ codeRoot c → a ≡ byteOf r → v ≡ codeVertex c → x ≡ getD s (goals + v) 0
+    → (w ≡ x) × (w < 65536) → b ≡ byteOf w
     → pairOfCode s goals c ≡ a ∷ b ∷ []
-pair-is s goals c p q r t u d = sym (ap₂ (λ a b. a ∷ b ∷ []) (q ∙ ap byteOf p) (d ∙ ap byteOf (u .0 ∙ t ∙ ap (λ v. getD s (goals + v) 0) r)))
+pair-is s goals c p q r t u d =
+    sym (ap₂ (λ a b. a ∷ b ∷ []) (q ∙ ap byteOf p) (d ∙ ap byteOf (u .0 ∙ t ∙ ap (λ v. getD s (goals + v) 0) r)))
 
-pub label-is : (c : ℕ) {x w a b : ℕ} → x ≡ codeLabel c → (w ≡ x) × (w < 65536) → a ≡ byteOf w → b ≡ byteOf (w / 256) → labelOfCode c ≡ a ∷ b ∷ []
+pub label-is : (c : ℕ) {x w a b : ℕ} → x ≡ codeLabel c → (w ≡ x) × (w < 65536) → a ≡ byteOf w → b ≡ byteOf (w / 256)
+    → labelOfCode c ≡ a ∷ b ∷ []
 label-is c {x} {w} p u q d =
     let e : w ≡ codeLabel c = u .0 ∙ p in
     let small : byteOf (w / 256) ≡ w / 256 = mod-eq-of-lt (omega (arith, u .1)) in
     sym (ap₂ (λ a b. a ∷ b ∷ []) (q ∙ ap byteOf e) (d ∙ small ∙ ap (λ y. y / 256) e))
 
-pub sizes-put : (l : List ℕ) (s : List ℕ) (count : ℕ) {x y z u v w a b d e f : ℕ} → x ≡ getD s 0 0 → (u ≡ x) × (u < 65536) → a ≡ byteOf u → y ≡ getD s 1 0 → (v ≡ y) × (v < 65536) → b ≡ byteOf v
+pub sizes-put : (l : List ℕ) (s : List ℕ) (count : ℕ) {x y z u v w a b d e f : ℕ} → x ≡ getD s 0 0 → (u ≡ x) × (u < 65536) → a ≡ byteOf u
+    → y ≡ getD s 1 0 → (v ≡ y) × (v < 65536) → b ≡ byteOf v
     → z ≡ getD s 2 0 → (w ≡ z) × (w < 65536) → d ≡ byteOf w → e ≡ byteOf count → f ≡ byteOf (count / 256)
-    → Wrote l 0 (byteOf (getD s 0 0) ∷ byteOf (getD s 1 0) ∷ byteOf (getD s 2 0) ∷ byteOf count ∷ byteOf (count / 256) ∷ []) (set (set (set (set (set l 0 a) 1 b) 2 d) 3 e) 4 f) 5
+    → Wrote l 0 (byteOf (getD s 0 0) ∷ byteOf (getD s 1 0) ∷ byteOf (getD s 2 0) ∷ byteOf count ∷ byteOf (count / 256) ∷ [])
+    (set (set (set (set (set l 0 a) 1 b) 2 d) 3 e) 4 f) 5
 sizes-put l s count p1 p2 p3 q1 q2 q3 r1 r2 r3 t1 t2 = record {
   new-is = rw (p3 ∙ ap byteOf (p2 .0 ∙ p1), q3 ∙ ap byteOf (q2 .0 ∙ q1), r3 ∙ ap byteOf (r2 .0 ∙ r1), t1, t2);
   end-is = refl;
@@ -85,7 +94,8 @@ module _ (s : List ℕ) (goals : ℕ) (codes : List ℕ) (count : ℕ) (room : c
   pairs-end w = w .end-is ∙ ap (λ k. 5 + k) pairs-length
 
   -- there is room for the labels behind the pairs
-  pub labels-room : {a b c us : List ℕ} {m : ℕ} → 5 + 4 * count ≤ length a → Wrote a 0 us b 5 → Wrote b 5 (flatMap (pairOfCode s goals) (take count codes)) c m → m + 2 * count ≤ length c
+  pub labels-room : {a b c us : List ℕ} {m : ℕ} → 5 + 4 * count ≤ length a → Wrote a 0 us b 5
+      → Wrote b 5 (flatMap (pairOfCode s goals) (take count codes)) c m → m + 2 * count ≤ length c
   labels-room h p q = omega (arith, pairs-end q, wrote-length p, wrote-length q)
 
   pub file-put : {a b c d : List ℕ} {m e : ℕ} → 5 + 4 * count ≤ length a → count ≤ mostWords
@@ -95,7 +105,11 @@ module _ (s : List ℕ) (goals : ℕ) (codes : List ℕ) (count : ℕ) (room : c
   unfolding fileOfCodes
   file-put {a} {b} {c} {d} {m} {e} h k p q r =
       let small : byteOf (count / 256) ≡ count / 256 = mod-eq-of-lt (omega arith) in
-      let w : Wrote a 0 (fileOfCodes s goals codes count) d e = subst (λ x. Wrote a 0 (byteOf (getD s 0 0) ∷ byteOf (getD s 1 0) ∷ byteOf (getD s 2 0) ∷ byteOf count ∷ x ∷ (flatMap (pairOfCode s goals) (take count codes) ++ flatMap labelOfCode (take count codes))) d e) small (wrote-then p (wrote-then q r)) in
+      let w : Wrote a 0 (fileOfCodes s goals codes count) d e =
+      subst (λ x. Wrote a 0
+      (byteOf (getD s 0 0) ∷ byteOf (getD s 1 0) ∷ byteOf
+      (getD s 2 0) ∷ byteOf count ∷ x ∷ (flatMap (pairOfCode s goals) (take count codes)
+      ++ flatMap labelOfCode (take count codes))) d e) small (wrote-then p (wrote-then q r)) in
       let f : length (fileOfCodes s goals codes count) ≡ 5 + 4 * count = file-length in
       wrote-front w (omega arith) ∙ ap (λ n. fileOfCodes s goals codes count ++ drop n a) f
 

@@ -1,4 +1,5 @@
--- The bytes of document 01's table file, written from its sizes and words: q, n, S, W low byte first, W pairs (root, goal), W labels low byte first.
+-- The bytes of document 01's table file, written from its sizes and words: q, n, S, W low byte first, W pairs (root, goal), W labels low
+-- byte first.
 use mathlib.Core.List.{List, [], _∷_, _++_, flatMap}
 use Prim.Native.Nat.{ℕ, _/_, _%_}
 use lib.ListN.{length}

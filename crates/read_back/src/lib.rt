@@ -1,6 +1,6 @@
 // Reading a section back into the table file of its words, for any numbers and any buffer, by document 01's checks 8, 12 and 10.
-// Words are found depth by depth: each beginning goes on along every edge that left its vertex, and since no path of a usable section breaks off,
-// more than 1,024 beginnings at any depth are more than 1,024 words.
+// Words are found depth by depth: each beginning goes on along every edge that left its vertex, and since no path of a usable section
+// breaks off, more than 1,024 beginnings at any depth are more than 1,024 words.
 ghost use mathlib.Core.Path.{_≡_};
 ghost use mathlib.Core.List.{[], _∷_, _++_, flatMap};
 ghost use Prim.Native.Nat.{_+_, _*_, _/_, _%_, _<_, _≤_};
@@ -14,7 +14,8 @@ ghost use Rattle.section_file.specs.inner.Answer.{edgeAt};
 ghost use Rattle.section_file.specs.inner.Sound.{Sound};
 ghost use Rattle.read_back.specs.ReadingBack.{readBackOutcome, left, isSection, readingBack};
 ghost use Rattle.read_back.specs.inner.Levels.{codeRoot, codeVertex, codeLabel, furtherCode, grownCodes};
-ghost use Rattle.read_back.specs.inner.Growing.{PutBehind, StepIn, BeginsAt, Starts, FilledPlaces, Gathered, FirstLevel, RootCodes, byteOf, pairOfCode, labelOfCode, fileOfCodes};
+ghost use Rattle.read_back.specs.inner.Growing.{PutBehind, StepIn, BeginsAt, Starts, FilledPlaces, Gathered, FirstLevel, RootCodes};
+ghost use Rattle.read_back.specs.inner.Growing.{byteOf, pairOfCode, labelOfCode, fileOfCodes};
 use label::append;
 use numbers::number;
 use numbers::wide;
@@ -102,8 +103,10 @@ fn grow_one(
     made: usize,
     codes: &mut [u32; MOST_WORDS],
 ) -> usize
-    requires { ⌜ StepIn (now s) pairs symbols count × BeginsAt (edgeAt (now s) pairs symbols) count (codeVertex c) start × (made ≤ mostWords) × (length (now codes) ≡ mostWords) ⌝ }
-    ensures { λ r. ⌜ PutBehind (grownCodes (run (edgeAt (now (s .entry)) pairs symbols) 0 count) c) (now (codes .entry)) made (now (codes .exit)) r ⌝ }
+    requires { ⌜ StepIn (now s) pairs symbols count × BeginsAt (edgeAt (now s) pairs symbols) count (codeVertex c) start
+        × (made ≤ mostWords) × (length (now codes) ≡ mostWords) ⌝ }
+    ensures { λ r. ⌜ PutBehind (grownCodes (run (edgeAt (now (s .entry)) pairs symbols) 0 count) c) (now (codes .entry)) made
+        (now (codes .exit)) r ⌝ }
 {
     let vertex = vertex_of(c);
     let mut filled = made;
@@ -132,8 +135,10 @@ fn grow(
     have: usize,
     codes: &mut [u32; MOST_WORDS],
 ) -> usize
-    requires { ⌜ StepIn (now s) pairs symbols count × (have ≤ mostWords) × (length (now old) ≡ mostWords) × (length (now codes) ≡ mostWords) ⌝ }
-    ensures { λ r. ⌜ PutBehind (flatMap (grownCodes (run (edgeAt (now (s .entry)) pairs symbols) 0 count)) (take have (now (old .entry)))) (now (codes .entry)) 0 (now (codes .exit)) r ⌝ }
+    requires { ⌜ StepIn (now s) pairs symbols count × (have ≤ mostWords) × (length (now old) ≡ mostWords)
+        × (length (now codes) ≡ mostWords) ⌝ }
+    ensures { λ r. ⌜ PutBehind (flatMap (grownCodes (run (edgeAt (now (s .entry)) pairs symbols) 0 count)) (take have (now (old .entry))))
+        (now (codes .entry)) 0 (now (codes .exit)) r ⌝ }
 {
     let starts = starts_of(s, pairs, symbols, count);
     let mut made: usize = 0;
@@ -179,7 +184,8 @@ fn places_of(s: &[u16], n: usize) -> Places
 
 // Finds the section's words, depth by depth.
 fn gather(s: &[u16], n: usize, pairs: usize, symbols: usize, codes: &mut [u32; MOST_WORDS]) -> usize
-    requires { ⌜ Sound (now s) × (n ≡ nOf (now s)) × (pairs ≡ pairsPlace (now s)) × (symbols ≡ symbolsPlace (now s)) × (pairs ≤ 10000) × (symbols ≤ 50000) × (length (now codes) ≡ mostWords) ⌝ }
+    requires { ⌜ Sound (now s) × (n ≡ nOf (now s)) × (pairs ≡ pairsPlace (now s)) × (symbols ≡ symbolsPlace (now s)) × (pairs ≤ 10000)
+        × (symbols ≤ 50000) × (length (now codes) ≡ mostWords) ⌝ }
     ensures { λ r. ⌜ Gathered (now (s .entry)) n (now (codes .exit)) r ⌝ }
 {
     let mut have = wide(number(s, 3));
@@ -227,7 +233,8 @@ fn put_pairs(
     file: &mut [u8],
 ) -> usize
     requires { ⌜ (goals ≤ 10000) × (count ≤ mostWords) × (5 + 2 * count ≤ length (now file)) × (length (now codes) ≡ mostWords) ⌝ }
-    ensures { λ r. ⌜ Wrote (now (file .entry)) 5 (flatMap (pairOfCode (now (s .entry)) goals) (take count (now (codes .entry)))) (now (file .exit)) r ⌝ }
+    ensures { λ r. ⌜ Wrote (now (file .entry)) 5 (flatMap (pairOfCode (now (s .entry)) goals) (take count (now (codes .entry))))
+        (now (file .exit)) r ⌝ }
 {
     let mut at: usize = 5;
     let mut i: usize = 0;
@@ -259,7 +266,8 @@ fn put_labels(codes: &[u32; MOST_WORDS], count: usize, start: usize, file: &mut 
 
 fn put_file(s: &[u16], goals: usize, codes: &[u32; MOST_WORDS], count: usize, file: &mut [u8])
     requires { ⌜ (goals ≤ 10000) × (count ≤ mostWords) × (5 + 4 * count ≤ length (now file)) × (length (now codes) ≡ mostWords) ⌝ }
-    ensures { λ _. ⌜ now (file .exit) ≡ fileOfCodes (now (s .entry)) goals (now (codes .entry)) count ++ drop (5 + 4 * count) (now (file .entry)) ⌝ }
+    ensures { λ _. ⌜ now (file .exit) ≡ fileOfCodes (now (s .entry)) goals (now (codes .entry)) count
+        ++ drop (5 + 4 * count) (now (file .entry)) ⌝ }
 {
     put_sizes(s, count, file);
     let at = put_pairs(s, goals, codes, count, file);

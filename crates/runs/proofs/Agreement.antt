@@ -1,8 +1,9 @@
--- firstWord i, the start of the run of the first word with i's key, is the first word of i's vertex; and the table is rectangular exactly if its runs agree.
--- A word that shares i's vertex has an ending of i's key, and the first of these stands in the run of firstWord i; so firstWord i is least.
--- In a rectangular table words of one run share a vertex, so they have one first word, and of two runs of one vertex each is at least as long as the other.
--- Where the runs agree, each run has its endings in the run of its first word and is as long, so no ending can be out of step: both have the same endings
--- in the same order. So runs with one first word have the same endings, which is what rectangular asks.
+-- firstWord i, the start of the run of the first word with i's key, is the first word of i's vertex; and the table is rectangular exactly
+-- if its runs agree. A word that shares i's vertex has an ending of i's key, and the first of these stands in the run of firstWord i; so
+-- firstWord i is least. In a rectangular table words of one run share a vertex, so they have one first word, and of two runs of one vertex
+-- each is at least as long as the other. Where the runs agree, each run has its endings in the run of its first word and is as long, so no
+-- ending can be out of step: both have the same endings in the same order. So runs with one first word have the same endings, which is what
+-- rectangular asks.
 use mathlib.Core.Path.{_≡_, refl, sym, ap, subst, _∙_}
 use mathlib.Core.Logic.{_↔_}
 use Prim.Native.Nat.{ℕ, zero, suc, _+_, _-_, _≤_, _<_}
@@ -33,14 +34,21 @@ module _ {W : ℕ} {beginning ending key : ℕ → ℕ} (C : Cut W beginning end
   pub first-shares : (i : ℕ) → i < W → Shared W beginning ending (firstWord i) i
   first-shares i h =
       let k : firstLike key i < W = omega (arith, like-le key i) in
-      record { at = firstLike key i; inside = k; begins = sym (like-is beginning (firstLike key i)); ends = K (firstLike key i) i k h .0 (like-is key i) }
+      record {
+        at = firstLike key i;
+        inside = k;
+        begins = sym (like-is beginning (firstLike key i));
+        ends =
+            K (firstLike key i) i k h .0 (like-is key i);
+      }
 
   pub first-least : (i j : ℕ) → i < W → Shared W beginning ending j i → firstWord i ≤ j
   first-least i j h m = go (firstLike key i) (like-least key i (m .at) (K (m .at) i (m .inside) h .1 (m .ends))) (decLt j (firstLike key i))
     where
       go : (g : ℕ) → g ≤ m .at → Dec (j < g) → start g ≤ j
       go g l (no a) = omega (arith, like-le beginning g)
-      go g l (yes a) = like-least beginning g j (sym (between C j g (m .at) (omega arith) l (record { inside = m .inside; begins = m .begins }) .begins))
+      go g l (yes a) = like-least beginning g j
+          (sym (between C j g (m .at) (omega arith) l (record { inside = m .inside; begins = m .begins }) .begins))
 
   pub first-le : (i : ℕ) → firstWord i ≤ i
   first-le i = omega (arith, like-le key i, like-le beginning (firstLike key i))
@@ -68,13 +76,15 @@ module _ {W : ℕ} {beginning ending key : ℕ → ℕ} (C : Cut W beginning end
         let s : start i < W = omega (arith, like-le beginning i) in
         let p = first-least (start i) (firstWord i) s
         (chain (firstWord i) i (start i) h (first-shares i h) (along (record { inside = s; begins = like-is beginning i }))) in
-        let q = first-least i (firstWord (start i)) h (chain (firstWord (start i)) (start i) i s (first-shares (start i) s) (along (own-run C i h))) in
+        let q = first-least i (firstWord (start i)) h
+        (chain (firstWord (start i)) (start i) i s (first-shares (start i) s) (along (own-run C i h))) in
         omega arith
 
     pub first-twice : (i : ℕ) → i < W → firstWord (firstWord i) ≡ firstWord i
     first-twice i h =
         let q : firstWord i < W = omega (arith, first-le i) in
-        let p = first-least i (firstWord (firstWord i)) h (chain (firstWord (firstWord i)) (firstWord i) i q (first-shares (firstWord i) q) (first-shares i h)) in
+        let p = first-least i (firstWord (firstWord i)) h
+        (chain (firstWord (firstWord i)) (firstWord i) i q (first-shares (firstWord i) q) (first-shares i h)) in
         omega (arith, first-le (firstWord i))
 
     -- of two runs whose starts share a vertex, one goes on where the other does
@@ -144,7 +154,8 @@ module _ {W : ℕ} {beginning ending key : ℕ → ℕ} (C : Cut W beginning end
         subst (In W beginning a) f (on-in C a (x - 1) w (subst T (sym (lasts-as m (x - 1) (y - 1) (omega arith) (omega arith) w)) t))
 
     -- were an ending behind its place in b, so would be the next one, and in the end one outside the table
-    never-behind : (left m x y l : ℕ) → W ≤ x + left → x ≡ a + m → y ≡ b + m → In W beginning a x → In W beginning b l → ending l ≡ ending x → y < l → ⊥
+    never-behind : (left m x y l : ℕ) → W ≤ x + left → x ≡ a + m → y ≡ b + m → In W beginning a x → In W beginning b l → ending l ≡ ending x
+        → y < l → ⊥
     never-behind zero m x y l h p q u v e g = omega (arith, u .inside)
     never-behind (suc left) m x y l h p q u v e g =
         let u′ = back (suc m) (x + 1) (y + 1) (omega arith) (omega arith) (between C b (y + 1) l (omega arith) (omega arith) v) in
@@ -167,7 +178,13 @@ module _ {W : ℕ} {beginning ending key : ℕ → ℕ} (C : Cut W beginning end
       → (m : ℕ) → In W beginning a (a + m) → Shared W beginning ending c (a + m)
   one-first a c b sa sc p q fa fc A B m u =
       let v = back c b sc q fc B m (c + m) (b + m) refl refl (there a b sa p fa A m u) in
-      record { at = c + m; inside = v .inside; begins = v .begins; ends = sym (same-endings c b sc q fc B m v) ∙ same-endings a b sa p fa A m u }
+      record {
+        at = c + m;
+        inside = v .inside;
+        begins = v .begins;
+        ends = sym (same-endings c b sc q fc B m v)
+            ∙ same-endings a b sa p fa A m u;
+      }
 
   rectangle : RunsAgree W start firstWord → Rectangle W beginning ending
   rectangle A i j k p q r e f =

@@ -1,6 +1,6 @@
--- Numbering by rank and numbering by counting agree. Where f is no later than its argument and f (f i) is f i, the values of f below W are the
--- numbers that f keeps; so in the ascending list of these values each s has as many before it as there are kept numbers below s.
--- For the rank of s + 1 is that of s, and one more exactly if s is in the list.
+-- Numbering by rank and numbering by counting agree. Where f is no later than its argument and f (f i) is f i, the values of f below W are
+-- the numbers that f keeps; so in the ascending list of these values each s has as many before it as there are kept numbers below s. For
+-- the rank of s + 1 is that of s, and one more exactly if s is in the list.
 use mathlib.Core.Path.{_≡_, refl, sym, ap, ap₂, subst, _∙_}
 use mathlib.Core.Bool.{Bool, true, false, _||_}
 use mathlib.Core.List.{List, [], _∷_}

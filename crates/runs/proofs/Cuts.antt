@@ -1,5 +1,6 @@
--- A table cut at depth t, in numbers. The number of a beginning is the root followed by t symbols, so numbers are equal exactly if beginnings are, by one division
--- with remainder; endings alike. The order of words is that of their beginnings and then of their endings. So what is said of the numbers is said of the words.
+-- A table cut at depth t, in numbers. The number of a beginning is the root followed by t symbols, so numbers are equal exactly if
+-- beginnings are, by one division with remainder; endings alike. The order of words is that of their beginnings and then of their endings.
+-- So what is said of the numbers is said of the words.
 use mathlib.Core.Path.{_≡_, sym, ap, ap₂, subst, _∙_}
 use mathlib.Core.List.{List, [], _∷_}
 use Prim.Native.Nat.{ℕ, zero, suc, _+_, _-_, _*_, _/_, _%_, _^_, _≤_, _<_}
@@ -15,7 +16,8 @@ use Rattle.trellis.specs.Label.{front, back}
 use Rattle.trellis.specs.Word.{Word, wordAt, Before, Table, beginning, ending, joined, RectangularAt}
 use Rattle.trellis.specs.Witness.{sameBeginning, sameEnding}
 use Rattle.trellis.proofs.Labels.{four-pos, front-mono}
-use Rattle.trellis.proofs.Words.{word-in, index, beginning-root, beginning-front, beginning-eq, ending-back, ending-goal, ending-eq, joined-beginning, joined-ending, joined-is, rectangular-by}
+use Rattle.trellis.proofs.Words.{word-in, index, beginning-root, beginning-front, beginning-eq, ending-back, ending-goal, ending-eq}
+use Rattle.trellis.proofs.Words.{joined-beginning, joined-ending, joined-is, rectangular-by}
 use Rattle.trellis.proofs.Witness.{begins-yes, begins-of, ends-yes, ends-of}
 use Rattle.runs.specs.inner.Runs.{Cut, Shared, Rectangle}
 use Rattle.runs.specs.inner.Cuts.{aboveGoals, beginningNumber, endingNumber, beginningAt, endingAt}
@@ -42,7 +44,8 @@ front-below n t x h l =
 -- ---- numbers for beginnings and endings
 
 module _ (n t : ℕ) (v w : Word) where
-  number-beginning : t ≤ n → v .label < 4 ^ n → w .label < 4 ^ n → beginningNumber n t v ≡ beginningNumber n t w → beginning n t v ≡ beginning n t w
+  number-beginning : t ≤ n → v .label < 4 ^ n → w .label < 4 ^ n → beginningNumber n t v ≡ beginningNumber n t w
+      → beginning n t v ≡ beginning n t w
   unfolding beginningNumber
   number-beginning h a b e =
       let p = front-below n t (v .label) h a in
@@ -83,11 +86,13 @@ back-less n t x y e l =
     let p : x / 4 ^ (n - t) * 4 ^ (n - t) ≡ y / 4 ^ (n - t) * 4 ^ (n - t) = ap (λ k. k * 4 ^ (n - t)) e in
     omega (arith, div-add-mod' x (4 ^ (n - t)), div-add-mod' y (4 ^ (n - t)))
 
-later : (n t high : ℕ) (v w : Word) → v .goal < high → beginning n t v ≡ beginning n t w → Before v w → endingNumber n t high v < endingNumber n t high w
+later : (n t high : ℕ) (v w : Word) → v .goal < high → beginning n t v ≡ beginning n t w → Before v w
+    → endingNumber n t high v < endingNumber n t high w
 unfolding endingNumber
 later n t high v w p b (byFirst r) = let e = beginning-root b in absurd (omega arith)
 later n t high v w p b (bySecond r l) = omega (arith, digits-lt (back-less n t (v .label) (w .label) (beginning-front b) l) p)
-later n t high v w p b (byThird r l g) = let e : back n t (v .label) * high ≡ back n t (w .label) * high = ap (λ x. back n t x * high) l in omega arith
+later n t high v w p b (byThird r l g) = let e : back n t (v .label) * high ≡ back n t (w .label) * high = ap (λ x. back n t x * high) l in
+    omega arith
 
 -- ---- the table
 
@@ -101,27 +106,32 @@ module _ {n : ℕ} {table : List Word} (G : Table n table) (t : ℕ) (h : t ≤ 
 
   pub same-ending : (i j : ℕ) → i < length table → j < length table → endingAt n table t i ≡ endingAt n table t j
       → ending n t (wordAt table i) ≡ ending n t (wordAt table j)
-  same-ending i j a b e = number-ending n t (wordAt table i) (wordAt table j) (aboveGoals table) (goal-below table i a) (goal-below table j b) e
+  same-ending i j a b e =
+      number-ending n t (wordAt table i) (wordAt table j) (aboveGoals table) (goal-below table i a) (goal-below table j b) e
 
   -- ---- the tests that the witness search makes, on numbers
 
   pub begins-eq : (i j : ℕ) → i < length table → j < length table
       → sameBeginning n t (wordAt table i) (wordAt table j) ≡ eqb (beginningAt n table t i) (beginningAt n table t j)
-  begins-eq i j a b = same-test (sameBeginning n t (wordAt table i) (wordAt table j)) (eqb (beginningAt n table t i) (beginningAt n table t j))
+  begins-eq i j a b = same-test (sameBeginning n t (wordAt table i) (wordAt table j))
+      (eqb (beginningAt n table t i) (beginningAt n table t j))
       (λ u. eqb-of (beginning-number n t (wordAt table i) (wordAt table j) (begins-yes n t (wordAt table i) (wordAt table j) u)))
-      (λ u. begins-of n t (wordAt table i) (wordAt table j) (same-beginning i j a b (eqb→eq (beginningAt n table t i) (beginningAt n table t j) u)))
+      (λ u. begins-of n t (wordAt table i) (wordAt table j)
+      (same-beginning i j a b (eqb→eq (beginningAt n table t i) (beginningAt n table t j) u)))
 
   pub ends-eq : (i j : ℕ) → i < length table → j < length table
       → sameEnding n t (wordAt table i) (wordAt table j) ≡ eqb (endingAt n table t i) (endingAt n table t j)
   ends-eq i j a b = same-test (sameEnding n t (wordAt table i) (wordAt table j)) (eqb (endingAt n table t i) (endingAt n table t j))
-      (λ u. eqb-of (ending-number n t (wordAt table i) (wordAt table j) (aboveGoals table) (ends-yes n t (wordAt table i) (wordAt table j) u)))
+      (λ u. eqb-of (ending-number n t (wordAt table i) (wordAt table j) (aboveGoals table)
+      (ends-yes n t (wordAt table i) (wordAt table j) u)))
       (λ u. ends-of n t (wordAt table i) (wordAt table j) (same-ending i j a b (eqb→eq (endingAt n table t i) (endingAt n table t j) u)))
 
   pub cut : Cut (length table) (beginningAt n table t) (endingAt n table t)
   cut = record {
     rises = λ i j a b. go i j a b (ℕ-discrete i j);
     within = λ i j a b e.
-        later n t (aboveGoals table) (wordAt table i) (wordAt table j) (goal-below table i (omega arith)) (same-beginning i j (omega arith) b e) (G .ascends i j a b);
+        later n t (aboveGoals table) (wordAt table i) (wordAt table j) (goal-below table i (omega arith))
+        (same-beginning i j (omega arith) b e) (G .ascends i j a b);
   }
     where
       go : (i j : ℕ) → i ≤ j → j < length table → Dec (i ≡ j) → beginningAt n table t i ≤ beginningAt n table t j
@@ -130,30 +140,36 @@ module _ {n : ℕ} {table : List Word} (G : Table n table) (t : ℕ) (h : t ≤ 
 
   -- ---- words share a vertex where the joined word is in the table
 
-  pub shared-joined : (i j : ℕ) → i < length table → j < length table → Shared (length table) (beginningAt n table t) (endingAt n table t) i j
+  pub shared-joined : (i j : ℕ) → i < length table → j < length table
+      → Shared (length table) (beginningAt n table t) (endingAt n table t) i j
       → joined n t (wordAt table i) (wordAt table j) ∈ table
   shared-joined i j a b m = subst (λ w. w ∈ table)
       (joined-is n t (wordAt table (m .at)) (wordAt table i) (wordAt table j)
       (same-beginning (m .at) i (m .inside) a (m .begins)) (same-ending (m .at) j (m .inside) b (m .ends)))
       (word-in table (m .at) (m .inside))
 
-  pub joined-shared : (i j : ℕ) → joined n t (wordAt table i) (wordAt table j) ∈ table → Shared (length table) (beginningAt n table t) (endingAt n table t) i j
+  pub joined-shared : (i j : ℕ) → joined n t (wordAt table i) (wordAt table j) ∈ table
+      → Shared (length table) (beginningAt n table t) (endingAt n table t) i j
   joined-shared i j m =
       let w = joined n t (wordAt table i) (wordAt table j) in
       let x = index table w m in
       record {
         at = x .at;
         inside = x .below;
-        begins = ap (beginningNumber n t) (x .is) ∙ beginning-number n t w (wordAt table i) (joined-beginning n t (wordAt table i) (wordAt table j));
-        ends = ap (endingNumber n t (aboveGoals table)) (x .is) ∙ ending-number n t w (wordAt table j) (aboveGoals table) (joined-ending n t (wordAt table i) (wordAt table j));
+        begins = ap (beginningNumber n t) (x .is)
+            ∙ beginning-number n t w (wordAt table i) (joined-beginning n t (wordAt table i) (wordAt table j));
+        ends = ap (endingNumber n t (aboveGoals table)) (x .is)
+            ∙ ending-number n t w (wordAt table j) (aboveGoals table) (joined-ending n t (wordAt table i) (wordAt table j));
       }
 
   -- ---- rectangular, in numbers
 
   pub rectangle-of : RectangularAt n t table → Rectangle (length table) (beginningAt n table t) (endingAt n table t)
   rectangle-of R i j k a b c e f = joined-shared k j
-      (R (wordAt table i) (wordAt table j) (wordAt table k) (word-in table i a) (word-in table j b) (word-in table k c) (same-beginning i j a b e) (same-ending i k a c f))
+      (R (wordAt table i) (wordAt table j) (wordAt table k) (word-in table i a) (word-in table j b) (word-in table k c)
+      (same-beginning i j a b e) (same-ending i k a c f))
 
   pub of-rectangle : Rectangle (length table) (beginningAt n table t) (endingAt n table t) → RectangularAt n t table
   of-rectangle R = rectangular-by n t table (λ i j k a b c e f. shared-joined k j c b
-      (R i j k a b c (beginning-number n t (wordAt table i) (wordAt table j) e) (ending-number n t (wordAt table i) (wordAt table k) (aboveGoals table) f)))
+      (R i j k a b c (beginning-number n t (wordAt table i) (wordAt table j) e)
+      (ending-number n t (wordAt table i) (wordAt table k) (aboveGoals table) f)))

@@ -1,5 +1,6 @@
--- Keys that tell the endings at a depth apart. At depth n an ending is a goal. An ending at depth t is symbol t followed by an ending at depth t + 1, so a key
--- at t + 1 with that symbol is a key at t. And first words tell apart what they are first words of, so a key can be kept below the number of words.
+-- Keys that tell the endings at a depth apart. At depth n an ending is a goal. An ending at depth t is symbol t followed by an ending at
+-- depth t + 1, so a key at t + 1 with that symbol is a key at t. And first words tell apart what they are first words of, so a key can be
+-- kept below the number of words.
 use mathlib.Core.Path.{_≡_, sym, ap, ap₂, _∙_}
 use mathlib.Core.List.{List}
 use Prim.Native.Nat.{ℕ, suc, _+_, _-_, _*_, _^_, _<_}
@@ -38,16 +39,19 @@ module _ {n : ℕ} {table : List Word} (G : Table n table) (t : ℕ) (deep : t <
       let q = symbol-lt n t (wordAt table j .label) in
       (omega arith, omega arith)
 
-  end-longer : (i j : ℕ) → i < length table → j < length table → symbolAt i ≡ symbolAt j → endingAt n table (suc t) i ≡ endingAt n table (suc t) j
+  end-longer : (i j : ℕ) → i < length table → j < length table → symbolAt i ≡ symbolAt j
+      → endingAt n table (suc t) i ≡ endingAt n table (suc t) j
       → endingAt n table t i ≡ endingAt n table t j
   end-longer i j a b p q =
       let E = same-ending G (suc t) deep i j a b q in
       ending-number n t (wordAt table i) (wordAt table j) (aboveGoals table) (ending-eq
-      (back-suc n t (wordAt table i .label) deep ∙ ap₂ (λ x y. x * 4 ^ (n - suc t) + y) p (ending-back E) ∙ sym (back-suc n t (wordAt table j .label) deep))
+      (back-suc n t (wordAt table i .label) deep ∙ ap₂ (λ x y. x * 4 ^ (n - suc t) + y) p (ending-back E)
+      ∙ sym (back-suc n t (wordAt table j .label) deep))
       (ending-goal E))
 
   end-symbol : (i j : ℕ) → i < length table → j < length table → endingAt n table t i ≡ endingAt n table t j → symbolAt i ≡ symbolAt j
-  end-symbol i j a b e = symbol-back n t (wordAt table i .label) (wordAt table j .label) deep (ending-back (same-ending G t (omega arith) i j a b e))
+  end-symbol i j a b e =
+      symbol-back n t (wordAt table i .label) (wordAt table j .label) deep (ending-back (same-ending G t (omega arith) i j a b e))
 
   end-shorter : (i j : ℕ) → i < length table → j < length table → endingAt n table t i ≡ endingAt n table t j
       → endingAt n table (suc t) i ≡ endingAt n table (suc t) j
@@ -56,7 +60,8 @@ module _ {n : ℕ} {table : List Word} (G : Table n table) (t : ℕ) (deep : t <
       ending-number n (suc t) (wordAt table i) (wordAt table j) (aboveGoals table)
       (ending-eq (back-step n t (wordAt table i .label) (wordAt table j .label) deep (ending-back E)) (ending-goal E))
 
-  pub tells-step : (v : ℕ → ℕ) → Tells (length table) (endingAt n table (suc t)) v → Tells (length table) (endingAt n table t) (stepKey n table t v)
+  pub tells-step : (v : ℕ → ℕ) → Tells (length table) (endingAt n table (suc t)) v
+      → Tells (length table) (endingAt n table t) (stepKey n table t v)
   tells-step v D i j a b = (
     λ e. end-longer i j a b (step-parts v i j e .1) (D i j a b .0 (step-parts v i j e .0)),
     λ e. ap₂ (λ x y. x * 4 + y) (D i j a b .1 (end-shorter i j a b e)) (end-symbol i j a b e),
@@ -70,6 +75,7 @@ no-symbols n x y = let e : n - n ≡ 0 = omega arith in rw e (mod-one x ∙ sym 
 
 pub tells-goals : {n : ℕ} {table : List Word} → Table n table → Tells (length table) (endingAt n table n) (λ i. wordAt table i .goal)
 tells-goals {n} {table} G i j a b = (
-  λ e. ending-number n n (wordAt table i) (wordAt table j) (aboveGoals table) (ending-eq (no-symbols n (wordAt table i .label) (wordAt table j .label)) e),
+  λ e. ending-number n n (wordAt table i) (wordAt table j) (aboveGoals table)
+      (ending-eq (no-symbols n (wordAt table i .label) (wordAt table j .label)) e),
   λ e. ending-goal (same-ending G n (omega arith) i j a b e),
 )

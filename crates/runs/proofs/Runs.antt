@@ -1,6 +1,6 @@
 -- Runs of a table cut at one depth. A run is an interval, since beginnings rise with the words; within a run endings rise.
--- So where each word of run a has its ending in run b too, the words of b with these endings stand in the order of a's words, word m of a has its ending
--- at word m of b or behind it, and b is at least as long as a.
+-- So where each word of run a has its ending in run b too, the words of b with these endings stand in the order of a's words, word m of a
+-- has its ending at word m of b or behind it, and b is at least as long as a.
 use mathlib.Core.Path.{_≡_, refl, sym, ap, _∙_}
 use Prim.Native.Nat.{ℕ, zero, suc, _+_, _-_, _≤_, _<_}
 use native.Mathlib.Omega.{arith}
@@ -31,7 +31,8 @@ module _ {W : ℕ} {beginning ending : ℕ → ℕ} (C : Cut W beginning ending)
     where
       go : Dec (start j < start i) → start i ≤ start j
       go (no d) = omega arith
-      go (yes d) = like-least beginning i (start j) (sym (between (start j) i j (omega (arith, like-le beginning i)) h (own-run j l) .begins))
+      go (yes d) = like-least beginning i (start j)
+          (sym (between (start j) i j (omega (arith, like-le beginning i)) h (own-run j l) .begins))
 
   -- two words of one run, and two of another with their endings, stand in one order
   pub same-order : {a b x z k l : ℕ} → In W beginning a x → In W beginning a z → In W beginning b k → In W beginning b l
@@ -44,7 +45,8 @@ module _ {W : ℕ} {beginning ending : ℕ → ℕ} (C : Cut W beginning ending)
       go : Dec (k < l) → Dec (k ≡ l) → k < l
       go (yes d) f = d
       go (no d) (yes f) = let w = ap ending f in let g = rise in absurd (omega arith)
-      go (no d) (no f) = let w = C .within l k (omega arith) (r .inside) (s .begins ∙ sym (r .begins)) in let g = rise in absurd (omega arith)
+      go (no d) (no f) = let w = C .within l k (omega arith) (r .inside) (s .begins ∙ sym (r .begins)) in let g = rise in
+          absurd (omega arith)
 
   -- ---- the next word of a run
 
@@ -52,7 +54,11 @@ module _ {W : ℕ} {beginning ending : ℕ → ℕ} (C : Cut W beginning ending)
   on-in a x u t =
       let p = both (ltb (x + 1) W) (eqb (start (x + 1)) (start x)) t in
       let e = eqb→eq (start (x + 1)) (start x) (p .1) in
-      record { inside = ltb→lt (x + 1) W (p .0); begins = sym (like-is beginning (x + 1)) ∙ ap beginning e ∙ like-is beginning x ∙ u .begins }
+      record {
+        inside = ltb→lt (x + 1) W (p .0);
+        begins = sym (like-is beginning (x + 1)) ∙ ap beginning e ∙ like-is beginning x
+            ∙ u .begins;
+      }
 
   pub in-on : (a x : ℕ) → In W beginning a x → In W beginning a (x + 1) → T (goesOn W start x)
   in-on a x u v = join (ltb (x + 1) W) (eqb (start (x + 1)) (start x))

@@ -1,6 +1,7 @@
--- What the runs say of a table at an inner depth t, from any key that tells the endings there apart: the table is rectangular exactly if its runs agree;
--- firstWord i is the first word that shares its vertex with word i, rectangular or not; and where the table is rectangular, the vertex of word i is the number of
--- first words before firstWord i, since vertices are numbered by ascending first word and a first word is its own.
+-- What the runs say of a table at an inner depth t, from any key that tells the endings there apart: the table is rectangular exactly if
+-- its runs agree; firstWord i is the first word that shares its vertex with word i, rectangular or not; and where the table is rectangular,
+-- the vertex of word i is the number of first words before firstWord i, since vertices are numbered by ascending first word and a first
+-- word is its own.
 use mathlib.Core.Path.{_≡_, sym, ap, _∙_}
 use mathlib.Core.Logic.{_↔_}
 use mathlib.Core.List.{List}
@@ -26,7 +27,8 @@ module _ {n : ℕ} {table : List Word} (G : Table n table) (t : ℕ) (inner : 0 
   le : t ≤ n
   le = omega arith
 
-  pub rectangular-iff : RectangularAt n t table ↔ RunsAgree (length table) (firstLike (beginningAt n table t)) (firstWordBy (beginningAt n table t) told)
+  pub rectangular-iff : RectangularAt n t table
+      ↔ RunsAgree (length table) (firstLike (beginningAt n table t)) (firstWordBy (beginningAt n table t) told)
   rectangular-iff =
       let a = agree-iff (cut G t le) K in
       (λ R. a .0 (rectangle-of G t le R), λ A. of-rectangle G t le (a .1 A))
@@ -37,7 +39,8 @@ module _ {n : ℕ} {table : List Word} (G : Table n table) (t : ℕ) (inner : 0 
       let l = first-le (cut G t le) K i in
       first-is (λ j. shares n table t j i) i (firstWord i) (record {
         most = l;
-        hit = λ k. shares-of n table t (firstWord i) i (shared-joined G t le (firstWord i) i (omega arith) h (first-shares (cut G t le) K i h));
+        hit = λ k. shares-of n table t (firstWord i) i
+            (shared-joined G t le (firstWord i) i (omega arith) h (first-shares (cut G t le) K i h));
         miss = λ j k s. let m = first-least (cut G t le) K i j h (joined-shared G t le j i (shares-yes n table t j i s)) in omega arith;
       })
 

@@ -1,4 +1,5 @@
--- Edges by their numbers: those of a step lie between what the steps before it have and what it has with them, and each is read from its places.
+-- Edges by their numbers: those of a step lie between what the steps before it have and what it has with them, and each is read from its
+-- places.
 use mathlib.Core.Path.{_≡_, sym, ap, ap₂, subst, _∙_}
 use mathlib.Core.List.{List, [], _∷_}
 use Prim.Native.Nat.{ℕ, suc, _+_, _-_, _*_, _≤_, _<_}
@@ -11,7 +12,8 @@ use Rattle.trellis.specs.Own.{Edge}
 use Rattle.trellis.specs.Section.{leaving}
 use Rattle.trellis.proofs.Lists.{of-run}
 use Rattle.paths.proofs.Sections.{from-of, listed-of}
-use Rattle.trellis.specs.Layout.{nOf, vertexCountOf, edgeCountOf, edgesBefore, allEdges, rootsPlace, goalsPlace, pairsPlace, symbolsPlace, edgeNumber, stepEdges}
+use Rattle.trellis.specs.Layout.{nOf, vertexCountOf, edgeCountOf, edgesBefore, allEdges, rootsPlace, goalsPlace, pairsPlace, symbolsPlace}
+use Rattle.trellis.specs.Layout.{edgeNumber, stepEdges}
 use Rattle.trellis.proofs.Laid.{before-more, before-le, before-few}
 use Rattle.sweep.specs.inner.Rows.{Fits, Placed}
 use Rattle.sweep.specs.inner.Loops.{between, InStep, Reads, EdgeAt}
@@ -35,7 +37,8 @@ edges-sum l e p = p ∙ ap (λ k. sum (λ t. getD l (4 + k + t) 0) 0 k) e
 -- ---- where the parts stand
 
 pub placed : {l : List ℕ} {n edges roots goals pairs symbols : ℕ} → Fits l → n ≡ nOf l → edges ≡ sum (λ t. getD l (4 + n + t) 0) 0 n
-    → roots ≡ 4 + 2 * n → goals ≡ roots + getD l 3 0 → pairs ≡ goals + getD l (3 + n) 0 → symbols ≡ pairs + 2 * edges → Placed l n roots goals pairs symbols edges
+    → roots ≡ 4 + 2 * n → goals ≡ roots + getD l 3 0 → pairs ≡ goals + getD l (3 + n) 0 → symbols ≡ pairs + 2 * edges
+    → Placed l n roots goals pairs symbols edges
 unfolding rootsPlace goalsPlace pairsPlace symbolsPlace vertexCountOf
 placed {l} {n} F e t r g p s =
     let i : getD l (3 + n) 0 ≡ getD l (3 + nOf l) 0 = ap (λ k. getD l (3 + k) 0) e in
@@ -44,11 +47,21 @@ placed {l} {n} F e t r g p s =
     let u = edges-sum l e t in
     let w = before-few l (F .edgesTo) (nOf l) (omega arith) in
     let x = F .nTo in
-    record { nIs = e; rootsIs = omega arith; goalsIs = omega arith; pairsIs = omega arith; symbolsIs = omega arith; edgesIs = u; near = omega arith }
+    record {
+      nIs = e;
+      rootsIs = omega arith;
+      goalsIs = omega arith;
+      pairsIs = omega arith;
+      symbolsIs = omega arith;
+      edgesIs = u;
+      near =
+          omega arith;
+    }
 
 -- ---- one edge, read
 
-pub reads-at : {l : List ℕ} {n roots goals pairs symbols edges : ℕ} → Fits l → Placed l n roots goals pairs symbols edges → Reads l pairs symbols
+pub reads-at : {l : List ℕ} {n roots goals pairs symbols edges : ℕ} → Fits l → Placed l n roots goals pairs symbols edges
+    → Reads l pairs symbols
 unfolding symbolsPlace
 reads-at F P =
     let a = P .pairsIs in
@@ -57,7 +70,16 @@ reads-at F P =
     let d = P .near in
     let e = F .pairsIn in
     let f = F .symbolsIn in
-    record { fits = F; pairsIs = a; symbolsIs = b; near = omega arith; pairs-near = omega arith; pairs-in = omega arith; symbols-in = omega arith }
+    record {
+      fits = F;
+      pairsIs = a;
+      symbolsIs = b;
+      near = omega arith;
+      pairs-near = omega arith;
+      pairs-in = omega arith;
+      symbols-in =
+          omega arith;
+    }
 
 pub step-in : {l : List ℕ} {t lo hi : ℕ} → t < nOf l → lo ≡ edgesBefore l t → hi ≡ edgesBefore l (suc t) → InStep l t lo hi
 step-in {l} {t} h p q =

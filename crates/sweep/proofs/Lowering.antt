@@ -1,5 +1,6 @@
--- One row: cleared, then lowered edge by edge. What a place has and what the edges still to come give it add up, by `min`, to what all its edges give;
--- each edge moves from the one side to the other. The row of the next depth is not touched, so what an edge gives stays the same.
+-- One row: cleared, then lowered edge by edge. What a place has and what the edges still to come give it add up, by `min`, to what all its
+-- edges give; each edge moves from the one side to the other. The row of the next depth is not touched, so what an edge gives stays the
+-- same.
 use mathlib.Core.Path.{_≡_, refl, sym, ap, ap₂, subst, _∙_}
 use mathlib.Core.Bool.{cond}
 use mathlib.Core.List.{List, _∷_}
@@ -51,7 +52,8 @@ clear-start h = record { v-le = omega arith; long = h; cleared = λ u l. absurd 
 
 pub clear-more : {t count v : ℕ} {old rows : List ℕ} → RowCleared t count old rows v → t ≤ mostSymbols → count ≤ mostWords → v < count
     → RowCleared t count old (set rows (mostWords * t + v) noCost) (v + 1)
-clear-more {t} {count} {v} {old} {rows} I a b h = record { v-le = omega arith; long = simp length-set (I .long); cleared = cleared; kept = kept }
+clear-more {t} {count} {v} {old} {rows} I a b h =
+    record { v-le = omega arith; long = simp length-set (I .long); cleared = cleared; kept = kept }
   where
     n : mostWords * t + v < length rows
     n = omega (arith, I .long)
@@ -60,7 +62,8 @@ clear-more {t} {count} {v} {old} {rows} I a b h = record { v-le = omega arith; l
     cleared u l = go (ℕ-discrete u v)
       where
         go : Dec (u ≡ v) → getD (set rows (mostWords * t + v) noCost) (mostWords * t + u) 0 ≡ noCost
-        go (yes e) = subst (λ k. getD (set rows (mostWords * t + v) noCost) (mostWords * t + k) 0 ≡ noCost) (sym e) (getD-set-same rows (mostWords * t + v) noCost 0 n)
+        go (yes e) = subst (λ k. getD (set rows (mostWords * t + v) noCost) (mostWords * t + k) 0 ≡ noCost) (sym e)
+            (getD-set-same rows (mostWords * t + v) noCost 0 n)
         go (no e) = getD-set-other rows (mostWords * t + v) (mostWords * t + u) noCost 0 (λ k. e (omega arith)) ∙ I .cleared u (omega arith)
 
     kept : (j : ℕ) → mostWords * suc t ≤ j → getD (set rows (mostWords * t + v) noCost) j 0 ≡ getD old j 0
@@ -69,7 +72,8 @@ clear-more {t} {count} {v} {old} {rows} I a b h = record { v-le = omega arith; l
 pub clear-end : {t count v : ℕ} {old rows : List ℕ} → RowCleared t count old rows v → count ≤ v → RowCleared t count old rows count
 clear-end {t} {count} {v} {old} {rows} I h = let e : v ≡ count = omega (arith, I .v-le) in subst (RowCleared t count old rows) e I
 
-pub is-clear : {l : List ℕ} {t count : ℕ} {old rows : List ℕ} → RowCleared t count old rows count → count ≡ getD l (3 + t) 0 → Clear l t rows
+pub is-clear : {l : List ℕ} {t count : ℕ} {old rows : List ℕ} → RowCleared t count old rows count → count ≡ getD l (3 + t) 0
+    → Clear l t rows
 unfolding vertexCountOf
 is-clear I e = record { long = I .long; cleared = λ v h. I .cleared v (omega arith) }
 
@@ -85,12 +89,22 @@ lower-start {l} {prices} {rows} {t} {lo} {hi} C S = record {
   left = λ v h. let e = C .cleared v h in let m = min-all-le noCost (through prices rows t) (leaving v (between l lo hi)) in omega arith;
 }
 
-pub lower-more : {l prices old rows : List ℕ} {t lo hi pairs symbols i from symbol to s here x : ℕ} → Reads l pairs symbols → InStep l t lo hi
+pub lower-more : {l prices old rows : List ℕ} {t lo hi pairs symbols i from symbol to s here x : ℕ} → Reads l pairs symbols
+    → InStep l t lo hi
     → InLower l prices t lo hi old rows i → i < hi → EdgeAt l i from symbol to → s ≡ symbol
-    → here ≡ plus noCost (getD prices (4 * t + s) 0) (getD rows (mostWords * (t + 1) + to) 0) → x ≡ min (getD rows (mostWords * t + from) 0) here
+    → here ≡ plus noCost (getD prices (4 * t + s) 0) (getD rows (mostWords * (t + 1) + to) 0)
+    → x ≡ min (getD rows (mostWords * t + from) 0) here
     → InLower l prices t lo hi old (set rows (mostWords * t + from) x) (i + 1)
 lower-more {l} {prices} {old} {rows} {t} {lo} {hi} {i = i} {from} {symbol} {to} {s} {here} {x} R S I h A o p q =
-    record { lo-le = omega (arith, I .lo-le); i-le = omega arith; long = simp length-set (I .long); kept = kept; small = small; left = left }
+    record {
+      lo-le = omega (arith, I .lo-le);
+      i-le = omega arith;
+      long = simp length-set (I .long);
+      kept = kept;
+      small = small;
+      left =
+          left;
+    }
   where
     few : t < 8
     few = omega (arith, S .inside, R .fits .nTo)
@@ -101,14 +115,16 @@ lower-more {l} {prices} {old} {rows} {t} {lo} {hi} {i = i} {from} {symbol} {to} 
     gives : here ≡ through prices old t (edgeNumber l i)
     gives =
         let a : mostWords * (t + 1) + to ≡ mostWords * suc t + to = omega arith in
-        let k : getD rows (mostWords * (t + 1) + to) 0 ≡ getD old (mostWords * suc t + to) 0 = ap (λ j. getD rows j 0) a ∙ I .kept (mostWords * suc t + to) (omega arith) in
+        let k : getD rows (mostWords * (t + 1) + to) 0 ≡ getD old (mostWords * suc t + to) 0 = ap (λ j. getD rows j 0) a
+        ∙ I .kept (mostWords * suc t + to) (omega arith) in
         p ∙ ap (plus noCost (getD prices (4 * t + s) 0)) k
         ∙ ap₂ (λ a g. plus noCost (getD prices (4 * t + a) 0) (getD old (mostWords * suc t + g) 0)) (o ∙ A .symbol-is) (A .to-is)
 
     kept : (j : ℕ) → mostWords * suc t ≤ j → getD (set rows (mostWords * t + from) x) j 0 ≡ getD old j 0
     kept j k = getD-set-other rows (mostWords * t + from) j x 0 (λ z. absurd (omega (arith, A .from-lt))) ∙ I .kept j k
 
-    here-is : (v : ℕ) → from ≡ v → getD (set rows (mostWords * t + from) x) (mostWords * t + v) 0 ≡ min (getD rows (mostWords * t + v) 0) here
+    here-is : (v : ℕ) → from ≡ v
+        → getD (set rows (mostWords * t + from) x) (mostWords * t + v) 0 ≡ min (getD rows (mostWords * t + v) 0) here
     here-is v z =
         subst (λ u. getD (set rows (mostWords * t + from) x) (mostWords * t + u) 0 ≡ min (getD rows (mostWords * t + u) 0) here) z
         (getD-set-same rows (mostWords * t + from) x 0 place ∙ q)
@@ -124,13 +140,17 @@ lower-more {l} {prices} {old} {rows} {t} {lo} {hi} {i = i} {from} {symbol} {to} 
         go (no z) = let a = other-is v z in let b = I .small v k in omega arith
 
     left : (v : ℕ) → v < vertexCountOf l t
-        → min (getD (set rows (mostWords * t + from) x) (mostWords * t + v) 0) (minAll noCost (through prices old t) (leaving v (between l (i + 1) hi)))
+        → min (getD (set rows (mostWords * t + from) x) (mostWords * t + v) 0)
+        (minAll noCost (through prices old t) (leaving v (between l (i + 1) hi)))
         ≡ minAll noCost (through prices old t) (leaving v (between l lo hi))
     left v k = go (ℕ-discrete from v) (I .left v k) (ap (λ es. minAll noCost (through prices old t) (leaving v es)) (between-more l h))
       where
-        go : Dec (from ≡ v) → min (getD rows (mostWords * t + v) 0) (minAll noCost (through prices old t) (leaving v (between l i hi))) ≡ minAll noCost (through prices old t) (leaving v (between l lo hi))
-            → minAll noCost (through prices old t) (leaving v (between l i hi)) ≡ minAll noCost (through prices old t) (leaving v (edgeNumber l i ∷ between l (i + 1) hi))
-            → min (getD (set rows (mostWords * t + from) x) (mostWords * t + v) 0) (minAll noCost (through prices old t) (leaving v (between l (i + 1) hi)))
+        go : Dec (from ≡ v) → min (getD rows (mostWords * t + v) 0) (minAll noCost (through prices old t) (leaving v (between l i hi)))
+            ≡ minAll noCost (through prices old t) (leaving v (between l lo hi))
+            → minAll noCost (through prices old t) (leaving v (between l i hi)) ≡ minAll noCost (through prices old t)
+            (leaving v (edgeNumber l i ∷ between l (i + 1) hi))
+            → min (getD (set rows (mostWords * t + from) x) (mostWords * t + v) 0)
+            (minAll noCost (through prices old t) (leaving v (between l (i + 1) hi)))
             ≡ minAll noCost (through prices old t) (leaving v (between l lo hi))
         go (yes z) f m =
             let a = here-is v z in
@@ -143,17 +163,22 @@ lower-more {l} {prices} {old} {rows} {t} {lo} {hi} {i = i} {from} {symbol} {to} 
             omega arith
         go (no z) f m =
             let a = other-is v z in
-            let c : minAll noCost (through prices old t) (leaving v (edgeNumber l i ∷ between l (i + 1) hi)) ≡ minAll noCost (through prices old t) (leaving v (between l (i + 1) hi))
-            = ap (minAll noCost (through prices old t)) (leaving-other (edgeNumber l i) (between l (i + 1) hi) v (λ k. z (A .from-is ∙ k))) in
+            let c : minAll noCost (through prices old t) (leaving v (edgeNumber l i ∷ between l (i + 1) hi)) ≡ minAll noCost
+            (through prices old t) (leaving v (between l (i + 1) hi))
+            = ap (minAll noCost (through prices old t))
+            (leaving-other (edgeNumber l i) (between l (i + 1) hi) v (λ k. z (A .from-is ∙ k))) in
             omega arith
 
-pub lower-end : {l prices old rows : List ℕ} {t lo hi i : ℕ} → InLower l prices t lo hi old rows i → hi ≤ i → Lowered l prices t lo hi old rows
+pub lower-end : {l prices old rows : List ℕ} {t lo hi i : ℕ} → InLower l prices t lo hi old rows i → hi ≤ i
+    → Lowered l prices t lo hi old rows
 unfolding leaving keep minAll
 lower-end {l} {prices} {old} {rows} {t} {lo} {hi} {i} I h = record { long = I .long; kept = I .kept; at = at }
   where
-    at : (v : ℕ) → v < vertexCountOf l t → getD rows (mostWords * t + v) 0 ≡ minAll noCost (through prices old t) (leaving v (between l lo hi))
+    at : (v : ℕ) → v < vertexCountOf l t
+        → getD rows (mostWords * t + v) 0 ≡ minAll noCost (through prices old t) (leaving v (between l lo hi))
     at v k =
         let f = I .left v k in
         let s = I .small v k in
-        let e : minAll noCost (through prices old t) (leaving v (between l i hi)) ≡ noCost = ap (λ es. minAll noCost (through prices old t) (leaving v es)) (between-none l h) in
+        let e : minAll noCost (through prices old t) (leaving v (between l i hi)) ≡ noCost =
+        ap (λ es. minAll noCost (through prices old t) (leaving v es)) (between-none l h) in
         omega arith

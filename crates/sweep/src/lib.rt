@@ -1,5 +1,5 @@
-// The costs of one section, over its edges and never over its words: row by row from the last depth to the first, the least cost from each vertex. What a
-// symbol costs and what it costs to end in a vertex are the caller's.
+// The costs of one section, over its edges and never over its words: row by row from the last depth to the first, the least cost from each
+// vertex. What a symbol costs and what it costs to end in a vertex are the caller's.
 ghost use mathlib.Core.Path.{_≡_};
 ghost use Prim.Native.Nat.{_+_, _*_, _<_, _≤_, min};
 ghost use lib.ListN.{length};
@@ -120,7 +120,8 @@ pub fn sweep(
     prices: &[u64; MOST_Q * MOST_SYMBOLS],
     rows: &mut [u64; (MOST_SYMBOLS + 1) * MOST_WORDS],
 )
-    requires { ⌜ Fits (now l) × Placed (now l) (at .n) (at .roots) (at .goals) (at .pairs) (at .symbols) (at .edges) × (length (now rows) ≡ 9216) ⌝ }
+    requires { ⌜ Fits (now l) × Placed (now l) (at .n) (at .roots) (at .goals) (at .pairs) (at .symbols) (at .edges)
+        × (length (now rows) ≡ 9216) ⌝ }
     ensures { λ _. ⌜ Swept (now (l .entry)) (now (prices .entry)) (now (rows .entry)) (now (rows .exit)) ⌝ }
 {
     let n = at.n;

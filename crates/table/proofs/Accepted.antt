@@ -1,6 +1,6 @@
 -- What is known of an accepted file: no check finds anything (`Passes`), so its numbers and words are what document 01 asks for (`Good`).
--- A refusal has a number other than 0, so a file with number 0 got past each check; a search that finds nothing has passed over every number; and
--- words of which each is above the one before it ascend pairwise, because the order is transitive.
+-- A refusal has a number other than 0, so a file with number 0 got past each check; a search that finds nothing has passed over every
+-- number; and words of which each is above the one before it ascend pairwise, because the order is transitive.
 use mathlib.Core.Path.{_≡_, refl, sym, ap, subst}
 use mathlib.Core.Bool.{Bool, true, false, cond, not}
 use mathlib.Core.List.{List}
@@ -18,7 +18,8 @@ use Rattle.trellis.proofs.Bools.{holds, neither, left-true}
 use Rattle.trellis.proofs.Lists.{each-at, of-each}
 use Rattle.trellis.proofs.ThreeNumbers.{lower-yes}
 use Rattle.trellis.proofs.Words.{ascends-all}
-use Rattle.table.specs.File.{byteAt, wordCount, fileWord, fileWords, lengthBad, outside, sizeOutside, wordOutside, wordBad, isBefore, orderBad}
+use Rattle.table.specs.File.{byteAt, wordCount, fileWord, fileWords, lengthBad, outside, sizeOutside, wordOutside, wordBad, isBefore}
+use Rattle.table.specs.File.{orderBad}
 use Rattle.table.specs.File.{firstSize, firstBad, firstNotAbove, TableFile, refused, accepted, tableFile, fileOutcome}
 use Rattle.table.specs.inner.Good.{Passes, GoodFile}
 use Rattle.table.proofs.Search.{none-passes, nothing-found}
@@ -59,7 +60,8 @@ module _ (file : List ℕ) where
   unfolding tableFile
   zero-passes e =
       let count = wordCount file in
-      let no = none-refused (lengthBad file) (ltb (firstSize file) 4) (ltb (firstBad file) count) (ltb (firstNotAbove file) count) _ _ _ _ _ e in
+      let no = none-refused (lengthBad file) (ltb (firstSize file) 4) (ltb (firstBad file) count)
+      (ltb (firstNotAbove file) count) _ _ _ _ _ e in
       record {
         lengthRight = no .0;
         sizesInside = none-passes (sizeOutside file) 4 (ltb-false _ _ (no .1));

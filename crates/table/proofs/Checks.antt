@@ -1,5 +1,5 @@
--- The checks as the code makes them: each law takes what the calls on the way ensure, over plain variables, and gives the definition that is promised.
--- Check 3 goes word by word; check 4 goes word by word with the word before in hand; `check` tries them one after the other.
+-- The checks as the code makes them: each law takes what the calls on the way ensure, over plain variables, and gives the definition that
+-- is promised. Check 3 goes word by word; check 4 goes word by word with the word before in hand; `check` tries them one after the other.
 use mathlib.Core.Path.{_≡_, refl, sym, _∙_}
 use mathlib.Core.Bool.{Bool, true, false, not}
 use mathlib.Core.List.{List}
@@ -49,7 +49,8 @@ pub record Ascending (file : List ℕ) (w : Word) (i : ℕ) : Type 0 where
 pub no-words : (file : List ℕ) {m : ℕ} → m ≡ wordCount file → m ≡ 0 → 0 ≡ firstNotAbove file
 no-words file d e = clear-all clear-start (omega arith)
 
-order-bad-is : (file : List ℕ) (i : ℕ) {v w : Word} {b : Bool} → 0 < i → v ≡ heldWord (fileWord file (i - 1)) → w ≡ heldWord (fileWord file i)
+order-bad-is : (file : List ℕ) (i : ℕ) {v w : Word} {b : Bool} → 0 < i → v ≡ heldWord (fileWord file (i - 1))
+    → w ≡ heldWord (fileWord file i)
     → b ≡ isBefore (meantWord v) (meantWord w) → not b ≡ orderBad file i
 unfolding orderBad
 order-bad-is file zero h d e f = absurd (omega arith)

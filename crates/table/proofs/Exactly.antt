@@ -1,5 +1,6 @@
 -- The other direction: a file that is as document 01 asks is accepted, and `check` answers with a table exactly if no check finds anything.
--- Each condition of `Good` makes the test of its check false. An answer other than a table has a number other than 0, and an accepted file has 0.
+-- Each condition of `Good` makes the test of its check false. An answer other than a table has a number other than 0, and an accepted file
+-- has 0.
 use mathlib.Core.Path.{_≡_, refl, sym, ap, _∙_}
 use mathlib.Core.Bool.{true, false, not, true≢false, false≢true}
 use mathlib.Core.Logic.{_↔_}
@@ -15,7 +16,8 @@ use Rattle.trellis.specs.Word.{Word, wordAt, Before}
 use Rattle.trellis.proofs.Bools.{is-true}
 use Rattle.trellis.proofs.Lists.{in-each}
 use Rattle.trellis.proofs.ThreeNumbers.{lower-of}
-use Rattle.table.specs.File.{byteAt, wordCount, fileWord, fileWords, lengthBad, outside, sizeOutside, wordOutside, wordBad, isBefore, orderBad}
+use Rattle.table.specs.File.{byteAt, wordCount, fileWord, fileWords, lengthBad, outside, sizeOutside, wordOutside, wordBad, isBefore}
+use Rattle.table.specs.File.{orderBad}
 use Rattle.table.specs.File.{TableFile, refused, accepted, tableFile, fileOutcome}
 use Rattle.table.specs.inner.Good.{Passes, GoodFile}
 use Rattle.table.specs.inner.Answer.{checkedOutcome, isTable}
@@ -84,7 +86,8 @@ module _ (file : List ℕ) where
     good-order (suc i) h =
         let l = g .countIs in
         let a : i < wordCount file = omega arith in
-        let b : Before (wordAt (fileWords file) i) (wordAt (fileWords file) (suc i)) = g .table .ascends i (suc i) (omega arith) (omega arith) in
+        let b : Before (wordAt (fileWords file) i) (wordAt (fileWords file) (suc i)) =
+        g .table .ascends i (suc i) (omega arith) (omega arith) in
         let d : Before (fileWord file i) (fileWord file (suc i)) = rw (word-at-is file i a, word-at-is file (suc i) h) at b in
         let e : isBefore (fileWord file i) (fileWord file (suc i)) ≡ true = is-true _ (lower-of _ _ _ _ _ _ d) in
         ap not e
@@ -121,7 +124,8 @@ module _ (file : List ℕ) where
       let f : w ≡ length (fileWords file) = cc in
       (rw (a, b, d) x, f)
 
-  pub checked-refused : (r : Checked) → checkedOutcome r ≡ fileOutcome (tableFile file) → isTable r ≡ false → tableFile file ≡ refused (checkedOutcome r)
+  pub checked-refused : (r : Checked) → checkedOutcome r ≡ fileOutcome (tableFile file) → isTable r ≡ false
+      → tableFile file ≡ refused (checkedOutcome r)
   checked-refused r e h = refused-by r (tableFile file) e h
 
   pub checked-exactly : (r : Checked) → checkedOutcome r ≡ fileOutcome (tableFile file) → (isTable r ≡ true) ↔ Passes file

@@ -1,5 +1,5 @@
--- The order of words: what the comparisons of `is_before` say of `lower`, one law for each way out. `lower` compares in the order of the code's tests,
--- so each way out rewrites it by the tests that led there.
+-- The order of words: what the comparisons of `is_before` say of `lower`, one law for each way out. `lower` compares in the order of the
+-- code's tests, so each way out rewrites it by the tests that led there.
 use mathlib.Core.Path.{_≡_, sym}
 use mathlib.Core.Bool.{Bool, true, false}
 use Prim.Native.Nat.{ℕ, _≤_, _<_}

@@ -26,7 +26,8 @@ module _ (file : List ℕ) (right : lengthBad file ≡ false) where
   place-past zero h = omega arith
   place-past (suc k) h = go (ltb k (wordCount file)) refl (place-past k)
     where
-      go : (b : Bool) → ltb k (wordCount file) ≡ b → (wordCount file ≤ k → placeOf file k ≡ wordCount file) → placeAfter file (placeOf file k) ≡ wordCount file
+      go : (b : Bool) → ltb k (wordCount file) ≡ b → (wordCount file ≤ k → placeOf file k ≡ wordCount file)
+          → placeAfter file (placeOf file k) ≡ wordCount file
       go true e r =
           let l = ltb-true k (wordCount file) e in
           ap (placeAfter file) (place-within k (omega arith)) ∙ sym (goes-on file (sym right) refl refl l) ∙ omega arith

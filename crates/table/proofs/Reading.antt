@@ -1,5 +1,5 @@
--- How the code reads a file: each law takes what the calls on the way ensure, over plain variables, and gives the definition that is promised.
--- They hold because the code goes to the places that the definitions name.
+-- How the code reads a file: each law takes what the calls on the way ensure, over plain variables, and gives the definition that is
+-- promised. They hold because the code goes to the places that the definitions name.
 use mathlib.Core.Path.{_≡_, sym, _∙_}
 use mathlib.Core.Bool.{Bool, true, false, not}
 use mathlib.Core.List.{List}
@@ -22,7 +22,8 @@ module _ (file : List ℕ) where
   unfolding wordCount
   count-is a b e = e ∙ simp (a, b)
 
-  pub label-is : (i : ℕ) {w low high r : ℕ} → w ≡ wordCount file → low ≡ byteAt file (5 + 2 * w + 2 * i) → high ≡ byteAt file (5 + 2 * w + 2 * i + 1)
+  pub label-is : (i : ℕ) {w low high r : ℕ} → w ≡ wordCount file → low ≡ byteAt file (5 + 2 * w + 2 * i)
+      → high ≡ byteAt file (5 + 2 * w + 2 * i + 1)
       → r ≡ twoBytes low high → r ≡ fileWord file i .label
   unfolding fileWord
   label-is i a x y e = e ∙ simp (x, y, a)

@@ -1,5 +1,5 @@
--- A search for the first number that passes a test, as a loop makes it. Nothing below i passes: that holds at the start, a number that does not pass
--- keeps it, and a number that passes is then the first, of which there is only one.
+-- A search for the first number that passes a test, as a loop makes it. Nothing below i passes: that holds at the start, a number that does
+-- not pass keeps it, and a number that passes is then the first, of which there is only one.
 use mathlib.Core.Path.{_≡_, sym}
 use mathlib.Core.Bool.{Bool, true, false}
 use Prim.Native.Nat.{ℕ, _+_, _≤_, _<_}
@@ -25,7 +25,8 @@ module _ {test : ℕ → Bool} {m i : ℕ} (s : Clear test m i) where
   clear-found h e = sym (first-is test m i (record { most = s .within; hit = λ g. holds e; miss = λ j g t. fails (s .none j g) t }))
 
   pub clear-all : m ≤ i → i ≡ first test m
-  clear-all h = sym (first-is test m i (record { most = s .within; hit = λ g. absurd (omega arith); miss = λ j g t. fails (s .none j g) t }))
+  clear-all h = sym (first-is test m i
+      (record { most = s .within; hit = λ g. absurd (omega arith); miss = λ j g t. fails (s .none j g) t }))
 
 -- what it means that nothing is found
 pub none-passes : (test : ℕ → Bool) (m : ℕ) → m ≤ first test m → (j : ℕ) → j < m → test j ≡ false

@@ -1,5 +1,5 @@
-// A reader over the lent bytes of a table file: the slice, and the index of the word that comes next. The functions over it are thin; the work is done by
-// functions that take a slice and an index.
+// A reader over the lent bytes of a table file: the slice, and the index of the word that comes next. The functions over it are thin; the
+// work is done by functions that take a slice and an index.
 ghost use mathlib.Core.Path.{_≡_};
 ghost use Rattle.table.specs.File.{fileWord};
 ghost use Rattle.table.specs.inner.Answer.{heldWord, foundAt};
@@ -64,7 +64,8 @@ fn place_after(file: &[u8], i: u16) -> u16
 
 // The word that comes next, or the end. The reader moves on by one word, and at the end it stays.
 pub fn next<'s, 'a>(r: &'s mut Reader<'a>) -> Found
-    ensures { λ f. ⌜ (f ≡ foundAt (now (now (r .entry) .file)) (now (r .entry) .at)) × (now (r .exit) .file ≡ now (r .entry) .file) × (now (r .exit) .at ≡ placeAfter (now (now (r .entry) .file)) (now (r .entry) .at)) ⌝ }
+    ensures { λ f. ⌜ (f ≡ foundAt (now (now (r .entry) .file)) (now (r .entry) .at)) × (now (r .exit) .file ≡ now (r .entry) .file)
+        × (now (r .exit) .at ≡ placeAfter (now (now (r .entry) .file)) (now (r .entry) .at)) ⌝ }
 {
     let file = r.file;
     let at = r.at;

@@ -1,9 +1,10 @@
--- Ascending lists: putting the elements of a list in order, each once, keeps just the elements; and an element of an ascending list of numbers
--- stands at its rank. Each follows along the list, for any strict order in which every two elements can be compared.
+-- Ascending lists: putting the elements of a list in order, each once, keeps just the elements; and an element of an ascending list of
+-- numbers stands at its rank. Each follows along the list, for any strict order in which every two elements can be compared.
 use mathlib.Core.Path.{_≡_, refl, sym, ap, subst, _∙_}
 use mathlib.Core.Bool.{Bool, true, false}
 use mathlib.Core.Logic.{_⊎_, inl, inr}
-use mathlib.Core.List.{List, [], _∷_, _++_, List·Memᴰ·head, List·Memᴰ·tail, List·Memᴰ·not-nil, List·Memᴰ·cases-cons, List·Memᴰ·append-cases, List·Memᴰ·eq-of-singleton, Memᴰ·append-left, Memᴰ·append-right, Memᴰ·cast}
+use mathlib.Core.List.{List, [], _∷_, _++_, List·Memᴰ·head, List·Memᴰ·tail, List·Memᴰ·not-nil, List·Memᴰ·cases-cons, List·Memᴰ·append-cases}
+use mathlib.Core.List.{List·Memᴰ·eq-of-singleton, Memᴰ·append-left, Memᴰ·append-right, Memᴰ·cast}
 use Prim.Native.Nat.{ℕ, zero, suc, _+_, _≤_, _<_}
 use native.Mathlib.Omega.{arith}
 use native.Mathlib.Decide.{ℕ-discrete, decLt}
@@ -133,7 +134,8 @@ module _ {A : Type 0} (less : A → A → Bool) (O : Orders less) where
   ascends-same [] (y ∷ k) a b f g = absurd (List·Memᴰ·not-nil (g y (List·Memᴰ·head refl)))
   ascends-same (x ∷ l) [] a b f g = absurd (List·Memᴰ·not-nil (f x (List·Memᴰ·head refl)))
   ascends-same (x ∷ l) (y ∷ k) a b f g =
-      λ i. heads i ∷ ascends-same l k (a .1) (b .1) (λ z m. tail-of z (f z (List·Memᴰ·tail m)) (λ e. O .never x (subst (λ w. T (less x w)) (e ∙ sym heads) (a .0 z m))))
+      λ i. heads i ∷ ascends-same l k (a .1) (b .1)
+      (λ z m. tail-of z (f z (List·Memᴰ·tail m)) (λ e. O .never x (subst (λ w. T (less x w)) (e ∙ sym heads) (a .0 z m))))
       (λ z m. tail-to z (g z (List·Memᴰ·tail m)) (λ e. O .never y (subst (λ w. T (less y w)) (e ∙ heads) (b .0 z m)))) i
     where
       heads : x ≡ y
@@ -161,7 +163,8 @@ module _ {A : Type 0} (less : A → A → Bool) (O : Orders less) where
 
   -- one value more: it is there already, or it comes after all others
   pub ascending-old : (f : ℕ → A) (m : ℕ) → f m ∈ each f m → ascending less (each f (suc m)) ≡ ascending less (each f m)
-  ascending-old f m h = ascends-same (ascending less (each f (suc m))) (ascending less (each f m)) (ascends (each f (suc m))) (ascends (each f m))
+  ascending-old f m h =
+      ascends-same (ascending less (each f (suc m))) (ascending less (each f m)) (ascends (each f (suc m))) (ascends (each f m))
       (λ x k. in-ascending x (each f m) (back x (of-each f (suc m) x (of-ascending x (each f (suc m)) k))))
       (λ x k. in-ascending x (each f (suc m)) (more f m x (of-ascending x (each f m) k)))
     where
@@ -172,7 +175,8 @@ module _ {A : Type 0} (less : A → A → Bool) (O : Orders less) where
           go (yes e) = Memᴰ·cast (F .is ∙ ap f e) h
           go (no e) = in-each f m (F .at) x (omega (arith, F .below)) (F .is)
 
-  pub ascending-new : (f : ℕ → A) (m : ℕ) → ((j : ℕ) → j < m → T (less (f j) (f m))) → ascending less (each f (suc m)) ≡ ascending less (each f m) ++ (f m ∷ [])
+  pub ascending-new : (f : ℕ → A) (m : ℕ) → ((j : ℕ) → j < m → T (less (f j) (f m)))
+      → ascending less (each f (suc m)) ≡ ascending less (each f m) ++ (f m ∷ [])
   ascending-new f m h = ascends-same (ascending less (each f (suc m))) (ascending less (each f m) ++ (f m ∷ [])) (ascends (each f (suc m)))
       (ascends-snoc (ascending less (each f m)) (f m) (ascends (each f m)) (λ y k. above y (of-each f m y (of-ascending y (each f m) k))))
       (λ x k. split x (of-each f (suc m) x (of-ascending x (each f (suc m)) k)))
@@ -229,11 +233,13 @@ ranked (x ∷ l) s a m = go (λ u. ranked l s (a .1) u) (List·Memᴰ·cases-con
     after : (y : ℕ) → y ∈ l → x < y
     after y u = ltb→lt x y (a .0 y u)
 
-    here : s ≡ x → (b : Bool) → ltb x s ≡ b → rank s l ≡ 0 → (one-if b + rank s l < suc (length l)) × (getD (x ∷ l) (one-if b + rank s l) 0 ≡ s)
+    here : s ≡ x → (b : Bool) → ltb x s ≡ b → rank s l ≡ 0 → (one-if b + rank s l < suc (length l))
+        × (getD (x ∷ l) (one-if b + rank s l) 0 ≡ s)
     here e true f r = let k = ltb→lt x s (holds f) in absurd (omega arith)
     here e false f r = let z : 0 + rank s l ≡ 0 = omega arith in (omega arith, rw z (sym e))
 
-    there : x < s → Ranked l s → (b : Bool) → ltb x s ≡ b → (one-if b + rank s l < suc (length l)) × (getD (x ∷ l) (one-if b + rank s l) 0 ≡ s)
+    there : x < s → Ranked l s → (b : Bool) → ltb x s ≡ b → (one-if b + rank s l < suc (length l))
+        × (getD (x ∷ l) (one-if b + rank s l) 0 ≡ s)
     there h r true f = let z : 1 + rank s l ≡ suc (rank s l) = omega arith in let k = r .below in (omega arith, rw z (r .is))
     there h r false f = absurd (fails f (lt→ltb x s h))
 
@@ -284,7 +290,8 @@ unfolding rank
 rank-less [] s z m h = absurd (List·Memᴰ·not-nil m)
 rank-less (x ∷ l) s z m h = go (List·Memᴰ·cases-cons m) (ltb x s) refl (ltb x z) refl (rank-less l s z) (rank-le l s z h)
   where
-    go : (s ≡ x) ⊎ (s ∈ l) → (p : Bool) → ltb x s ≡ p → (q : Bool) → ltb x z ≡ q → (s ∈ l → s < z → rank s l < rank z l) → rank s l ≤ rank z l
+    go : (s ≡ x) ⊎ (s ∈ l) → (p : Bool) → ltb x s ≡ p → (q : Bool) → ltb x z ≡ q → (s ∈ l → s < z → rank s l < rank z l)
+        → rank s l ≤ rank z l
         → one-if p + rank s l < one-if q + rank z l
     go (inl e) true f q g r w = let k = ltb→lt x s (holds f) in absurd (omega arith)
     go (inl e) false f true g r w = omega arith

@@ -14,7 +14,8 @@ over-front vs l j h = List·getD-append vs (drop (length vs) l) 0 j h
 over-behind : (vs l : List ℕ) (j : ℕ) → length vs ≤ j → getD (over vs l) j 0 ≡ getD l j 0
 over-behind vs l j h =
     let e : j ≡ length vs + (j - length vs) = omega arith in
-    ap (λ k. getD (over vs l) k 0) e ∙ getD-append-add vs (drop (length vs) l) (j - length vs) 0 ∙ getD-drop (length vs) l (j - length vs) 0 ∙ ap (λ k. getD l k 0) (sym e)
+    ap (λ k. getD (over vs l) k 0) e ∙ getD-append-add vs (drop (length vs) l) (j - length vs) 0 ∙ getD-drop (length vs) l (j - length vs) 0
+    ∙ ap (λ k. getD l k 0) (sym e)
 
 pub over-length : (vs l : List ℕ) → length vs ≤ length l → length (over vs l) ≡ length l
 over-length vs l h = omega (arith, length-append vs (drop (length vs) l), length-drop (length vs) l)
@@ -29,5 +30,7 @@ over-is vs l new h e front behind = ext-getD 0 new (over vs l) (e ∙ sym (over-
     go j (no q) = behind j (omega arith) ∙ sym (over-behind vs l j (omega arith))
 
 -- buffers that agree beyond a front are alike under it
-pub over-same : (vs l k : List ℕ) → length vs ≤ length l → length k ≡ length l → ((j : ℕ) → length vs ≤ j → getD k j 0 ≡ getD l j 0) → over vs k ≡ over vs l
-over-same vs l k h e behind = over-is vs l (over vs k) h (over-length vs k (omega arith) ∙ e) (λ j q. over-front vs k j q) (λ j q. over-behind vs k j q ∙ behind j q)
+pub over-same : (vs l k : List ℕ) → length vs ≤ length l → length k ≡ length l → ((j : ℕ) → length vs ≤ j → getD k j 0 ≡ getD l j 0)
+    → over vs k ≡ over vs l
+over-same vs l k h e behind =
+    over-is vs l (over vs k) h (over-length vs k (omega arith) ∙ e) (λ j q. over-front vs k j q) (λ j q. over-behind vs k j q ∙ behind j q)

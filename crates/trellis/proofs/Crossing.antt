@@ -1,5 +1,6 @@
--- Paths of a drawn section that meet can be crossed: where the paths of two words meet at an inner depth, the beginning of the one followed by the
--- ending of the other is a word. The first half of the one path and the second half of the other are a path, and every path carries a word.
+-- Paths of a drawn section that meet can be crossed: where the paths of two words meet at an inner depth, the beginning of the one followed
+-- by the ending of the other is a word. The first half of the one path and the second half of the other are a path, and every path carries
+-- a word.
 use mathlib.Core.Path.{_≡_, refl, sym, ap, _∙_}
 use mathlib.Core.List.{List, Memᴰ·cast}
 use Prim.Native.Nat.{ℕ, suc, _-_, _^_, _≤_, _<_}
@@ -90,10 +91,13 @@ module _ (n : ℕ) (table : List Word) (D : Drawing) (H : DrawnFor n table D) wh
       where
         go : (u : ℕ) → u < n → Dec (u < t) → edge (cut t x y u) (symbols u) (cut t x y (suc u)) ∈ D .edges u
         go u h (yes p) = Memᴰ·cast
-            (λ k. edge (cut-upto t x y u e (omega arith) k) (cut-front t (λ u. symbol n u (v .label)) (λ u. symbol n u (w .label)) u p k) (cut-upto t x y (suc u) e p k))
+            (λ k. edge (cut-upto t x y u e (omega arith) k) (cut-front t (λ u. symbol n u (v .label)) (λ u. symbol n u (w .label)) u p k)
+            (cut-upto t x y (suc u) e p k))
             (P .takes u h)
         go u h (no p) = Memᴰ·cast
-            (λ k. edge (cut-back t x y u (omega arith) k) (cut-back t (λ u. symbol n u (v .label)) (λ u. symbol n u (w .label)) u (omega arith) k) (cut-back t x y (suc u) (omega arith) k))
+            (λ k. edge (cut-back t x y u (omega arith) k)
+            (cut-back t (λ u. symbol n u (v .label)) (λ u. symbol n u (w .label)) u (omega arith) k)
+            (cut-back t x y (suc u) (omega arith) k))
             (Q .takes u h)
 
     pub crossed : 0 < t → t < n → ((z : Word) → z ∈ table → z .label < 4 ^ n) → v ∈ table → joined n t v w ∈ table
@@ -102,7 +106,8 @@ module _ (n : ℕ) (table : List Word) (D : Drawing) (H : DrawnFor n table D) wh
         let z = K .word in
         let r : z .root ≡ v .root = sym (K .carried .root) ∙ ap (D .rootOf) (cut-front t x y 0 a) ∙ P .root in
         let g : z .goal ≡ w .goal = sym (K .carried .goal) ∙ ap (D .goalOf) (cut-back t x y n (omega arith)) ∙ Q .goal in
-        let f : front n t (z .label) ≡ front n t (v .label) = front-by-symbols n t (z .label) (v .label) (omega arith) (fits z (K .listed)) (fits v mv)
+        let f : front n t (z .label) ≡ front n t (v .label) =
+        front-by-symbols n t (z .label) (v .label) (omega arith) (fits z (K .listed)) (fits v mv)
         (λ u h. sym (K .carried .symbols u (omega arith)) ∙ cut-front t _ _ u h) in
         let k : back n t (z .label) ≡ back n t (w .label) = back-by-symbols n (n - t) t (z .label) (w .label) (omega arith)
         (λ u h l. sym (K .carried .symbols u l) ∙ cut-back t _ _ u h) in

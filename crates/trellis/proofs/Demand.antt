@@ -1,5 +1,5 @@
--- Demand 3 for the definitions: of all sections that anyone can draw for a rectangular table, ours is the least, and it is itself such a section.
--- Our counts are the numbers of different vertices and edges of the words' paths, to which the theorem of Least applies.
+-- Demand 3 for the definitions: of all sections that anyone can draw for a rectangular table, ours is the least, and it is itself such a
+-- section. Our counts are the numbers of different vertices and edges of the words' paths, to which the theorem of Least applies.
 use mathlib.Core.Path.{_≡_, refl, sym, subst, _∙_}
 use mathlib.Core.Logic.{_↔_}
 use mathlib.Core.List.{List, Memᴰ·cast}
@@ -42,7 +42,8 @@ module _ (n : ℕ) (table : List Word) where
 
     counted-vertices : (t : ℕ) → t ≤ n → vcount (symbolAt n table) (vertexOf n table) (length table) t ≡ vertexCount n table t
     counted-vertices t h =
-        sym (length-distinct eqb eqb→eq eqb-refl (upto (vertexOf n table t) (length table)) (ours n table .vertices t) (drawn .noneTwice t h)
+        sym (length-distinct eqb eqb→eq eqb-refl (upto (vertexOf n table t) (length table)) (ours n table .vertices t)
+        (drawn .noneTwice t h)
         (λ v m. let F = vertex-of n table t v m in in-upto (vertexOf n table t) (length table) (F .at) v (F .below) (F .is))
         (λ v m. let F = from-upto (vertexOf n table t) (length table) v m in Memᴰ·cast (F .is) (vertex-in n table t (F .at) (F .below))))
         ∙ own-vertices t
@@ -60,7 +61,8 @@ module _ (n : ℕ) (table : List Word) where
       own = drawn;
       ownVertices = λ t h. sym (own-vertices t);
       ownEdges = λ t h. sym (own-edges t);
-      least = λ D H. same-counts n _ _ (vertexCount n table) (edgeCount n table) D counted-vertices counted-edges (least n table G (vertexOf n table) numbering D H);
+      least = λ D H. same-counts n _ _ (vertexCount n table) (edgeCount n table) D counted-vertices counted-edges
+          (least n table G (vertexOf n table) numbering D H);
     }
 
     -- a word of n symbols is on a path of our section exactly if it is a word of the table
@@ -78,7 +80,8 @@ module _ (n : ℕ) (table : List Word) where
             label z h s = by-symbols n (w .label) (z .label) fits h s
 
     -- our selections take away no more than there is
-    pub own-exact : selections n (vertexCount n table) (edgeCount n table) + allVertices n (vertexCount n table) ≡ additions n (edgeCount n table) + vertexCount n table 0
+    pub own-exact : selections n (vertexCount n table) (edgeCount n table) + allVertices n (vertexCount n table) ≡ additions n
+        (edgeCount n table) + vertexCount n table 0
     unfolding ours edgeCount
     own-exact = subst (λ v. selections n v (edgeCount n table) + allVertices n v ≡ additions n (edgeCount n table) + v 0)
         (λ k t. own-vertices t k) (exact n table (ours n table) drawn)

@@ -1,5 +1,6 @@
--- How many different values a list holds, and the pigeonhole in two laws: values that all stand in a list are no more than it is long, and a list
--- without repeats is no longer than the different values it is taken from. By taking one element after another out of the longer list.
+-- How many different values a list holds, and the pigeonhole in two laws: values that all stand in a list are no more than it is long, and
+-- a list without repeats is no longer than the different values it is taken from. By taking one element after another out of the longer
+-- list.
 use mathlib.Core.Path.{_≡_, refl, sym, ap, subst, _∙_}
 use mathlib.Core.Bool.{Bool, true, false}
 use mathlib.Core.Logic.{_⊎_, inl, inr}
@@ -99,8 +100,24 @@ module _ {A : Type 0} (eq : A → A → Bool) where
         lone w u o (inr v) = w .once (o .1) .1 v
 
         go : (x ∈ l → Without x l) → (x ≡ y) ⊎ (x ∈ l) → Without x (y ∷ l)
-        go r (inl e) = record { rest = l; shorter = refl; keeps = λ z u n. here z e n (List·Memᴰ·cases-cons u); part = λ z u. List·Memᴰ·tail u; once = λ o. (o .1, λ u. o .0 (Memᴰ·cast (sym e) u)) }
-        go r (inr u) = let w = r u in record { rest = y ∷ w .rest; shorter = ap suc (w .shorter); keeps = λ z v n. keep w z n (List·Memᴰ·cases-cons v); part = λ z v. back w z (List·Memᴰ·cases-cons v); once = λ o. ((λ v. o .0 (w .part y v), w .once (o .1) .0), λ v. lone w u o (List·Memᴰ·cases-cons v)) }
+        go r (inl e) = record {
+          rest = l;
+          shorter = refl;
+          keeps = λ z u n. here z e n (List·Memᴰ·cases-cons u);
+          part =
+              λ z u. List·Memᴰ·tail u;
+          once = λ o. (o .1, λ u. o .0 (Memᴰ·cast (sym e) u));
+        }
+        go r (inr u) = let w = r u in
+            record {
+              rest = y ∷ w .rest;
+              shorter = ap suc (w .shorter);
+              keeps = λ z v n. keep w z n (List·Memᴰ·cases-cons v);
+              part =
+                  λ z v. back w z (List·Memᴰ·cases-cons v);
+              once =
+                  λ o. ((λ v. o .0 (w .part y v), w .once (o .1) .0), λ v. lone w u o (List·Memᴰ·cases-cons v));
+            }
 
     -- values that all stand in L are no more than L is long
     pub distinct-le : (l L : List A) → ((x : A) → x ∈ l → x ∈ L) → distinct l ≤ length L
@@ -109,7 +126,8 @@ module _ {A : Type 0} (eq : A → A → Bool) where
     distinct-le (x ∷ l) L h = go (distinct-le l) (look x l) (pluck x L (h x (List·Memᴰ·head refl)))
       where
         go : ((K : List A) → ((y : A) → y ∈ l → y ∈ K) → distinct l ≤ length K) → Known x l → Without x L → new x l + distinct l ≤ length L
-        go r (inl f) w = let d : distinct l ≤ length (w .rest) = r (w .rest) (λ y m. w .keeps y (h y (List·Memᴰ·tail m)) (λ e. f .never (Memᴰ·cast (sym e) m))) in omega arith
+        go r (inl f) w = let d : distinct l ≤ length (w .rest) =
+            r (w .rest) (λ y m. w .keeps y (h y (List·Memᴰ·tail m)) (λ e. f .never (Memᴰ·cast (sym e) m))) in omega arith
         go r (inr s) w = let d : distinct l ≤ length L = r L (λ y m. h y (List·Memᴰ·tail m)) in omega arith
 
     -- a list without repeats whose values all stand in l is no longer than the different values of l
@@ -127,12 +145,16 @@ module _ {A : Type 0} (eq : A → A → Bool) where
         other y n (inl e) = absurd (n e)
         other y n (inr u) = u
 
-        go : ((K : List A) → Once K → ((y : A) → y ∈ K → y ∈ l) → length K ≤ distinct l) → Known x l → Known x L → length L ≤ new x l + distinct l
+        go : ((K : List A) → Once K → ((y : A) → y ∈ K → y ∈ l) → length K ≤ distinct l) → Known x l → Known x L
+            → length L ≤ new x l + distinct l
         go r (inr s) g = let d : length L ≤ distinct l = r L o (λ y m. old y (s .seen) (List·Memᴰ·cases-cons (h y m))) in omega arith
-        go r (inl f) (inl g) = let d : length L ≤ distinct l = r L o (λ y m. other y (λ e. g .never (Memᴰ·cast (sym e) m)) (List·Memᴰ·cases-cons (h y m))) in omega arith
+        go r (inl f) (inl g) = let d : length L ≤ distinct l =
+            r L o (λ y m. other y (λ e. g .never (Memᴰ·cast (sym e) m)) (List·Memᴰ·cases-cons (h y m))) in omega arith
         go r (inl f) (inr g) =
             let w = pluck x L (g .seen) in
-            let d : length (w .rest) ≤ distinct l = r (w .rest) (w .once o .0) (λ y m. other y (λ e. w .once o .1 (Memᴰ·cast (sym e) m)) (List·Memᴰ·cases-cons (h y (w .part y m)))) in
+            let d : length (w .rest) ≤ distinct l =
+            r (w .rest) (w .once o .0)
+            (λ y m. other y (λ e. w .once o .1 (Memᴰ·cast (sym e) m)) (List·Memᴰ·cases-cons (h y (w .part y m)))) in
             let e = w .shorter in
             omega arith
 

@@ -1,6 +1,6 @@
--- Word by word, a new edge of our section comes after all edges before it: so the edges that words take, each at the first word that takes it, already
--- stand in the order from, symbol, to. The first word on an edge begins like the first word of the edge's vertex; words that begin so stand together, in
--- the order of their vertices, and within one vertex in the order of their symbols and goals.
+-- Word by word, a new edge of our section comes after all edges before it: so the edges that words take, each at the first word that takes
+-- it, already stand in the order from, symbol, to. The first word on an edge begins like the first word of the edge's vertex; words that
+-- begin so stand together, in the order of their vertices, and within one vertex in the order of their symbols and goals.
 use mathlib.Core.Path.{_≡_, refl, sym, ap, ap₂, subst, _∙_}
 use mathlib.Core.Bool.{Bool, true, false}
 use mathlib.Core.List.{List}
@@ -19,8 +19,10 @@ use Rattle.trellis.proofs.Bools.{holds, fails}
 use Rattle.trellis.proofs.Lists.{First, first-ok}
 use Rattle.trellis.proofs.ThreeNumbers.{lower-of, lower-never, lower-chain, sameEdge}
 use Rattle.trellis.proofs.Labels.{front-mono, symbol-back, back-step, front-suc, front-all, front-none, symbol-lower}
-use Rattle.trellis.proofs.Words.{word-in, index, comes-first, beginning-root, beginning-front, beginning-eq, ending-back, ending-goal, ending-eq, joined-beginning, joined-ending}
-use Rattle.trellis.proofs.Vertices.{Numbering, own-numbering, key-root, key-goal, key-inner, vertex-key, vertex-less, shares-yes, first-le, first-shares}
+use Rattle.trellis.proofs.Words.{word-in, index, comes-first, beginning-root, beginning-front, beginning-eq, ending-back}
+use Rattle.trellis.proofs.Words.{ending-goal, ending-eq, joined-beginning, joined-ending}
+use Rattle.trellis.proofs.Vertices.{Numbering, own-numbering, key-root, key-goal, key-inner, vertex-key, vertex-less, shares-yes}
+use Rattle.trellis.proofs.Vertices.{first-le, first-shares}
 use Rattle.trellis.proofs.Paths.{edge-eq, edge-ok, edge-rf}
 use Rattle.trellis.proofs.OwnPaths.{joined-first, begun, ended}
 use Rattle.trellis.proofs.Witness.{begins-yes, begins-of}
@@ -39,7 +41,8 @@ beginnings-order n t v w v′ w′ b d p q = go b
 
         lower : Dec (v′ .label < w′ .label) → v′ .label < w′ .label
         lower (yes h) = h
-        lower (no h) = absurd (omega (arith, fronts, front-mono n t {x = w′ .label} {y = v′ .label} (omega arith), beginning-front p, beginning-front q))
+        lower (no h) = absurd
+            (omega (arith, fronts, front-mono n t {x = w′ .label} {y = v′ .label} (omega arith), beginning-front p, beginning-front q))
     go (byThird r l g) = absurd (d (beginning-eq r (ap (front n t) l)))
 
 module _ (n : ℕ) (table : List Word) (G : Table n table) (R : Rectangular n table) (t : ℕ) (deep : t < n) where
@@ -57,7 +60,8 @@ module _ (n : ℕ) (table : List Word) (G : Table n table) (R : Rectangular n ta
   New i = (j : ℕ) → j < i → edgeOf n table t j ≡ edgeOf n table t i → ⊥
 
   -- a word that shares i's vertex and ends like i takes i's edge
-  same-edge : (k i : ℕ) → k < length table → i < length table → c t k ≡ c t i → ending n t (at k) ≡ ending n t (at i) → edgeOf n table t k ≡ edgeOf n table t i
+  same-edge : (k i : ℕ) → k < length table → i < length table → c t k ≡ c t i → ending n t (at k) ≡ ending n t (at i)
+      → edgeOf n table t k ≡ edgeOf n table t i
   same-edge k i a b e m = edge-eq e
       (symbol-back n t (at k .label) (at i .label) deep (ending-back m))
       (ended n table G (vertexOf n table) O (suc t) k i (omega arith) deep a b
@@ -69,7 +73,8 @@ module _ (n : ℕ) (table : List Word) (G : Table n table) (R : Rectangular n ta
     h i = firstSharing n table t i
 
     lead-vertex : (i : ℕ) → i < length table → c t (h i) ≡ c t i
-    lead-vertex i b = O .inner t inner deep (h i) i (omega (arith, first-le n table t i)) b .1 (shares-yes n table t (h i) i (first-shares n table t i b))
+    lead-vertex i b = O .inner t inner deep (h i) i (omega (arith, first-le n table t i)) b .1
+        (shares-yes n table t (h i) i (first-shares n table t i b))
 
     pub leads-run : (i : ℕ) → i < length table → New i → (beginning n t (at (h i)) ≡ beginning n t (at i) → ⊥) → ⊥
     leads-run i b fresh d =
@@ -80,7 +85,8 @@ module _ (n : ℕ) (table : List Word) (G : Table n table) (R : Rectangular n ta
         (subst (λ v. Before v (wordAt table i)) (sym (K .is)) (joined-first n table G t (h i) i less b d)) in
         let p : c t (K .at) ≡ c t (h i) = begun n table G (vertexOf n table) O t (K .at) (h i) deep (K .below) (omega arith)
         (sym (ap (beginning n t) (K .is) ∙ joined-beginning n t (at (h i)) (at i))) in
-        fresh (K .at) f (same-edge (K .at) i (K .below) b (p ∙ lead-vertex i b) (ap (ending n t) (K .is) ∙ joined-ending n t (at (h i)) (at i)))
+        fresh (K .at) f (same-edge (K .at) i (K .below) b (p ∙ lead-vertex i b)
+        (ap (ending n t) (K .is) ∙ joined-ending n t (at (h i)) (at i)))
 
     pub leads : (i : ℕ) → i < length table → New i → beginning n t (at (h i)) ≡ beginning n t (at i)
     leads i b fresh = go (sameBeginning n t (at (h i)) (at i)) refl
@@ -88,7 +94,8 @@ module _ (n : ℕ) (table : List Word) (G : Table n table) (R : Rectangular n ta
         go : (s : Bool) → sameBeginning n t (wordAt table (firstSharing n table t i)) (wordAt table i) ≡ s
             → beginning n t (wordAt table (firstSharing n table t i)) ≡ beginning n t (wordAt table i)
         go true e = begins-yes n t (wordAt table (firstSharing n table t i)) (wordAt table i) (holds e)
-        go false e = absurd (leads-run i b fresh (λ p. fails e (begins-of n t (wordAt table (firstSharing n table t i)) (wordAt table i) p)))
+        go false e = absurd (leads-run i b fresh
+            (λ p. fails e (begins-of n t (wordAt table (firstSharing n table t i)) (wordAt table i) p)))
 
   -- ---- two words that are the first on their edges, j before i
 
@@ -103,7 +110,8 @@ module _ (n : ℕ) (table : List Word) (G : Table n table) (R : Rectangular n ta
     vertices-rise : (c t j ≡ c t i → ⊥) → c t j < c t i
     vertices-rise d = vertex-less n table t j i (omega arith) (keys-rise (ℕ-discrete t 0))
       where
-        roots : Lower (at j .root) (at j .label) (at j .goal) (at i .root) (at i .label) (at i .goal) → (at j .root ≡ at i .root → ⊥) → at j .root < at i .root
+        roots : Lower (at j .root) (at j .label) (at j .goal) (at i .root) (at i .label) (at i .goal) → (at j .root ≡ at i .root → ⊥)
+            → at j .root < at i .root
         roots (byFirst p) e = p
         roots (bySecond p q) e = absurd (e p)
         roots (byThird p q r) e = absurd (e p)
@@ -111,15 +119,18 @@ module _ (n : ℕ) (table : List Word) (G : Table n table) (R : Rectangular n ta
         differ : key n table t j ≡ key n table t i → ⊥
         differ e = d (vertex-key n table t j i (omega arith) b .1 e)
 
-        inner-rise : (inner : 0 < t) → Dec (firstSharing n table t i < firstSharing n table t j) → firstSharing n table t j < firstSharing n table t i
-        inner-rise inner (no p) = lt-of-le-ne (omega arith) (λ e. differ (key-inner n table t j inner deep ∙ e ∙ sym (key-inner n table t i inner deep)))
+        inner-rise : (inner : 0 < t) → Dec (firstSharing n table t i < firstSharing n table t j)
+            → firstSharing n table t j < firstSharing n table t i
+        inner-rise inner (no p) =
+            lt-of-le-ne (omega arith) (λ e. differ (key-inner n table t j inner deep ∙ e ∙ sym (key-inner n table t i inner deep)))
         inner-rise inner (yes p) =
             let x = firstSharing n table t i in
             let y = firstSharing n table t j in
             let k = first-le n table t j in
             let m = first-le n table t i in
             let apart : beginning n t (wordAt table x) ≡ beginning n t (wordAt table y) → ⊥ = λ e.
-            d (sym (lead-vertex inner j (omega arith)) ∙ begun n table G (vertexOf n table) O t y x deep (omega arith) (omega arith) e ∙ lead-vertex inner i b) in
+            d (sym (lead-vertex inner j (omega arith)) ∙ begun n table G (vertexOf n table) O t y x deep (omega arith) (omega arith) e
+            ∙ lead-vertex inner i b) in
             absurd (lower-never _ _ _ (lower-chain before
             (beginnings-order n t (wordAt table x) (wordAt table y) (wordAt table i) (wordAt table j) (G .ascends x y p (omega arith)) apart
             (sym (leads inner i b fresh)) (sym (leads inner j (omega arith) first)))))
@@ -131,7 +142,12 @@ module _ (n : ℕ) (table : List Word) (G : Table n table) (R : Rectangular n ta
             omega (arith, same i, same j)
         keys-rise (no e) =
             let inner : 0 < t = omega arith in
-            omega (arith, key-inner n table t j inner deep, key-inner n table t i inner deep, inner-rise inner (decLt (firstSharing n table t i) (firstSharing n table t j)))
+            omega (
+              arith,
+              key-inner n table t j inner deep,
+              key-inner n table t i inner deep,
+              inner-rise inner (decLt (firstSharing n table t i) (firstSharing n table t j)),
+            )
 
     -- at one vertex the words begin alike
     begin-alike : c t j ≡ c t i → beginning n t (at j) ≡ beginning n t (at i)
@@ -139,11 +155,13 @@ module _ (n : ℕ) (table : List Word) (G : Table n table) (R : Rectangular n ta
       where
         go : Dec (t ≡ 0) → beginning n t (wordAt table j) ≡ beginning n t (wordAt table i)
         go (yes z) =
-            let r : wordAt table j .root ≡ wordAt table i .root = O .roots j i (omega arith) b .0 (subst (λ u. vertexOf n table u j ≡ vertexOf n table u i) z e) in
+            let r : wordAt table j .root ≡ wordAt table i .root =
+            O .roots j i (omega arith) b .0 (subst (λ u. vertexOf n table u j ≡ vertexOf n table u i) z e) in
             beginning-eq r (ap (λ u. front n u (wordAt table j .label)) z ∙ fronts ∙ sym (ap (λ u. front n u (wordAt table i .label)) z))
           where
             fronts : front n 0 (wordAt table j .label) ≡ front n 0 (wordAt table i .label)
-            fronts = front-none n (wordAt table j .label) (G .fits _ (word-in table j (omega arith))) ∙ sym (front-none n (wordAt table i .label) (G .fits _ (word-in table i b)))
+            fronts = front-none n (wordAt table j .label) (G .fits _ (word-in table j (omega arith)))
+                ∙ sym (front-none n (wordAt table i .label) (G .fits _ (word-in table i b)))
         go (no z) =
             let inner : 0 < t = omega arith in
             let k : key n table t j ≡ key n table t i = vertex-key n table t j i (omega arith) b .0 e in
@@ -159,40 +177,48 @@ module _ (n : ℕ) (table : List Word) (G : Table n table) (R : Rectangular n ta
         longer =
             let m = begin-alike e in
             beginning-eq (beginning-root m)
-            (front-suc n t (wordAt table j .label) deep ∙ ap₂ (λ x y. x * 4 + y) (beginning-front m) s ∙ sym (front-suc n t (wordAt table i .label) deep))
+            (front-suc n t (wordAt table j .label) deep ∙ ap₂ (λ x y. x * 4 + y) (beginning-front m) s
+            ∙ sym (front-suc n t (wordAt table i .label) deep))
 
         go : Dec (suc t < n) → vertexOf n table (suc t) j < vertexOf n table (suc t) i
         go (yes q) = absurd (fresh j less (edge-eq e s (sym (begun n table G (vertexOf n table) O (suc t) i j q b (omega arith) longer))))
         go (no q) =
             let d : suc t ≡ n = omega arith in
-            subst (λ u. vertexOf n table u j < vertexOf n table u i) (sym d) (goals-rise before (subst (λ u. beginning n u (wordAt table j) ≡ beginning n u (wordAt table i)) d longer))
+            subst (λ u. vertexOf n table u j < vertexOf n table u i) (sym d)
+            (goals-rise before (subst (λ u. beginning n u (wordAt table j) ≡ beginning n u (wordAt table i)) d longer))
           where
             by-goal : wordAt table j .goal < wordAt table i .goal → vertexOf n table n j < vertexOf n table n i
             by-goal g = vertex-less n table n j i (omega arith) (omega (arith, key-goal n table j (G .some), key-goal n table i (G .some)))
 
-            goals-rise : Lower (at j .root) (at j .label) (at j .goal) (at i .root) (at i .label) (at i .goal) → beginning n n (wordAt table j) ≡ beginning n n (wordAt table i)
+            goals-rise : Lower (at j .root) (at j .label) (at j .goal) (at i .root) (at i .label) (at i .goal)
+                → beginning n n (wordAt table j) ≡ beginning n n (wordAt table i)
                 → vertexOf n table n j < vertexOf n table n i
             goals-rise (byFirst p) m = absurd (omega (arith, beginning-root m))
-            goals-rise (bySecond p x) m = absurd (omega (arith, front-all n (wordAt table j .label), front-all n (wordAt table i .label), beginning-front m))
+            goals-rise (bySecond p x) m =
+                absurd (omega (arith, front-all n (wordAt table j .label), front-all n (wordAt table i .label), beginning-front m))
             goals-rise (byThird p x g) m = by-goal g
 
     -- so the edges of both stand in order
     pub edges-rise : T (edgeLess (edgeOf n table t j) (edgeOf n table t i))
     edges-rise = lower-of _ _ _ _ _ _ (go (ℕ-discrete (c t j) (c t i)))
       where
-        symbols-rise : vertexOf n table t j ≡ vertexOf n table t i → Dec (symbol n t (wordAt table j .label) < symbol n t (wordAt table i .label))
+        symbols-rise : vertexOf n table t j ≡ vertexOf n table t i
+            → Dec (symbol n t (wordAt table j .label) < symbol n t (wordAt table i .label))
             → Dec (symbol n t (wordAt table j .label) ≡ symbol n t (wordAt table i .label))
-            → Lower (vertexOf n table t j) (symbol n t (wordAt table j .label)) (vertexOf n table (suc t) j) (vertexOf n table t i) (symbol n t (wordAt table i .label)) (vertexOf n table (suc t) i)
+            → Lower (vertexOf n table t j) (symbol n t (wordAt table j .label)) (vertexOf n table (suc t) j) (vertexOf n table t i)
+            (symbol n t (wordAt table i .label)) (vertexOf n table (suc t) i)
         symbols-rise e (yes p) q = bySecond e p
         symbols-rise e (no p) (yes q) = byThird e q (ends-rise e q)
         symbols-rise e (no p) (no q) = absurd (lower-never _ _ _ (lower-chain before (behind (begin-alike e))))
           where
             -- a smaller symbol behind one beginning is a smaller word
             behind : beginning n t (wordAt table j) ≡ beginning n t (wordAt table i) → Before (wordAt table i) (wordAt table j)
-            behind m = bySecond (sym (beginning-root m)) (symbol-lower n t (wordAt table i .label) (wordAt table j .label) deep (sym (beginning-front m)) (omega arith))
+            behind m = bySecond (sym (beginning-root m))
+                (symbol-lower n t (wordAt table i .label) (wordAt table j .label) deep (sym (beginning-front m)) (omega arith))
 
         go : Dec (vertexOf n table t j ≡ vertexOf n table t i)
-            → Lower (vertexOf n table t j) (symbol n t (wordAt table j .label)) (vertexOf n table (suc t) j) (vertexOf n table t i) (symbol n t (wordAt table i .label)) (vertexOf n table (suc t) i)
+            → Lower (vertexOf n table t j) (symbol n t (wordAt table j .label)) (vertexOf n table (suc t) j) (vertexOf n table t i)
+            (symbol n t (wordAt table i .label)) (vertexOf n table (suc t) i)
         go (yes e) = symbols-rise e (decLt _ _) (ℕ-discrete _ _)
         go (no e) = byFirst (vertices-rise e)
 
@@ -206,7 +232,8 @@ module _ (n : ℕ) (table : List Word) (G : Table n table) (R : Rectangular n ta
     new : New at-first
 
   first-on : (j : ℕ) → FirstOn j
-  first-on j = go (first (λ k. sameEdge (edgeOf n table t k) (edgeOf n table t j)) j) (first-ok (λ k. sameEdge (edgeOf n table t k) (edgeOf n table t j)) j)
+  first-on j = go (first (λ k. sameEdge (edgeOf n table t k) (edgeOf n table t j)) j)
+      (first-ok (λ k. sameEdge (edgeOf n table t k) (edgeOf n table t j)) j)
     where
       go : (k : ℕ) → First (λ k. sameEdge (edgeOf n table t k) (edgeOf n table t j)) j k → FirstOn j
       go k F = let e : edgeOf n table t k ≡ edgeOf n table t j = same (decLt k j) in record {

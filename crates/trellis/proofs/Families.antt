@@ -14,7 +14,8 @@ use Rattle.trellis.proofs.ThreeNumbers.{sameEdge}
 use Rattle.trellis.proofs.Lists.{sum-add, sum-le, sum-suc}
 use Rattle.trellis.proofs.Distinct.{Known, distinct, stale-of, distinct-le, upto, in-upto, from-upto}
 use Rattle.trellis.proofs.OneWord.{Stop, along}
-use Rattle.trellis.proofs.Paths.{edge-ok, edge-rf, step, vnew, enew, vcount, ecount, into, onward, vlook, elook, new-le-new, Into, slack, ends-upto}
+use Rattle.trellis.proofs.Paths.{edge-ok, edge-rf, step, vnew, enew, vcount, ecount, into, onward, vlook, elook, new-le-new, Into}
+use Rattle.trellis.proofs.Paths.{slack, ends-upto}
 
 -- A new edge of ours that leads to an old vertex: the later edges and the last vertex are old.
 pub record Ended (n : ℕ) (s c : ℕ → ℕ → ℕ) (t i : ℕ) : Type 0 where
@@ -65,8 +66,10 @@ module _ (W n : ℕ) (s c d : ℕ → ℕ → ℕ) (h : Pair W n s c d) where
   pub verts-finer : (t i : ℕ) → t ≤ n → i < W → vnew s c t i ≤ vnew s d t i
   verts-finer t i a b = new-le-new eqb eqb (vlook _ _) (vlook _ _) (vert-finer t i a b)
 
-  key : (i : ℕ) → i < W → (t : ℕ) → t < n → (enew s c t i ≤ vnew s c (suc t) i) ⊎ Stop n (λ u. enew s c u i) (λ u. vnew s d u i) (λ u. enew s d u i) t
-  key i b t a = go (elook (step s c t i) (upto (step s c t) i)) (vlook (c (suc t) i) (upto (c (suc t)) i)) (elook (step s d t i) (upto (step s d t) i))
+  key : (i : ℕ) → i < W → (t : ℕ) → t < n → (enew s c t i ≤ vnew s c (suc t) i)
+      ⊎ Stop n (λ u. enew s c u i) (λ u. vnew s d u i) (λ u. enew s d u i) t
+  key i b t a = go (elook (step s c t i) (upto (step s c t) i)) (vlook (c (suc t) i) (upto (c (suc t)) i))
+      (elook (step s d t i) (upto (step s d t) i))
     where
       go : Known sameEdge (step s c t i) (upto (step s c t) i)
           → Known eqb (c (suc t) i) (upto (c (suc t)) i)
@@ -84,8 +87,10 @@ module _ (W n : ℕ) (s c d : ℕ → ℕ → ℕ) (h : Pair W n s c d) where
             last = stale-of eqb eqb→eq eqb-refl _ _ (goal-back i b (f .last));
           })
 
-  word : (i : ℕ) → i < W → sum (λ t. enew s c t i) 0 n + sum (λ t. vnew s d t i) 1 n ≤ sum (λ t. enew s d t i) 0 n + sum (λ t. vnew s c t i) 1 n
-  word i b = along n (λ t. enew s c t i) (λ t. vnew s c t i) (λ t. enew s d t i) (λ t. vnew s d t i) (λ t a. into s d t i) (λ t a. onward s d (suc t) i) (key i b) n 0 (omega arith)
+  word : (i : ℕ) → i < W
+      → sum (λ t. enew s c t i) 0 n + sum (λ t. vnew s d t i) 1 n ≤ sum (λ t. enew s d t i) 0 n + sum (λ t. vnew s c t i) 1 n
+  word i b = along n (λ t. enew s c t i) (λ t. vnew s c t i) (λ t. enew s d t i) (λ t. vnew s d t i) (λ t a. into s d t i)
+      (λ t a. onward s d (suc t) i) (key i b) n 0 (omega arith)
 
   -- the words' own paths: ours has no more selections
   words : (m : ℕ) → m ≤ W → sum (ecount s c m) 0 n + sum (vcount s d m) 1 n ≤ sum (ecount s d m) 0 n + sum (vcount s c m) 1 n
@@ -137,7 +142,8 @@ module _ (W n : ℕ) (s c d : ℕ → ℕ → ℕ) (h : Pair W n s c d) (vs : �
   pub selections-least : sum (ecount s c W) 0 n + sum (λ t. length (vs t)) 1 n ≤ sum (λ t. length (es t)) 0 n + sum (vcount s c W) 1 n
   selections-least =
       let p = words W n s c d h W (le-refl _) in
-      let q = sum-le (λ t. length (vs (suc t)) + ecount s d W t) (λ t. length (es t) + vcount s d W (suc t)) 0 n (λ t a b. slack-at t (omega arith)) in
+      let q = sum-le (λ t. length (vs (suc t)) + ecount s d W t) (λ t. length (es t) + vcount s d W (suc t)) 0 n
+      (λ t a b. slack-at t (omega arith)) in
       omega (
         arith,
         sum-add (λ t. length (vs (suc t))) (ecount s d W) 0 n,

@@ -21,7 +21,8 @@ module _ {A : Type 0} (f : ℕ → List A) where
   pub joined-length : (count : ℕ) → length (joinedUp f count) ≡ lengthsBefore count
   unfolding joinedUp sum
   joined-length zero = refl
-  joined-length (suc count) = length-append (joinedUp f count) (f count) ∙ ap (λ k. k + length (f count)) (joined-length count) ∙ sym (lengths-suc count)
+  joined-length (suc count) = length-append (joinedUp f count) (f count) ∙ ap (λ k. k + length (f count)) (joined-length count)
+      ∙ sym (lengths-suc count)
 
   pub lengths-le : (k t : ℕ) → lengthsBefore t ≤ lengthsBefore (t + k)
   lengths-le zero t = rw (add-zero t) (omega arith)
@@ -36,11 +37,14 @@ module _ {A : Type 0} (f : ℕ → List A) where
       go : Dec (t ≡ count) → (t < count → k < length (f t) → getD (joinedUp f count) (lengthsBefore t + k) d ≡ getD (f t) k d)
           → getD (joinedUp f count ++ f count) (lengthsBefore t + k) d ≡ getD (f t) k d
       go (yes e) r =
-          let q : lengthsBefore t + k ≡ length (joinedUp f count) + k = ap (λ u. lengthsBefore u + k) e ∙ ap (λ m. m + k) (sym (joined-length count)) in
-          ap (λ i. getD (joinedUp f count ++ f count) i d) q ∙ getD-append-add (joinedUp f count) (f count) k d ∙ ap (λ u. getD (f u) k d) (sym e)
+          let q : lengthsBefore t + k ≡ length (joinedUp f count) + k = ap (λ u. lengthsBefore u + k) e
+          ∙ ap (λ m. m + k) (sym (joined-length count)) in
+          ap (λ i. getD (joinedUp f count ++ f count) i d) q ∙ getD-append-add (joinedUp f count) (f count) k d
+          ∙ ap (λ u. getD (f u) k d) (sym e)
       go (no e) r =
           let m : t < count = omega arith in
           let a = lengths-le (count - suc t) (suc t) in
           let b : suc t + (count - suc t) ≡ count = omega arith in
           let w : lengthsBefore (suc t) ≤ lengthsBefore count = subst (λ u. lengthsBefore (suc t) ≤ lengthsBefore u) b a in
-          List·getD-append (joinedUp f count) (f count) d (lengthsBefore t + k) (omega (arith, w, lengths-suc t, joined-length count)) ∙ r m l
+          List·getD-append (joinedUp f count) (f count) d (lengthsBefore t + k) (omega (arith, w, lengths-suc t, joined-length count))
+          ∙ r m l

@@ -3,7 +3,9 @@
 use mathlib.Core.Path.{_≡_, sym, ap, ap₂, subst, _∙_}
 use Prim.Native.Nat.{ℕ, zero, suc, _+_, _*_, _-_, _/_, _%_, _^_, _≤_, _<_}
 use native.Mathlib.Omega.{arith}
-use native.Mathlib.Nat.{le-refl, le-trans, le-div-iff-mul-le, div-mul-le-self, mul-lt-mul-of-pos-right, pow-suc, mod-lt, mod-one, div-add-mod', div-eq-of-lt, div-div-eq-div-mul, mul-comm, not-suc-le-zero, add-zero, add-suc, suc-add, sub-zero, sub-self, div-one}
+use native.Mathlib.Nat.{le-refl, le-trans, le-div-iff-mul-le, div-mul-le-self, mul-lt-mul-of-pos-right, pow-suc, mod-lt, mod-one}
+use native.Mathlib.Nat.{div-add-mod', div-eq-of-lt, div-div-eq-div-mul, mul-comm, not-suc-le-zero, add-zero, add-suc, suc-add, sub-zero}
+use native.Mathlib.Nat.{sub-self, div-one}
 use native.Mathlib.Decide.{ℕ-discrete, decLt}
 use lib.Arith.{mod-mul, digits-div, digits-mod}
 use lib.Dec.{lit<}
@@ -57,7 +59,8 @@ module _ (n : ℕ) where
 
   back-symbol : (t x : ℕ) → t < n → symbol n t x ≡ back n t x / 4 ^ (n - suc t)
   unfolding back
-  back-symbol t x h = sym (digits-div (symbol n t x) (mod-lt x (four-pos (n - suc t)))) ∙ ap (λ k. k / 4 ^ (n - suc t)) (sym (back-suc t x h))
+  back-symbol t x h = sym (digits-div (symbol n t x) (mod-lt x (four-pos (n - suc t))))
+      ∙ ap (λ k. k / 4 ^ (n - suc t)) (sym (back-suc t x h))
 
   pub symbol-back : (t x y : ℕ) → t < n → back n t x ≡ back n t y → symbol n t x ≡ symbol n t y
   symbol-back t x y h p = back-symbol t x h ∙ ap (λ k. k / 4 ^ (n - suc t)) p ∙ sym (back-symbol t y h)
@@ -71,15 +74,21 @@ module _ (n : ℕ) where
   front-step t x y h p = front-pred t x h ∙ ap (λ k. k / 4) p ∙ sym (front-pred t y h)
 
   -- labels with the same symbols
-  pub front-by-symbols : (t x y : ℕ) → t ≤ n → x < 4 ^ n → y < 4 ^ n → ((u : ℕ) → u < t → symbol n u x ≡ symbol n u y) → front n t x ≡ front n t y
+  pub front-by-symbols : (t x y : ℕ) → t ≤ n → x < 4 ^ n → y < 4 ^ n → ((u : ℕ) → u < t → symbol n u x ≡ symbol n u y)
+      → front n t x ≡ front n t y
   unfolding front
   front-by-symbols zero x y h a b f = rw sub-zero (div-eq-of-lt a ∙ sym (div-eq-of-lt b))
-  front-by-symbols (suc t) x y h a b f = front-suc t x h ∙ ap₂ (λ p q. p * 4 + q) (front-by-symbols t x y (omega arith) a b (λ u l. f u (omega arith))) (f t (omega arith)) ∙ sym (front-suc t y h)
+  front-by-symbols (suc t) x y h a b f = front-suc t x h
+      ∙ ap₂ (λ p q. p * 4 + q) (front-by-symbols t x y (omega arith) a b (λ u l. f u (omega arith))) (f t (omega arith))
+      ∙ sym (front-suc t y h)
 
   pub back-by-symbols : (k t x y : ℕ) → t + k ≡ n → ((u : ℕ) → t ≤ u → u < n → symbol n u x ≡ symbol n u y) → back n t x ≡ back n t y
   unfolding back
-  back-by-symbols zero t x y h f = let e : n - t ≡ 0 = omega arith in ap (λ k. x % 4 ^ k) e ∙ mod-one x ∙ sym (mod-one y) ∙ sym (ap (λ k. y % 4 ^ k) e)
-  back-by-symbols (suc k) t x y h f = back-suc t x (omega arith) ∙ ap₂ (λ p q. p * 4 ^ (n - suc t) + q) (f t (omega arith) (omega arith)) (back-by-symbols k (suc t) x y (omega arith) (λ u a b. f u (omega arith) b)) ∙ sym (back-suc t y (omega arith))
+  back-by-symbols zero t x y h f = let e : n - t ≡ 0 = omega arith in ap (λ k. x % 4 ^ k) e ∙ mod-one x ∙ sym (mod-one y)
+      ∙ sym (ap (λ k. y % 4 ^ k) e)
+  back-by-symbols (suc k) t x y h f = back-suc t x (omega arith)
+      ∙ ap₂ (λ p q. p * 4 ^ (n - suc t) + q) (f t (omega arith) (omega arith))
+      (back-by-symbols k (suc t) x y (omega arith) (λ u a b. f u (omega arith) b)) ∙ sym (back-suc t y (omega arith))
 
   pub front-mono : (t : ℕ) {x y : ℕ} → x ≤ y → front n t x ≤ front n t y
   unfolding front

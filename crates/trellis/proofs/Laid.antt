@@ -1,4 +1,5 @@
--- How many edges the steps of a section have in all, by its own counts: those of the first t steps are a sum, which grows by one step's count.
+-- How many edges the steps of a section have in all, by its own counts: those of the first t steps are a sum, which grows by one step's
+-- count.
 use mathlib.Core.Path.{_≡_, refl, ap, _∙_}
 use mathlib.Core.List.{List}
 use Prim.Native.Nat.{ℕ, zero, suc, _+_, _-_, _*_, _≤_, _<_}

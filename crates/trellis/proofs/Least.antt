@@ -1,6 +1,6 @@
--- Our section of a rectangular table is the least of all that are drawn for it: in vertices at each depth, in edges at each step, in selections.
--- Take one path of the drawn section for each word. Paths that meet there meet in ours, since they can be crossed; so ours has no more of anything on
--- these paths, and by the law of selections no more of E - V.
+-- Our section of a rectangular table is the least of all that are drawn for it: in vertices at each depth, in edges at each step, in
+-- selections. Take one path of the drawn section for each word. Paths that meet there meet in ours, since they can be crossed; so ours has
+-- no more of anything on these paths, and by the law of selections no more of E - V.
 use mathlib.Core.Path.{_≡_, sym, ap, subst, _∙_}
 use mathlib.Core.List.{List, [], List·Memᴰ·not-nil}
 use Prim.Native.Nat.{ℕ, suc, _+_, _-_, _≤_, _<_}
@@ -22,12 +22,14 @@ use Rattle.trellis.proofs.Families.{Pair, Holds, vertices-least, edges-
 use Rattle.trellis.proofs.Crossing.{Way, theirs, way, crossed}
 use Rattle.trellis.proofs.OwnPaths.{symbolAt, ends}
 
-entered : (n : ℕ) (table : List Word) (D : Drawing) → DrawnFor n table D → (t : ℕ) → t < n → (v : ℕ) → v ∈ D .vertices (suc t) → Into (D .edges t) v
+entered : (n : ℕ) (table : List Word) (D : Drawing) → DrawnFor n table D → (t : ℕ) → t < n → (v : ℕ) → v ∈ D .vertices (suc t)
+    → Into (D .edges t) v
 entered n table D H t a v m =
     let P = H .onPath (suc t) v a m in
     record { by = edge (P .x t) (P .a t) (P .x (suc t)); inside = P .path .takes t a; leads = sym (P .passes) }
 
-module _ (n : ℕ) (table : List Word) (G : Table n table) (c : ℕ → ℕ → ℕ) (O : Numbering n table c) (D : Drawing) (H : DrawnFor n table D) where
+module _ (n : ℕ) (table : List Word) (G : Table n table) (c : ℕ → ℕ → ℕ) (O : Numbering n table c) (D : Drawing)
+    (H : DrawnFor n table D) where
   abbrev d : ℕ → ℕ → ℕ
   d = theirs n table D H
 
@@ -47,7 +49,8 @@ module _ (n : ℕ) (table : List Word) (G : Table n table) (c : ℕ → ℕ → 
       go (yes p) q = subst (λ u. c u i ≡ c u j) (sym p) (O .roots i j a b .1 (sym (P .root) ∙ ap (D .rootOf) (at-depth 0 p) ∙ Q .root))
       go (no p) (yes q) = subst (λ u. c u i ≡ c u j) (sym q) (O .goals i j a b .1 (sym (P .goal) ∙ ap (D .goalOf) (at-depth n q) ∙ Q .goal))
       go (no p) (no q) = O .inner t (omega arith) (omega arith) i j a b .1
-          (crossed n table D H (wordAt table i) (wordAt table j) (λ u. theirs n table D H u i) (λ u. theirs n table D H u j) P Q t e (omega arith) (omega arith) (G .fits) (word-in table i a))
+          (crossed n table D H (wordAt table i) (wordAt table j) (λ u. theirs n table D H u i) (λ u. theirs n table D H u j) P Q t e
+          (omega arith) (omega arith) (G .fits) (word-in table i a))
 
   stands : (t i : ℕ) → t ≤ n → i < length table → d t i ∈ D .vertices t
   stands t i h a = go (way n table D H i a) (decLt t n)
@@ -84,7 +87,8 @@ module _ (n : ℕ) (table : List Word) (G : Table n table) (c : ℕ → ℕ → 
   }
 
 -- only the counts of the n + 1 depths and the n steps matter
-pub same-counts : (n : ℕ) (v e v′ e′ : ℕ → ℕ) (D : Drawing) → ((t : ℕ) → t ≤ n → v t ≡ v′ t) → ((t : ℕ) → t < n → e t ≡ e′ t) → NoFewer n v e D → NoFewer n v′ e′ D
+pub same-counts : (n : ℕ) (v e v′ e′ : ℕ → ℕ) (D : Drawing) → ((t : ℕ) → t ≤ n → v t ≡ v′ t) → ((t : ℕ) → t < n → e t ≡ e′ t)
+    → NoFewer n v e D → NoFewer n v′ e′ D
 unfolding selections additions allVertices
 same-counts n v e v′ e′ D a b N =
     let p = sum-eq v v′ 0 (suc n) (λ u x y. a u (omega arith)) in
@@ -106,5 +110,6 @@ exact n table D H =
   where
     entry : (t : ℕ) → t < n → length (D .vertices (suc t)) ≤ length (D .edges t)
     entry t h =
-        let p = slack (D .edges t) (D .vertices (suc t)) [] (H .noneTwice (suc t) h) (λ e m. absurd (List·Memᴰ·not-nil m)) (entered n table D H t h) in
+        let p = slack (D .edges t) (D .vertices (suc t)) [] (H .noneTwice (suc t) h) (λ e m. absurd (List·Memᴰ·not-nil m))
+        (entered n table D H t h) in
         omega arith

@@ -3,7 +3,8 @@
 use mathlib.Core.Path.{_≡_, refl, sym, ap, ap₂, subst, _∙_}
 use mathlib.Core.Bool.{Bool, true, false, cond, _||_}
 use mathlib.Core.Logic.{_⊎_, inl, inr}
-use mathlib.Core.List.{List, [], _∷_, _++_, map, flatMap, append-assoc, List·Memᴰ·head, List·Memᴰ·tail, List·Memᴰ·not-nil, List·Memᴰ·cases-cons}
+use mathlib.Core.List.{List, [], _∷_, _++_, map, flatMap, append-assoc, List·Memᴰ·head, List·Memᴰ·tail, List·Memᴰ·not-nil}
+use mathlib.Core.List.{List·Memᴰ·cases-cons}
 use Prim.Native.Nat.{ℕ, zero, suc, _+_, _*_, _≤_, _<_}
 use native.Mathlib.Omega.{arith}
 use native.Mathlib.Nat.{not-suc-le-zero, add-zero, add-suc, suc-add, zero-add, le-antisymm, le-of-eq}
@@ -36,7 +37,8 @@ unfolding run
 run-same f g at zero h = refl
 run-same f g at (suc count) h =
     ap₂ (λ x l. x ∷ l) (ap f (sym (add-zero at)) ∙ h 0 (omega arith) ∙ ap g (add-zero at))
-    (run-same f g (suc at) count (λ k l. ap f (rw (suc-add at k, add-suc at k)) ∙ h (suc k) (omega arith) ∙ ap g (rw (suc-add at k, add-suc at k))))
+    (run-same f g (suc at) count
+    (λ k l. ap f (rw (suc-add at k, add-suc at k)) ∙ h (suc k) (omega arith) ∙ ap g (rw (suc-add at k, add-suc at k))))
 
 pub each-same : {A : Type 0} (f g : ℕ → A) (count more : ℕ) → count ≡ more → ((k : ℕ) → k < count → f k ≡ g k) → each f count ≡ each g more
 each-same f g count more e h = run-same f g 0 count (λ k l. ap f (zero-add k) ∙ h k l ∙ sym (ap g (zero-add k))) ∙ ap (each g) e
@@ -45,7 +47,8 @@ each-same f g count more e h = run-same f g 0 count (λ k l. ap f (zero-add k) �
 pub run-snoc : {A : Type 0} (f : ℕ → A) (at count : ℕ) → run f at (suc count) ≡ run f at count ++ (f (at + count) ∷ [])
 unfolding run
 run-snoc f at zero = ap (λ k. f k ∷ []) (sym (add-zero at))
-run-snoc f at (suc count) = ap (λ l. f at ∷ l) (run-snoc f (suc at) count ∙ ap (λ k. run f (suc at) count ++ (f k ∷ [])) (rw (suc-add at count, add-suc at count)))
+run-snoc f at (suc count) =
+    ap (λ l. f at ∷ l) (run-snoc f (suc at) count ∙ ap (λ k. run f (suc at) count ++ (f k ∷ [])) (rw (suc-add at count, add-suc at count)))
 
 -- a value of f below a count
 pub record From {A : Type 0} (f : ℕ → A) (count : ℕ) (x : A) : Type 0 where
@@ -57,7 +60,8 @@ pub in-run : {A : Type 0} (f : ℕ → A) (at count k : ℕ) (x : A) → k < cou
 unfolding run
 in-run f at zero k x h e = absurd (not-suc-le-zero h)
 in-run f at (suc count) zero x h e = List·Memᴰ·head (e ∙ ap f (add-zero at))
-in-run f at (suc count) (suc k) x h e = List·Memᴰ·tail (in-run f (suc at) count k x (omega arith) (e ∙ ap f (rw (suc-add at k, add-suc at k))))
+in-run f at (suc count) (suc k) x h e =
+    List·Memᴰ·tail (in-run f (suc at) count k x (omega arith) (e ∙ ap f (rw (suc-add at k, add-suc at k))))
 
 pub in-each : {A : Type 0} (f : ℕ → A) (count k : ℕ) (x : A) → k < count → x ≡ f k → x ∈ each f count
 in-each f count k x h e = in-run f 0 count k x h (e ∙ ap f (sym (zero-add k)))
@@ -67,9 +71,11 @@ unfolding run
 of-run f at zero x m = absurd (List·Memᴰ·not-nil m)
 of-run {A} f at (suc count) x m = go (of-run f (suc at) count x) (List·Memᴰ·cases-cons m)
   where
-    go : (x ∈ run f (suc at) count → From (λ k. f (suc at + k)) count x) → (x ≡ f at) ⊎ (x ∈ run f (suc at) count) → From (λ k. f (at + k)) (suc count) x
+    go : (x ∈ run f (suc at) count → From (λ k. f (suc at + k)) count x) → (x ≡ f at) ⊎ (x ∈ run f (suc at) count)
+        → From (λ k. f (at + k)) (suc count) x
     go r (inl e) = record { at = 0; below = omega arith; is = e ∙ ap f (sym (add-zero at)) }
-    go r (inr u) = let w = r u in record { at = suc (w .at); below = omega arith; is = w .is ∙ ap f (rw (suc-add at (w .at), add-suc at (w .at))) }
+    go r (inr u) = let w = r u in
+        record { at = suc (w .at); below = omega arith; is = w .is ∙ ap f (rw (suc-add at (w .at), add-suc at (w .at))) }
 
 pub of-each : {A : Type 0} (f : ℕ → A) (count : ℕ) (x : A) → x ∈ each f count → From f count x
 of-each f count x m = let w = of-run f 0 count x m in record { at = w .at; below = w .below; is = w .is ∙ ap f (zero-add (w .at)) }
@@ -141,7 +147,8 @@ first-ok p (suc m) = go (p 0) refl (first-ok (λ i. p (suc i)) m)
     later f r zero h t = fails f t
     later f r (suc j) h t = r .miss j (omega arith) t
 
-    go : (b : Bool) → p 0 ≡ b → First (λ i. p (suc i)) m (first (λ i. p (suc i)) m) → First p (suc m) (cond b 0 (suc (first (λ i. p (suc i)) m)))
+    go : (b : Bool) → p 0 ≡ b → First (λ i. p (suc i)) m (first (λ i. p (suc i)) m)
+        → First p (suc m) (cond b 0 (suc (first (λ i. p (suc i)) m)))
     go true f r = record { most = omega arith; hit = λ h. holds f; miss = λ j h t. not-suc-le-zero h }
     go false f r = let h = r .most in record { most = omega arith; hit = λ l. r .hit (omega arith); miss = later f r }
 

@@ -1,7 +1,7 @@
 -- The law of one word: along its path, our section gains no more edges over vertices than a section drawn by another hand does.
--- At depth t of the word in hand, vM t is 1 where our vertex is new and else 0; eM t is 1 where our edge of step t is new; vD and eD say the same of
--- the drawn section. "New" is: on the path of no word before. Where a new edge of ours leads to an old vertex, all that follows in ours is old, while
--- the drawn path, which ends in an old vertex, must somewhere have a new edge into an old one.
+-- At depth t of the word in hand, vM t is 1 where our vertex is new and else 0; eM t is 1 where our edge of step t is new; vD and eD say
+-- the same of the drawn section. "New" is: on the path of no word before. Where a new edge of ours leads to an old vertex, all that follows
+-- in ours is old, while the drawn path, which ends in an old vertex, must somewhere have a new edge into an old one.
 use mathlib.Core.Path.{_≡_, refl, ap, _∙_}
 use mathlib.Core.Logic.{_⊎_, inl, inr}
 use Prim.Native.Nat.{ℕ, zero, suc, _+_, _≤_, _<_}
@@ -18,12 +18,14 @@ pub record Stop (n : ℕ) (eM vD eD : ℕ → ℕ) (t : ℕ) : Type 0 where
 sum-zero : (f : ℕ → ℕ) (t k : ℕ) → ((u : ℕ) → t ≤ u → u < t + k → f u ≡ 0) → sum f t k ≡ 0
 unfolding sum
 sum-zero f t zero h = refl
-sum-zero f t (suc k) h = let r = sum-zero f (suc t) k (λ u a b. h u (omega arith) (omega arith)) in let e = h t (omega arith) (omega arith) in omega arith
+sum-zero f t (suc k) h = let r = sum-zero f (suc t) k (λ u a b. h u (omega arith) (omega arith)) in let e =
+    h t (omega arith) (omega arith) in omega arith
 
 shift : (f g : ℕ → ℕ) (t k : ℕ) → ((u : ℕ) → t ≤ u → u < t + k → f (suc u) ≤ g u) → sum f (suc t) k ≤ sum g t k
 unfolding sum
 shift f g t zero h = omega arith
-shift f g t (suc k) h = let r : sum f (suc (suc t)) k ≤ sum g (suc t) k = shift f g (suc t) k (λ u a b. h u (omega arith) (omega arith)) in let e = h t (omega arith) (omega arith) in omega arith
+shift f g t (suc k) h = let r : sum f (suc (suc t)) k ≤ sum g (suc t) k = shift f g (suc t) k (λ u a b. h u (omega arith) (omega arith)) in
+    let e = h t (omega arith) (omega arith) in omega arith
 
 module _ (n : ℕ) (eM vM eD vD : ℕ → ℕ)
     (into : (t : ℕ) → t < n → vD (suc t) ≤ eD t)
@@ -36,7 +38,8 @@ module _ (n : ℕ) (eM vM eD vD : ℕ → ℕ)
     where
       go : (eD (suc t) ≡ 1 → vD n ≡ 0 → 1 + sum vD (suc (suc t)) (suc k) ≤ sum eD (suc t) (suc k)) → (vD (suc t) ≡ 0) ⊎ (eD (suc t) ≡ 1)
           → 1 + sum vD (suc t) (suc (suc k)) ≤ sum eD t (suc (suc k))
-      go r (inl q) = let s : sum vD (suc (suc t)) (suc k) ≤ sum eD (suc t) (suc k) = shift vD eD (suc t) (suc k) (λ u a b. into u (omega arith)) in omega arith
+      go r (inl q) = let s : sum vD (suc (suc t)) (suc k) ≤ sum eD (suc t) (suc k) =
+          shift vD eD (suc t) (suc k) (λ u a b. into u (omega arith)) in omega arith
       go r (inr q) = let s = r q z in let v = into t (omega arith) in omega arith
 
   pub along : ((t : ℕ) → t < n → (eM t ≤ vM (suc t)) ⊎ Stop n eM vD eD t)

@@ -1,6 +1,7 @@
 -- Our section of a rectangular table is itself a section drawn for it: its paths carry the table's words, no more and no fewer.
--- Each word takes its own path. The other way round, follow any path step by step: its first t edges are those of some word up to depth t, and where the
--- next edge is another word's, the two words share a vertex, so the one's beginning followed by the other's ending is a word too.
+-- Each word takes its own path. The other way round, follow any path step by step: its first t edges are those of some word up to depth t,
+-- and where the next edge is another word's, the two words share a vertex, so the one's beginning followed by the other's ending is a word
+-- too.
 use mathlib.Core.Path.{_≡_, refl, sym, ap, subst, _∙_}
 use mathlib.Core.List.{List, Memᴰ·cast}
 use Prim.Native.Nat.{ℕ, zero, suc, _-_, _<_}
@@ -17,7 +18,8 @@ use Rattle.trellis.proofs.Ours.{ours}
 use Rattle.trellis.proofs.Lists.{From, in-each, of-each, of-run, in-place}
 use Rattle.trellis.proofs.Ascending.{Ascends, numbers, ascends, once-of, in-ascending, of-ascending, rank-at}
 use Rattle.trellis.proofs.Labels.{back-step, symbol-before, symbol-back}
-use Rattle.trellis.proofs.Words.{Index, word-in, index, beginning-root, beginning-front, ending-back, ending-goal, ending-eq, joined-beginning, joined-ending}
+use Rattle.trellis.proofs.Words.{Index, word-in, index, beginning-root, beginning-front, ending-back, ending-goal, ending-eq}
+use Rattle.trellis.proofs.Words.{joined-beginning, joined-ending}
 use Rattle.trellis.proofs.Vertices.{Numbering, key-root, key-goal, vertex-below, key-at, vertex-key}
 use Rattle.trellis.proofs.Paths.{edges-order}
 use Rattle.trellis.proofs.OwnPaths.{symbolAt, ended}
@@ -50,8 +52,14 @@ module _ (n : ℕ) (table : List Word) where
   unfolding ours vertexCount keys vertexOf
   vertex-of t v m =
       let h = below-each (vertexCount n table t) v m in
-      let F = of-each (key n table t) (length table) (getD (keys n table t) v 0) (of-ascending ltb numbers _ _ (in-place 0 (keys n table t) v h)) in
-      record { at = F .at; below = F .below; is = sym (rank-at (keys n table t) v (ascends ltb numbers _) h) ∙ ap (λ k. rank k (keys n table t)) (F .is) }
+      let F = of-each (key n table t) (length table) (getD (keys n table t) v 0)
+      (of-ascending ltb numbers _ _ (in-place 0 (keys n table t) v h)) in
+      record {
+        at = F .at;
+        below = F .below;
+        is = sym (rank-at (keys n table t) v (ascends ltb numbers _) h)
+            ∙ ap (λ k. rank k (keys n table t)) (F .is);
+      }
 
   pub edge-in : (t i : ℕ) → i < length table → edgeOf n table t i ∈ ours n table .edges t
   unfolding ours edgesAt
@@ -71,18 +79,29 @@ module _ (n : ℕ) (table : List Word) where
     just-one = record {
       atLeast = λ w m.
           let x = index table w m in
-          record { vertex = vertexOf n table t (x .at); listed = vertex-in t (x .at) (x .below); is = state-at (x .at) (x .below) ∙ ap state (x .is) };
+          record {
+            vertex = vertexOf n table t (x .at);
+            listed = vertex-in t (x .at) (x .below);
+            is = state-at (x .at) (x .below)
+                ∙ ap state (x .is);
+          };
       atMost = λ v u a b e. same v u (vertex-of t v a) (vertex-of t u b) e;
       only = λ v m.
           let x = vertex-of t v m in
-          record { word = wordAt table (x .at); listed = word-in table (x .at) (x .below); is = sym (ap (λ k. getD (keys n table t) k 0) (x .is) ∙ state-at (x .at) (x .below)) };
+          record {
+            word = wordAt table (x .at);
+            listed = word-in table (x .at) (x .below);
+            is =
+                sym (ap (λ k. getD (keys n table t) k 0) (x .is) ∙ state-at (x .at) (x .below));
+          };
     }
       where
         same : (v u : ℕ) → From (vertexOf n table t) (length table) v → From (vertexOf n table t) (length table) u
             → getD (keys n table t) v 0 ≡ getD (keys n table t) u 0 → v ≡ u
         same v u x y e =
             let p : key n table t (x .at) ≡ key n table t (y .at) =
-            sym (key-at n table t (x .at) (x .below)) ∙ ap (λ k. getD (keys n table t) k 0) (sym (x .is)) ∙ e ∙ ap (λ k. getD (keys n table t) k 0) (y .is) ∙ key-at n table t (y .at) (y .below) in
+            sym (key-at n table t (x .at) (x .below)) ∙ ap (λ k. getD (keys n table t) k 0) (sym (x .is)) ∙ e
+            ∙ ap (λ k. getD (keys n table t) k 0) (y .is) ∙ key-at n table t (y .at) (y .below) in
             x .is ∙ vertex-key n table t (x .at) (y .at) (x .below) (y .below) .1 p ∙ sym (y .is)
 
 -- ---- paths
@@ -119,7 +138,8 @@ module _ (n : ℕ) (table : List Word) (G : Table n table) (O : Numbering n tabl
     taken t l = edge-of n table t (edge (x t) (a t) (x (suc t))) (P .takes t l)
 
     -- the word reached so far and the word that takes the next edge share a vertex: joined there they go one step further
-    module _ (t : ℕ) (l : suc t < n) (r : Reach x a (suc t)) (F : From (edgeOf n table (suc t)) (length table) (edge (x (suc t)) (a (suc t)) (x (suc (suc t))))) where
+    module _ (t : ℕ) (l : suc t < n) (r : Reach x a (suc t))
+        (F : From (edgeOf n table (suc t)) (length table) (edge (x (suc t)) (a (suc t)) (x (suc (suc t))))) where
       abbrev v : Word
       v = wordAt table (r .at)
 
@@ -139,7 +159,8 @@ module _ (n : ℕ) (table : List Word) (G : Table n table) (O : Numbering n tabl
       ends = ap (ending n (suc t)) (K .is) ∙ joined-ending n (suc t) v w
 
       spell : (u : ℕ) → u < suc (suc t) → Dec (u ≡ suc t) → a u ≡ symbolAt n table u (K .at)
-      spell u h (no e) = r .spells u (omega arith) ∙ sym (symbol-before n (suc t) u (wordAt table (K .at) .label) (v .label) (omega arith) (omega arith) (beginning-front begins))
+      spell u h (no e) = r .spells u (omega arith)
+          ∙ sym (symbol-before n (suc t) u (wordAt table (K .at) .label) (v .label) (omega arith) (omega arith) (beginning-front begins))
       spell u h (yes e) = subst (λ k. a k ≡ symbolAt n table k (K .at)) (sym e)
           (ap (λ (g : Edge). g .symbol) (F .is) ∙ sym (symbol-back n (suc t) (wordAt table (K .at) .label) (w .label) l (ending-back ends)))
 
@@ -162,7 +183,8 @@ module _ (n : ℕ) (table : List Word) (G : Table n table) (O : Numbering n tabl
           below = F .below;
           start = sym (ap (λ (e : Edge). e .from) (F .is));
           here = sym (ap (λ (e : Edge). e .to) (F .is));
-          spells = λ u h. let e : u ≡ 0 = omega arith in subst (λ k. a k ≡ symbolAt n table k (F .at)) (sym e) (ap (λ (f : Edge). f .symbol) (F .is));
+          spells = λ u h. let e : u ≡ 0 = omega arith in
+              subst (λ k. a k ≡ symbolAt n table k (F .at)) (sym e) (ap (λ (f : Edge). f .symbol) (F .is));
         }
     reach (suc t) l = further t l (reach t (omega arith)) (taken (suc t) l)
 
@@ -189,7 +211,8 @@ module _ (n : ℕ) (table : List Word) (G : Table n table) (O : Numbering n tabl
           Memᴰ·cast (ap (λ (f : Edge). f .from) (F .is)) (vertex-in n table t (F .at) (F .below)),
           Memᴰ·cast (ap (λ (f : Edge). f .to) (F .is)) (vertex-in n table (suc t) (F .at) (F .below)),
         );
-    noRepeat = λ t h. once-of edgeLess edges-order (edgesAt n table t) (ascends edgeLess edges-order (each (edgeOf n table t) (length table)));
+    noRepeat = λ t h. once-of edgeLess edges-order (edgesAt n table t)
+        (ascends edgeLess edges-order (each (edgeOf n table t) (length table)));
     roots = just-one n table 0 (λ w. w .root) (key-root n table);
     goals = just-one n table n (λ w. w .goal) (λ i. key-goal n table i (G .some));
     onPath = λ t v h m.
@@ -202,6 +225,7 @@ module _ (n : ℕ) (table : List Word) (G : Table n table) (O : Numbering n tabl
           x = λ u. c u (K .at);
           a = λ u. symbolAt n table u (K .at);
           path = path-of (K .at) (K .below);
-          carries = subst (Carries n (ours n table) (λ u. vertexOf n table u (K .at)) (λ u. symbolAt n table u (K .at))) (K .is) (carries-of (K .at) (K .below));
+          carries = subst (Carries n (ours n table) (λ u. vertexOf n table u (K .at)) (λ u. symbolAt n table u (K .at))) (K .is)
+              (carries-of (K .at) (K .below));
         };
   }

@@ -1,5 +1,5 @@
--- The numbers of our section, read again by the layout, give our section: its counts, states and edges. The parts stand one behind another, each as
--- long as its counts say, so the place of each part is the length of what stands before it.
+-- The numbers of our section, read again by the layout, give our section: its counts, states and edges. The parts stand one behind another,
+-- each as long as its counts say, so the place of each part is the length of what stands before it.
 use mathlib.Core.Path.{_≡_, refl, sym, ap, subst, _∙_}
 use mathlib.Core.List.{List, [], _∷_, _++_, map, flatMap}
 use Prim.Native.Nat.{ℕ, zero, suc, _+_, _-_, _*_, _≤_, _<_}
@@ -10,7 +10,9 @@ use lib.Seq.{getD-append-add, ext-getD}
 use Rattle.trellis.specs.Lists.{run, each, sum}
 use Rattle.trellis.specs.Word.{Word}
 use Rattle.trellis.specs.Own.{Edge, edge, keys, vertexCount, edgesAt, edgeCount}
-use Rattle.trellis.specs.Layout.{qOf, nOf, statesOf, vertexCountOf, edgeCountOf, edgesBefore, rootsPlace, goalsPlace, pairsPlace, symbolsPlace, sectionLength, rootState, goalState, edgeNumber, stepEdges, joinedUp, pairOf, symbolOf, sectionOf}
+use Rattle.trellis.specs.Layout.{qOf, nOf, statesOf, vertexCountOf, edgeCountOf, edgesBefore, rootsPlace, goalsPlace, pairsPlace}
+use Rattle.trellis.specs.Layout.{symbolsPlace, sectionLength, rootState, goalState, edgeNumber, stepEdges, joinedUp, pairOf, symbolOf}
+use Rattle.trellis.specs.Layout.{sectionOf}
 use Rattle.trellis.proofs.Lists.{length-run, run-at, each-at, sum-eq, length-two}
 use Rattle.trellis.proofs.Joined.{lengths-suc, joined-length, lengths-le, joined-at}
 use Rattle.trellis.proofs.Paths.{edge-eq}
@@ -73,7 +75,8 @@ module _ (x y z : ℕ) (a b c d e f : List ℕ) where
 
   parts-length : length parts ≡ 3 + length a + length b + length c + length d + length e + length f
   parts-length =
-      let k : length (a ++ (b ++ (c ++ (d ++ (e ++ f))))) ≡ length a + (length b + (length c + (length d + (length e + length f)))) = simp length-append in
+      let k : length (a ++ (b ++ (c ++ (d ++ (e ++ f))))) ≡ length a + (length b + (length c + (length d + (length e + length f)))) =
+      simp length-append in
       omega arith
 
 -- ---- our section
@@ -124,7 +127,8 @@ module _ (q n S : ℕ) (table : List Word) where
   pub own-edge-count : (t : ℕ) → t < n → edgeCountOf l t ≡ edgeCount n table t
   unfolding edgeCountOf sectionOf
   own-edge-count t h =
-      in-second q n S counts edgeCounts roots goals (flatMap pairOf all) (map symbolOf all) (4 + n + t) t (omega (arith, counts-long)) (omega (arith, edge-counts-long))
+      in-second q n S counts edgeCounts roots goals (flatMap pairOf all) (map symbolOf all) (4 + n + t) t (omega (arith, counts-long))
+      (omega (arith, edge-counts-long))
       ∙ each-at (edgeCount n table) n t 0 h
 
   pub own-edges-before : (t : ℕ) → t ≤ n → edgesBefore l t ≡ sum (edgeCount n table) 0 t
@@ -149,7 +153,8 @@ module _ (q n S : ℕ) (table : List Word) where
 
   pairs-place : pairsPlace l ≡ 4 + 2 * n + length roots + length goals
   unfolding pairsPlace
-  pairs-place = let e : vertexCountOf l (nOf l) ≡ vertexCount n table n = ap (vertexCountOf l) own-n ∙ own-vertex-count n (omega arith) in omega (arith, goals-place, goals-long)
+  pairs-place = let e : vertexCountOf l (nOf l) ≡ vertexCount n table n = ap (vertexCountOf l) own-n ∙ own-vertex-count n (omega arith) in
+      omega (arith, goals-place, goals-long)
 
   all-edges : edgesBefore l (nOf l) ≡ length all
   all-edges = ap (edgesBefore l) own-n ∙ own-edges-before n (omega arith) ∙ sym all-long
@@ -160,15 +165,26 @@ module _ (q n S : ℕ) (table : List Word) where
 
   pub own-length : sectionLength l ≡ length l
   unfolding sectionLength sectionOf
-  own-length = omega (arith, symbols-place, all-edges, parts-length q n S counts edgeCounts roots goals (flatMap pairOf all) (map symbolOf all), counts-long, edge-counts-long, length-two pairOf all (λ e. refl), length-map all symbolOf)
+  own-length = omega (
+    arith,
+    symbols-place,
+    all-edges,
+    parts-length q n S counts edgeCounts roots goals (flatMap pairOf all) (map symbolOf all),
+    counts-long,
+    edge-counts-long,
+    length-two pairOf all (λ e. refl),
+    length-map all symbolOf,
+  )
 
   pub own-root : (v : ℕ) → v < vertexCount n table 0 → rootState l v ≡ getD (keys n table 0) v 0
   unfolding rootState rootsPlace sectionOf
-  own-root v h = in-third q n S counts edgeCounts roots goals (flatMap pairOf all) (map symbolOf all) (4 + 2 * n + v) v (omega (arith, counts-long, edge-counts-long)) (omega (arith, roots-long))
+  own-root v h = in-third q n S counts edgeCounts roots goals (flatMap pairOf all) (map symbolOf all) (4 + 2 * n + v) v
+      (omega (arith, counts-long, edge-counts-long)) (omega (arith, roots-long))
 
   goal-at : (i v : ℕ) → i ≡ 4 + 2 * n + length roots + v → v < length goals → getD l i 0 ≡ getD goals v 0
   unfolding sectionOf
-  goal-at i v e h = in-fourth q n S counts edgeCounts roots goals (flatMap pairOf all) (map symbolOf all) i v (omega (arith, counts-long, edge-counts-long)) h
+  goal-at i v e h = in-fourth q n S counts edgeCounts roots goals (flatMap pairOf all) (map symbolOf all) i v
+      (omega (arith, counts-long, edge-counts-long)) h
 
   pub own-goal : (v : ℕ) → v < vertexCount n table n → goalState l v ≡ getD (keys n table n) v 0
   unfolding goalState
@@ -176,11 +192,15 @@ module _ (q n S : ℕ) (table : List Word) where
 
   pair-place : (i k : ℕ) → i ≡ 4 + 2 * n + length roots + length goals + k → k < 2 * length all → getD l i 0 ≡ getD (flatMap pairOf all) k 0
   unfolding sectionOf
-  pair-place i k e h = in-fifth q n S counts edgeCounts roots goals (flatMap pairOf all) (map symbolOf all) i k (omega (arith, counts-long, edge-counts-long)) (omega (arith, length-two pairOf all (λ e. refl)))
+  pair-place i k e h =
+      in-fifth q n S counts edgeCounts roots goals (flatMap pairOf all) (map symbolOf all) i k
+      (omega (arith, counts-long, edge-counts-long)) (omega (arith, length-two pairOf all (λ e. refl)))
 
   symbol-place : (i k : ℕ) → i ≡ 4 + 2 * n + length roots + length goals + 2 * length all + k → getD l i 0 ≡ getD (map symbolOf all) k 0
   unfolding sectionOf
-  symbol-place i k e = in-sixth q n S counts edgeCounts roots goals (flatMap pairOf all) (map symbolOf all) i k (omega (arith, counts-long, edge-counts-long, length-two pairOf all (λ e. refl)))
+  symbol-place i k e =
+      in-sixth q n S counts edgeCounts roots goals (flatMap pairOf all) (map symbolOf all) i k
+      (omega (arith, counts-long, edge-counts-long, length-two pairOf all (λ e. refl)))
 
   from-at : (k : ℕ) → k < length all → getD l (pairsPlace l + 2 * k) 0 ≡ getD all k (edge 0 0 0) .from
   from-at k h = pair-place (pairsPlace l + 2 * k) (2 * k) (omega (arith, pairs-place)) (omega arith) ∙ pair-from all k (edge 0 0 0) h
@@ -196,19 +216,23 @@ module _ (q n S : ℕ) (table : List Word) where
   own-edge-number k h = edge-eq (from-at k h) (mark-at k h) (to-at k h)
 
   -- edge k of step t
-  pub own-step-edge : (t k : ℕ) → t < n → k < edgeCount n table t → edgeNumber l (edgesBefore l t + k) ≡ getD (edgesAt n table t) k (edge 0 0 0)
+  pub own-step-edge : (t k : ℕ) → t < n → k < edgeCount n table t
+      → edgeNumber l (edgesBefore l t + k) ≡ getD (edgesAt n table t) k (edge 0 0 0)
   unfolding edgeCount
   own-step-edge t k h b =
       let e : edgesBefore l t ≡ sum (λ u. length (edgesAt n table u)) 0 t = own-edges-before t (omega arith) in
       let r = lengths-le (edgesAt n table) (n - suc t) (suc t) in
       let m : suc t + (n - suc t) ≡ n = omega arith in
-      let w : sum (λ u. length (edgesAt n table u)) 0 (suc t) ≤ sum (λ u. length (edgesAt n table u)) 0 n = subst (λ u. sum (λ u. length (edgesAt n table u)) 0 (suc t) ≤ sum (λ u. length (edgesAt n table u)) 0 u) m r in
+      let w : sum (λ u. length (edgesAt n table u)) 0 (suc t) ≤ sum (λ u. length (edgesAt n table u)) 0 n =
+      subst (λ u. sum (λ u. length (edgesAt n table u)) 0 (suc t) ≤ sum (λ u. length (edgesAt n table u)) 0 u) m r in
       own-edge-number (edgesBefore l t + k) (omega (arith, w, lengths-suc (edgesAt n table) t, joined-length (edgesAt n table) n))
       ∙ ap (λ i. getD all (i + k) (edge 0 0 0)) e ∙ joined-at (edgesAt n table) n t k (edge 0 0 0) h b
 
   pub own-step-edges : (t : ℕ) → t < n → stepEdges l t ≡ edgesAt n table t
   unfolding stepEdges edgeCount
-  own-step-edges t h = ext-getD (edge 0 0 0) (run (edgeNumber l) (edgesBefore l t) (edgeCountOf l t)) (edgesAt n table t) (length-run (edgeNumber l) (edgesBefore l t) (edgeCountOf l t) ∙ own-edge-count t h)
+  own-step-edges t h =
+      ext-getD (edge 0 0 0) (run (edgeNumber l) (edgesBefore l t) (edgeCountOf l t)) (edgesAt n table t)
+      (length-run (edgeNumber l) (edgesBefore l t) (edgeCountOf l t) ∙ own-edge-count t h)
       (λ k b.
       let m : k < edgeCountOf l t = subst (λ j. k < j) (length-run (edgeNumber l) (edgesBefore l t) (edgeCountOf l t)) b in
       let r : k < length (edgesAt n table t) = subst (λ j. k < j) (own-edge-count t h) m in

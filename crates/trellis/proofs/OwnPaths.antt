@@ -1,6 +1,6 @@
 -- The paths of our section, in table order: where a word's edge is new and leads to an old vertex, all that follows on its path is old.
--- At an inner depth the old vertex is shared with an earlier word of another beginning; that beginning followed by this word's ending is a word, and it
--- stands before this one, so it has taken the rest of the path already.
+-- At an inner depth the old vertex is shared with an earlier word of another beginning; that beginning followed by this word's ending is a
+-- word, and it stands before this one, so it has taken the rest of the path already.
 use mathlib.Core.Path.{_≡_, refl, sym, ap, subst, _∙_}
 use mathlib.Core.List.{List, Memᴰ·cast}
 use Prim.Native.Nat.{ℕ, zero, suc, _-_, _≤_, _<_}
@@ -15,7 +15,8 @@ use Rattle.trellis.specs.Own.{edge}
 use Rattle.trellis.proofs.Lists.{From}
 use Rattle.trellis.proofs.Distinct.{upto, in-upto, from-upto}
 use Rattle.trellis.proofs.Labels.{front-mono, front-step, symbol-front, symbol-back, back-later, spliced-lower}
-use Rattle.trellis.proofs.Words.{word-in, index, comes-first, beginning-root, beginning-front, beginning-eq, ending-back, ending-goal, ending-eq, joined-ending, joined-is}
+use Rattle.trellis.proofs.Words.{word-in, index, comes-first, beginning-root, beginning-front, beginning-eq, ending-back}
+use Rattle.trellis.proofs.Words.{ending-goal, ending-eq, joined-ending, joined-is}
 use Rattle.trellis.proofs.Vertices.{Numbering}
 use Rattle.trellis.proofs.Paths.{step}
 use Rattle.trellis.proofs.Families.{Ended}
@@ -37,13 +38,15 @@ module _ (n : ℕ) (table : List Word) (G : Table n table) where
 
   module _ (c : ℕ → ℕ → ℕ) (O : Numbering n table c) where
     -- words that begin alike share a vertex there
-    pub begun : (t i j : ℕ) → t < n → i < length table → j < length table → beginning n t (wordAt table j) ≡ beginning n t (wordAt table i) → c t i ≡ c t j
+    pub begun : (t i j : ℕ) → t < n → i < length table → j < length table → beginning n t (wordAt table j) ≡ beginning n t (wordAt table i)
+        → c t i ≡ c t j
     begun zero i j h a b m = O .roots i j a b .1 (sym (beginning-root m))
     begun (suc t) i j h a b m = O .inner (suc t) (omega arith) h i j a b .1
         (Memᴰ·cast (sym (joined-is n (suc t) (wordAt table j) (wordAt table i) (wordAt table j) m refl)) (word-in table j b))
 
     -- and so do words that end alike
-    pub ended : (t i k : ℕ) → 0 < t → t ≤ n → i < length table → k < length table → ending n t (wordAt table k) ≡ ending n t (wordAt table i) → c t i ≡ c t k
+    pub ended : (t i k : ℕ) → 0 < t → t ≤ n → i < length table → k < length table
+        → ending n t (wordAt table k) ≡ ending n t (wordAt table i) → c t i ≡ c t k
     ended t i k z h a b m = go (ℕ-discrete t n)
       where
         go : Dec (t ≡ n) → c t i ≡ c t k
@@ -52,7 +55,8 @@ module _ (n : ℕ) (table : List Word) (G : Table n table) where
             (Memᴰ·cast (sym (joined-is n t (wordAt table k) (wordAt table k) (wordAt table i) refl m)) (word-in table k b)))
 
     -- the word k, earlier than i, that goes with i from depth t + 1 on
-    module _ (t i k : ℕ) (p : suc t < n) (b : i < length table) (f : k < i) (m : ending n (suc t) (wordAt table k) ≡ ending n (suc t) (wordAt table i)) where
+    module _ (t i k : ℕ) (p : suc t < n) (b : i < length table) (f : k < i)
+        (m : ending n (suc t) (wordAt table k) ≡ ending n (suc t) (wordAt table i)) where
       stays : (u : ℕ) → t < u → u ≤ n → ending n u (wordAt table k) ≡ ending n u (wordAt table i)
       stays u h l = ending-eq
           (subst (λ v. back n v (wordAt table k .label) ≡ back n v (wordAt table i .label)) (omega arith)
@@ -72,12 +76,16 @@ module _ (n : ℕ) (table : List Word) (G : Table n table) where
         → c (suc t) i ∈ upto (c (suc t)) i → Ended n (symbolAt n table) c t i
     ends t i a b fresh old = go (decLt (suc t) n) (from-upto (c (suc t)) i (c (suc t) i) old)
       where
-        differ : (F : From (c (suc t)) i (c (suc t) i)) → beginning n (suc t) (wordAt table (F .at)) ≡ beginning n (suc t) (wordAt table i) → ⊥
+        differ : (F : From (c (suc t)) i (c (suc t) i)) → beginning n (suc t) (wordAt table (F .at)) ≡ beginning n (suc t) (wordAt table i)
+            → ⊥
         differ F m =
             let j = F .at in
             let l : j < length table = omega (arith, F .below) in
-            let x : c t i ≡ c t j = begun t i j a b l (beginning-eq (beginning-root m) (front-step n t (wordAt table j .label) (wordAt table i .label) a (beginning-front m))) in
-            let y : symbolAt n table t i ≡ symbolAt n table t j = sym (symbol-front n t (wordAt table j .label) (wordAt table i .label) (beginning-front m)) in
+            let x : c t i ≡ c t j =
+            begun t i j a b l (beginning-eq (beginning-root m)
+            (front-step n t (wordAt table j .label) (wordAt table i .label) a (beginning-front m))) in
+            let y : symbolAt n table t i ≡ symbolAt n table t j =
+            sym (symbol-front n t (wordAt table j .label) (wordAt table i .label) (beginning-front m)) in
             fresh (in-upto (step (symbolAt n table) c t) i j (step (symbolAt n table) c t i) (F .below) (λ r. edge (x r) (y r) (F .is r)))
 
         go : Dec (suc t < n) → From (c (suc t)) i (c (suc t) i) → Ended n (symbolAt n table) c t i
@@ -88,7 +96,8 @@ module _ (n : ℕ) (table : List Word) (G : Table n table) where
         go (yes p) F =
             let j = F .at in
             let l : j < length table = omega (arith, F .below) in
-            let K = index table (joined n (suc t) (wordAt table j) (wordAt table i)) (O .inner (suc t) (omega arith) p j i l b .0 (sym (F .is))) in
+            let K = index table (joined n (suc t) (wordAt table j) (wordAt table i))
+            (O .inner (suc t) (omega arith) p j i l b .0 (sym (F .is))) in
             let f : K .at < i = comes-first G (K .at) i (K .below)
             (subst (λ v. Before v (wordAt table i)) (sym (K .is)) (joined-first (suc t) j i (F .below) b (differ F))) in
             with-earlier t i (K .at) p b f (ap (ending n (suc t)) (K .is) ∙ joined-ending n (suc t) (wordAt table j) (wordAt table i))

@@ -11,7 +11,8 @@ use lib.Dec.{T, eqb, eqb→eq, eqb-refl}
 use Rattle.trellis.specs.Lists.{_∈_, Once, Lower}
 use Rattle.trellis.specs.Own.{Edge, edge, edgeLess}
 use Rattle.trellis.proofs.Ascending.{Orders}
-use Rattle.trellis.proofs.ThreeNumbers.{alike-yes, alike-self, lower-yes, lower-of, lower-never, lower-chain, lower-compare, sameEdge}
+use Rattle.trellis.proofs.ThreeNumbers.{alike-yes, alike-self, lower-yes, lower-of, lower-never, lower-chain, lower-compare}
+use Rattle.trellis.proofs.ThreeNumbers.{sameEdge}
 use Rattle.trellis.proofs.Distinct.{Known, new, distinct, look, distinct-le, le-distinct, upto, in-upto, from-upto}
 
 -- ---- edges
@@ -32,7 +33,8 @@ edges-order = record {
   never = λ e t. lower-never _ _ _ (yes-of e e t);
   chain = λ e f g s t. lower-of _ _ _ _ _ _ (lower-chain (yes-of e f s) (yes-of f g t));
   compare = λ e f p q.
-      let a = lower-compare (e .from) (e .symbol) (e .to) (f .from) (f .symbol) (f .to) (λ l. p (lower-of _ _ _ _ _ _ l)) (λ l. q (lower-of _ _ _ _ _ _ l)) in
+      let a = lower-compare (e .from) (e .symbol) (e .to) (f .from) (f .symbol) (f .to) (λ l. p (lower-of _ _ _ _ _ _ l))
+      (λ l. q (lower-of _ _ _ _ _ _ l)) in
       edge-eq (a .firsts) (a .seconds) (a .thirds);
 }
   where
@@ -81,10 +83,12 @@ module _ (s c : ℕ → ℕ → ℕ) where
   ecount-suc m t = refl
 
   to-old : (t i : ℕ) → step t i ∈ upto (step t) i → c (suc t) i ∈ upto (c (suc t)) i
-  to-old t i m = let w = from-upto (step t) i (step t i) m in in-upto (c (suc t)) i (w .at) (c (suc t) i) (w .below) (ap (λ (e : Edge). e .to) (w .is))
+  to-old t i m = let w = from-upto (step t) i (step t i) m in
+      in-upto (c (suc t)) i (w .at) (c (suc t) i) (w .below) (ap (λ (e : Edge). e .to) (w .is))
 
   from-old : (t i : ℕ) → step t i ∈ upto (step t) i → c t i ∈ upto (c t) i
-  from-old t i m = let w = from-upto (step t) i (step t i) m in in-upto (c t) i (w .at) (c t i) (w .below) (ap (λ (e : Edge). e .from) (w .is))
+  from-old t i m = let w = from-upto (step t) i (step t i) m in
+      in-upto (c t) i (w .at) (c t i) (w .below) (ap (λ (e : Edge). e .from) (w .is))
 
   -- a new vertex is entered and left by new edges
   pub into : (t i : ℕ) → vnew (suc t) i ≤ enew t i
@@ -134,7 +138,8 @@ grow E (x ∷ X) l a b = go (grow E X l a (λ y m. b y (List·Memᴰ·tail m))) 
       within = λ e m. inside e (List·Memᴰ·cases-cons m);
       covers = λ y m. cover y (List·Memᴰ·cases-cons m);
       gain =
-          let h : new eqb (w .by .to) (ends (g .all)) ≤ new sameEdge (w .by) (g .all) = new-le-new eqb sameEdge (vlook _ _) (elook _ _) (mem-map (w .by) (g .all)) in
+          let h : new eqb (w .by .to) (ends (g .all)) ≤ new sameEdge (w .by) (g .all) =
+          new-le-new eqb sameEdge (vlook _ _) (elook _ _) (mem-map (w .by) (g .all)) in
           let k = g .gain in
           omega arith;
     }
@@ -147,7 +152,8 @@ grow E (x ∷ X) l a b = go (grow E X l a (λ y m. b y (List·Memᴰ·tail m))) 
         cover y (inl p) = List·Memᴰ·head (p ∙ w .leads)
         cover y (inr u) = List·Memᴰ·tail (g .covers y u)
 
--- The vertices that no path of l enters are no more than the edges that are not in l: X has each vertex once, and each is entered by an edge of E.
+-- The vertices that no path of l enters are no more than the edges that are not in l: X has each vertex once, and each is entered by an
+-- edge of E.
 pub slack : (E : List Edge) (X : List ℕ) (l : List Edge) → Once X → ((e : Edge) → e ∈ l → e ∈ E) → ((x : ℕ) → x ∈ X → Into E x)
     → length X + distinct sameEdge l ≤ length E + distinct eqb (ends l)
 slack E X l o a b =

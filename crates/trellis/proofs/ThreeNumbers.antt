@@ -1,5 +1,5 @@
--- The order of three numbers, by the first, then the second, then the third: the test `lower` tells it, and it is a strict order in which every two can be
--- compared, since each of the three is.
+-- The order of three numbers, by the first, then the second, then the third: the test `lower` tells it, and it is a strict order in which
+-- every two can be compared, since each of the three is.
 use mathlib.Core.Path.{_≡_, sym, subst}
 use mathlib.Core.Bool.{_&&_, _||_, Bool}
 use mathlib.Core.Logic.{inl, inr}
@@ -35,7 +35,9 @@ module _ (a b c x y z : ℕ) where
     where
       same : a ≡ x → T (eqb a x)
       same e = subst (λ k. T (eqb a k)) e (eqb-refl a)
-  lower-of (byThird e f h) = or-right (ltb a x) _ (join (eqb a x) _ (same e) (or-right (ltb b y) _ (join (eqb b y) _ (subst (λ k. T (eqb b k)) f (eqb-refl b)) (lt→ltb c z h))))
+  lower-of (byThird e f h) =
+      or-right (ltb a x) _
+      (join (eqb a x) _ (same e) (or-right (ltb b y) _ (join (eqb b y) _ (subst (λ k. T (eqb b k)) f (eqb-refl b)) (lt→ltb c z h))))
     where
       same : a ≡ x → T (eqb a x)
       same e = subst (λ k. T (eqb a k)) e (eqb-refl a)

@@ -1,6 +1,7 @@
--- Our numbering does what document 01 asks: words share a vertex number at depth 0 exactly if they share the root, at depth n exactly if they share the
--- goal, and at an inner depth of a rectangular table exactly if the one's beginning followed by the other's ending is a word.
--- Equal ranks are of equal keys; and sharing is an equivalence where the table is rectangular, so words that share have one first word.
+-- Our numbering does what document 01 asks: words share a vertex number at depth 0 exactly if they share the root, at depth n exactly if
+-- they share the goal, and at an inner depth of a rectangular table exactly if the one's beginning followed by the other's ending is a
+-- word. Equal ranks are of equal keys; and sharing is an equivalence where the table is rectangular, so words that share have one first
+-- word.
 use mathlib.Core.Path.{_≡_, refl, sym, ap, ap₂, subst, _∙_}
 use mathlib.Core.Logic.{_↔_}
 use mathlib.Core.List.{List}
@@ -54,9 +55,11 @@ module _ (n : ℕ) (table : List Word) where
   unfolding vertexOf keys
   key-at t i h = ranked (keys n table t) (key n table t i) (ascends ltb numbers _) (key-in t i h) .is
 
-  pub vertex-key : (t i j : ℕ) → i < length table → j < length table → (vertexOf n table t i ≡ vertexOf n table t j) ↔ (key n table t i ≡ key n table t j)
+  pub vertex-key : (t i j : ℕ) → i < length table → j < length table → (vertexOf n table t i ≡ vertexOf n table t j)
+      ↔ (key n table t i ≡ key n table t j)
   unfolding vertexOf
-  vertex-key t i j a b = (λ e. sym (key-at t i a) ∙ ap (λ v. getD (keys n table t) v 0) e ∙ key-at t j b, λ e. ap (λ k. rank k (keys n table t)) e)
+  vertex-key t i j a b =
+      (λ e. sym (key-at t i a) ∙ ap (λ v. getD (keys n table t) v 0) e ∙ key-at t j b, λ e. ap (λ k. rank k (keys n table t)) e)
 
   -- vertices are numbered by ascending key
   pub vertex-less : (t i j : ℕ) → i < length table → key n table t i < key n table t j → vertexOf n table t i < vertexOf n table t j
@@ -99,20 +102,25 @@ module _ (n : ℕ) (table : List Word) (t : ℕ) where
 
   module _ (R : RectangularAt n t table) where
     share-turn : (i j : ℕ) → i < length table → j < length table → T (shares n table t i j) → T (shares n table t j i)
-    share-turn i j a b s = shares-of j i (joined-turn n t table R (wordAt table i) (wordAt table j) (word-in table i a) (word-in table j b) (shares-yes i j s))
+    share-turn i j a b s =
+        shares-of j i (joined-turn n t table R (wordAt table i) (wordAt table j) (word-in table i a) (word-in table j b) (shares-yes i j s))
 
     share-chain : (i j k : ℕ) → j < length table → T (shares n table t i j) → T (shares n table t j k) → T (shares n table t i k)
     share-chain i j k b s r =
-        shares-of i k (joined-chain n t table R (wordAt table i) (wordAt table j) (wordAt table k) (word-in table j b) (shares-yes i j s) (shares-yes j k r))
+        shares-of i k (joined-chain n t table R (wordAt table i) (wordAt table j) (wordAt table k) (word-in table j b) (shares-yes i j s)
+        (shares-yes j k r))
 
     -- words that share have one first word
-    pub first-same : (i j : ℕ) → i < length table → j < length table → T (shares n table t i j) → firstSharing n table t i ≡ firstSharing n table t j
+    pub first-same : (i j : ℕ) → i < length table → j < length table → T (shares n table t i j)
+        → firstSharing n table t i ≡ firstSharing n table t j
     first-same i j a b s =
         let x = first-least j (firstSharing n table t i) (share-chain (firstSharing n table t i) i j a (first-shares i a) s) in
-        let y = first-least i (firstSharing n table t j) (share-chain (firstSharing n table t j) j i b (first-shares j b) (share-turn i j a b s)) in
+        let y = first-least i (firstSharing n table t j)
+        (share-chain (firstSharing n table t j) j i b (first-shares j b) (share-turn i j a b s)) in
         omega arith
 
-    pub same-first : (i j : ℕ) → i < length table → j < length table → firstSharing n table t i ≡ firstSharing n table t j → T (shares n table t i j)
+    pub same-first : (i j : ℕ) → i < length table → j < length table → firstSharing n table t i ≡ firstSharing n table t j
+        → T (shares n table t i j)
     same-first i j a b e =
         let l = first-le j in
         let f : firstSharing n table t j < length table = omega arith in
@@ -130,7 +138,10 @@ keys-iff p q = (λ e. sym p ∙ e ∙ q, λ e. p ∙ e ∙ sym q)
 pub own-numbering : (n : ℕ) (table : List Word) → 0 < n → Rectangular n table → Numbering n table (vertexOf n table)
 own-numbering n table h R = record {
   roots = λ i j a b. iff-chain (vertex-key n table 0 i j a b) (keys-iff (key-root n table i) (key-root n table j));
-  inner = λ t p q i j a b. iff-chain (vertex-key n table t i j a b) (iff-chain (keys-iff (key-inner n table t i p q) (key-inner n table t j p q))
-      (λ e. shares-yes n table t i j (same-first n table t (R t p q) i j a b e), λ m. first-same n table t (R t p q) i j a b (shares-of n table t i j m)));
+  inner = λ t p q i j a b. iff-chain (vertex-key n table t i j a b)
+      (iff-chain (keys-iff (key-inner n table t i p q) (key-inner n table t j p q)) (
+        λ e. shares-yes n table t i j (same-first n table t (R t p q) i j a b e),
+        λ m. first-same n table t (R t p q) i j a b (shares-of n table t i j m),
+      ));
   goals = λ i j a b. iff-chain (vertex-key n table n i j a b) (keys-iff (key-goal n table i h) (key-goal n table j h));
 }

@@ -1,5 +1,5 @@
--- The witness search finds nothing exactly if the table is rectangular, and else the first words that force a missing one, in the stated order.
--- A search over a range finds what it finds at the first place where there is something; each of the four searches is one of these.
+-- The witness search finds nothing exactly if the table is rectangular, and else the first words that force a missing one, in the stated
+-- order. A search over a range finds what it finds at the first place where there is something; each of the four searches is one of these.
 use mathlib.Core.Path.{_≡_, refl, sym, ap, subst, _∙_}
 use mathlib.Core.Bool.{Bool, true, false, _&&_, not}
 use mathlib.Core.Logic.{_↔_}
@@ -12,10 +12,12 @@ use lib.Dec.{T, eqb, eqb→eq, T-not, not-T}
 use Rattle.trellis.specs.Lists.{_∈_, isIn}
 use Rattle.trellis.specs.Label.{front, back}
 use Rattle.trellis.specs.Word.{Word, wordAt, sameWord, beginning, ending, joined, Rectangular}
-use Rattle.trellis.specs.Witness.{Witness, found, nothing, sameBeginning, sameEnding, refutes, orElse, when, firstOf, overK, overJ, witnessAt, witness, Refuted, FirstRefuted}
+use Rattle.trellis.specs.Witness.{Witness, found, nothing, sameBeginning, sameEnding, refutes, orElse, when, firstOf, overK, overJ}
+use Rattle.trellis.specs.Witness.{witnessAt, witness, Refuted, FirstRefuted}
 use Rattle.trellis.proofs.Bools.{holds, fails, both, join, eqb-of}
 use Rattle.trellis.proofs.Lists.{in-yes, in-of}
-use Rattle.trellis.proofs.Words.{word-in, same-yes, same-self, beginning-root, beginning-front, beginning-eq, ending-back, ending-goal, ending-eq, rectangular-by}
+use Rattle.trellis.proofs.Words.{word-in, same-yes, same-self, beginning-root, beginning-front, beginning-eq, ending-back}
+use Rattle.trellis.proofs.Words.{ending-goal, ending-eq, rectangular-by}
 
 -- ---- a search over a range
 
@@ -36,7 +38,8 @@ search-none zero low f e m a b = absurd (omega arith)
 search-none (suc count) low f e m a b = go (f low) refl e (search-none count (suc low) f) (ℕ-discrete m low)
   where
     go : (w : Witness) → f low ≡ w → orElse w (firstOf count (suc low) f) ≡ nothing
-        → (firstOf count (suc low) f ≡ nothing → (j : ℕ) → suc low ≤ j → j < suc low + count → f j ≡ nothing) → Dec (m ≡ low) → f m ≡ nothing
+        → (firstOf count (suc low) f ≡ nothing → (j : ℕ) → suc low ≤ j → j < suc low + count → f j ≡ nothing) → Dec (m ≡ low)
+        → f m ≡ nothing
     go (found t i j k) p q r d = absurd (none-found (sym q))
     go nothing p q r (yes d) = ap f d ∙ p
     go nothing p q r (no d) = r q m (omega arith) (omega arith)
@@ -61,7 +64,8 @@ search-hit (suc count) low f t i j k e = go (f low) refl e (search-hit count (su
 
     go : (w : Witness) → f low ≡ w → orElse w (firstOf count (suc low) f) ≡ found t i j k
         → (firstOf count (suc low) f ≡ found t i j k → Hit f (suc low) count (found t i j k)) → Hit f low (suc count) (found t i j k)
-    go (found t′ i′ j′ k′) p q r = record { place = low; from = omega arith; inside = omega arith; is = p ∙ q; before = λ m a b. absurd (omega arith) }
+    go (found t′ i′ j′ k′) p q r =
+        record { place = low; from = omega arith; inside = omega arith; is = p ∙ q; before = λ m a b. absurd (omega arith) }
     go nothing p q r = later j p (r q)
 
 -- ---- one test
@@ -73,7 +77,8 @@ module _ (n t : ℕ) (v w : Word) where
       beginning-eq (eqb→eq _ _ (p .0)) (eqb→eq _ _ (p .1))
 
   pub begins-of : beginning n t v ≡ beginning n t w → T (sameBeginning n t v w)
-  begins-of e = join (eqb (v .root) (w .root)) (eqb (front n t (v .label)) (front n t (w .label))) (eqb-of (beginning-root e)) (eqb-of (beginning-front e))
+  begins-of e = join (eqb (v .root) (w .root)) (eqb (front n t (v .label)) (front n t (w .label))) (eqb-of (beginning-root e))
+      (eqb-of (beginning-front e))
 
   pub ends-yes : T (sameEnding n t v w) → ending n t v ≡ ending n t w
   ends-yes s =
@@ -81,7 +86,8 @@ module _ (n t : ℕ) (v w : Word) where
       ending-eq (eqb→eq _ _ (p .0)) (eqb→eq _ _ (p .1))
 
   pub ends-of : ending n t v ≡ ending n t w → T (sameEnding n t v w)
-  ends-of e = join (eqb (back n t (v .label)) (back n t (w .label))) (eqb (v .goal) (w .goal)) (eqb-of (ending-back e)) (eqb-of (ending-goal e))
+  ends-of e = join (eqb (back n t (v .label)) (back n t (w .label))) (eqb (v .goal) (w .goal)) (eqb-of (ending-back e))
+      (eqb-of (ending-goal e))
 
 module _ (n : ℕ) (table : List Word) where
   -- the fourth word is in the table
@@ -97,7 +103,8 @@ module _ (n : ℕ) (table : List Word) where
   pub refutes-yes : (t i j k : ℕ) → Bounds t i j k → T (refutes n table t i j k) → Refuted n table t i j k
   unfolding refutes
   refutes-yes t i j k B s =
-      let p = both (sameBeginning n t (wordAt table i) (wordAt table j)) (sameEnding n t (wordAt table i) (wordAt table k) && not (fourth t j k)) s in
+      let p = both (sameBeginning n t (wordAt table i) (wordAt table j))
+      (sameEnding n t (wordAt table i) (wordAt table k) && not (fourth t j k)) s in
       let q = both (sameEnding n t (wordAt table i) (wordAt table k)) (not (fourth t j k)) (p .1) in
       record {
         inner = B .inner;
@@ -112,7 +119,8 @@ module _ (n : ℕ) (table : List Word) where
   refutes-of t i j k R =
       join (sameBeginning n t (wordAt table i) (wordAt table j)) (sameEnding n t (wordAt table i) (wordAt table k) && not (fourth t j k))
       (begins-of n t (wordAt table i) (wordAt table j) (R .begins))
-      (join (sameEnding n t (wordAt table i) (wordAt table k)) (not (fourth t j k)) (ends-of n t (wordAt table i) (wordAt table k) (R .ends))
+      (join (sameEnding n t (wordAt table i) (wordAt table k)) (not (fourth t j k))
+      (ends-of n t (wordAt table i) (wordAt table k) (R .ends))
       (not-T (fourth t j k) (λ s. R .missing (in-yes sameWord same-yes same-self _ table s))))
 
   -- ---- the four searches, from the innermost
@@ -153,7 +161,9 @@ module _ (n : ℕ) (table : List Word) where
 
   none-k : (t i j : ℕ) → overK n table t i j ≡ nothing → (k : ℕ) → k < length table → T (refutes n table t i j k) → ⊥
   unfolding overK
-  none-k t i j e k h = when-none (refutes n table t i j k) t i j k (search-none (length table) 0 (λ k. when (refutes n table t i j k) (found t i j k)) e k (omega arith) (omega arith))
+  none-k t i j e k h =
+      when-none (refutes n table t i j k) t i j k
+      (search-none (length table) 0 (λ k. when (refutes n table t i j k) (found t i j k)) e k (omega arith) (omega arith))
 
   -- over j
   record FoundJ (t i a p q r : ℕ) : Type 0 where
@@ -271,11 +281,20 @@ module _ (n : ℕ) (table : List Word) where
       to : witness n table ≡ nothing → Rectangular n table
       to e t p q = rectangular-by n t table (λ i j k a b c x y. go i j k a b c x y (fourth t j k) refl)
         where
-          go : (i j k : ℕ) → i < length table → j < length table → k < length table → beginning n t (wordAt table i) ≡ beginning n t (wordAt table j)
-              → ending n t (wordAt table i) ≡ ending n t (wordAt table k) → (b : Bool) → fourth t j k ≡ b → joined n t (wordAt table k) (wordAt table j) ∈ table
+          go : (i j k : ℕ) → i < length table → j < length table → k < length table
+              → beginning n t (wordAt table i) ≡ beginning n t (wordAt table j)
+              → ending n t (wordAt table i) ≡ ending n t (wordAt table k) → (b : Bool) → fourth t j k ≡ b
+              → joined n t (wordAt table k) (wordAt table j) ∈ table
           go i j k a b c x y true f = in-yes sameWord same-yes same-self _ table (holds f)
           go i j k a b c x y false f = absurd (nowhere-i t i j k (none-t e t p q)
-              (record { inner = (p, q); words = (a, b, c); begins = x; ends = y; missing = λ m. fails f (in-of sameWord same-yes same-self _ table m) }))
+              (record {
+                inner = (p, q);
+                words = (a, b, c);
+                begins = x;
+                ends = y;
+                missing =
+                    λ m. fails f (in-of sameWord same-yes same-self _ table m);
+              }))
 
       of : Rectangular n table → (w : Witness) → witness n table ≡ w → witness n table ≡ nothing
       of R (found t i j k) e = absurd (rectangular-refuted R t i j k (witness-first t i j k e .refuted))

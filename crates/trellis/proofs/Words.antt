@@ -9,7 +9,8 @@ use native.Mathlib.Decide.{ℕ-discrete, decLt}
 use lib.ListN.{length}
 use lib.Dec.{T}
 use Rattle.trellis.specs.Lists.{_∈_}
-use Rattle.trellis.specs.Word.{Word, word, wordAt, Before, sameWord, Table, Beginning, Ending, beginning, ending, joined, RectangularAt, Rectangular}
+use Rattle.trellis.specs.Word.{Word, word, wordAt, Before, sameWord, Table, Beginning, Ending, beginning, ending, joined}
+use Rattle.trellis.specs.Word.{RectangularAt, Rectangular}
 use Rattle.trellis.proofs.Lists.{Place, in-place, place-of}
 use Rattle.trellis.proofs.ThreeNumbers.{lower-never, lower-chain, alike-yes, alike-self}
 use Rattle.trellis.proofs.Labels.{by-parts, spliced-front, spliced-back}
@@ -41,7 +42,8 @@ index table w m = place-of (word 0 0 0) table w m
 -- ---- order
 
 -- of two words of a table, the lower one comes first
-pub comes-first : {n : ℕ} {table : List Word} → Table n table → (k i : ℕ) → k < length table → Before (wordAt table k) (wordAt table i) → k < i
+pub comes-first : {n : ℕ} {table : List Word} → Table n table → (k i : ℕ) → k < length table → Before (wordAt table k) (wordAt table i)
+    → k < i
 comes-first {n} {table} G k i h b = go (decLt k i) (ℕ-discrete k i)
   where
     go : Dec (k < i) → Dec (k ≡ i) → k < i
@@ -55,7 +57,8 @@ pub ascends-all : (table : List Word) → ((i : ℕ) → suc i < length table �
 ascends-all table h i zero a b = absurd (not-suc-le-zero a)
 ascends-all table h i (suc j) a b = go (ascends-all table h i j) (ℕ-discrete i j)
   where
-    go : (i < j → j < length table → Before (wordAt table i) (wordAt table j)) → Dec (i ≡ j) → Before (wordAt table i) (wordAt table (suc j))
+    go : (i < j → j < length table → Before (wordAt table i) (wordAt table j)) → Dec (i ≡ j)
+        → Before (wordAt table i) (wordAt table (suc j))
     go r (yes e) = subst (λ k. Before (wordAt table k) (wordAt table (suc j))) (sym e) (h j b)
     go r (no e) = lower-chain (r (omega arith) (omega arith)) (h j b)
 

@@ -1,5 +1,5 @@
--- Laws of writing into a lent buffer: pieces written one behind another are one piece, and what is written from the front on is followed by what stood
--- behind it. Each follows along the piece.
+-- Laws of writing into a lent buffer: pieces written one behind another are one piece, and what is written from the front on is followed by
+-- what stood behind it. Each follows along the piece.
 use mathlib.Core.Path.{_≡_, refl, sym, _∙_, ap}
 use mathlib.Core.List.{List, [], _∷_, _++_}
 use Prim.Native.Nat.{ℕ, zero, suc, _+_, _<_, _≤_}
@@ -40,12 +40,14 @@ sets-before (v ∷ vs) l i j h = sets-before vs (set l i v) (suc i) j (omega ari
 sets-at : (vs l : List ℕ) (i k : ℕ) → k < length vs → i + length vs ≤ length l → getD (sets l i vs) (i + k) 0 ≡ getD vs k 0
 sets-at [] l i k h r = absurd (omega arith)
 sets-at (v ∷ vs) l i zero h r = rw (add-zero i) (sets-before vs (set l i v) (suc i) i (omega arith) ∙ getD-set-same l i v 0 (omega arith))
-sets-at (v ∷ vs) l i (suc k) h r = rw (add-suc i k, ← suc-add i k) (sets-at vs (set l i v) (suc i) k (omega arith) (rw (length-set l i v) (omega arith)))
+sets-at (v ∷ vs) l i (suc k) h r =
+    rw (add-suc i k, ← suc-add i k) (sets-at vs (set l i v) (suc i) k (omega arith) (rw (length-set l i v) (omega arith)))
 
 pub wrote-before : {a b us : List ℕ} {at m : ℕ} → Wrote a at us b m → (j : ℕ) → j < at → getD b j 0 ≡ getD a j 0
 wrote-before {a} {b} {us} {at} {m} p j h = ap (λ l. getD l j 0) (p .new-is) ∙ sets-before us a at j h
 
-pub wrote-at : {a b us : List ℕ} {at m : ℕ} → Wrote a at us b m → at + length us ≤ length a → (k : ℕ) → k < length us → getD b (at + k) 0 ≡ getD us k 0
+pub wrote-at : {a b us : List ℕ} {at m : ℕ} → Wrote a at us b m → at + length us ≤ length a → (k : ℕ) → k < length us
+    → getD b (at + k) 0 ≡ getD us k 0
 wrote-at {a} {b} {us} {at} {m} p r k h = ap (λ l. getD l (at + k) 0) (p .new-is) ∙ sets-at us a at k h r
 
 sets-behind : (vs l : List ℕ) (i j : ℕ) → i + length vs ≤ j → getD (sets l i vs) j 0 ≡ getD l j 0

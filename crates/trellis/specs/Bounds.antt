@@ -1,5 +1,5 @@
--- Document 01's bounds, each named once. The code has them as the constants of this crate (src/lib.rt); its promises, which speak of these definitions,
--- hold only because the two agree.
+-- Document 01's bounds, each named once. The code has them as the constants of this crate (src/lib.rt); its promises, which speak of these
+-- definitions, hold only because the two agree.
 use Prim.Native.Nat.{ℕ}
 
 -- q is 2 to 4

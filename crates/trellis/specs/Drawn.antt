@@ -1,5 +1,6 @@
--- A section drawn by another hand, for demand 3: vertices listed for each depth and edges listed for each step. Inner vertices may be any number and may be
--- twins, a word may have several paths, symbols may be any numbers, and nothing here asks for our layout or bounds. Step t + 1 of document 01 is step t.
+-- A section drawn by another hand, for demand 3: vertices listed for each depth and edges listed for each step. Inner vertices may be any
+-- number and may be twins, a word may have several paths, symbols may be any numbers, and nothing here asks for our layout or bounds. Step
+-- t + 1 of document 01 is step t.
 use mathlib.Core.Path.{_≡_}
 use mathlib.Core.List.{List}
 use Prim.Native.Nat.{ℕ, suc, _≤_, _<_}

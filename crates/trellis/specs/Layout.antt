@@ -1,6 +1,6 @@
--- Document 01's layout of a section in numbers: q, n, S; vertex counts for depths 0 to n; edge counts for steps 1 to n; the root states; the goal
--- states; then two parallel arrays, pairs (from, to) and symbols. Here a list of numbers is read by this layout, whatever it holds; a number past the
--- end reads as 0. Step t + 1 of document 01 is written as step t.
+-- Document 01's layout of a section in numbers: q, n, S; vertex counts for depths 0 to n; edge counts for steps 1 to n; the root states;
+-- the goal states; then two parallel arrays, pairs (from, to) and symbols. Here a list of numbers is read by this layout, whatever it
+-- holds; a number past the end reads as 0. Step t + 1 of document 01 is written as step t.
 use mathlib.Core.List.{List, [], _∷_, _++_, map, flatMap}
 use Prim.Native.Nat.{ℕ, zero, suc, _+_, _*_}
 use lib.ListN.{getD}

@@ -1,5 +1,5 @@
-// The theory of trellis sections: definitions in specs/, theorems in proofs/, and no code but document 01's bounds as constants, one for each definition of
-// specs/Bounds.
+// The theory of trellis sections: definitions in specs/, theorems in proofs/, and no code but document 01's bounds as constants, one for
+// each definition of specs/Bounds.
 pub const LEAST_Q: usize = 2;
 
 pub const MOST_Q: usize = 4;

@@ -56,18 +56,27 @@ module _ {starts firsts : List ℕ} {w k j : ℕ} where
   pub ending-yes : Ends starts firsts w k j → hasEnding starts firsts w k j ≡ true
   unfolding hasEnding
   ending-yes E = any-hit (λ l. eqb (at starts l) (at starts k) && eqb (at firsts l) (at firsts j)) w (E .place) (E .below)
-      (ap₂ (λ a b. a && b) (eq-eqb (at starts (E .place)) (at starts k) (E .begins)) (eq-eqb (at firsts (E .place)) (at firsts j) (E .ends)))
+      (ap₂ (λ a b. a && b) (eq-eqb (at starts (E .place)) (at starts k) (E .begins))
+      (eq-eqb (at firsts (E .place)) (at firsts j) (E .ends)))
 
   pub ending-of : hasEnding starts firsts w k j ≡ true → Ends starts firsts w k j
   unfolding hasEnding
   ending-of e =
       let x = any-find (λ l. eqb (at starts l) (at starts k) && eqb (at firsts l) (at firsts j)) w (holds e) in
       let p = both (eqb (at starts (x .place)) (at starts k)) (eqb (at firsts (x .place)) (at firsts j)) (x .hits) in
-      record { place = x .place; below = x .below; begins = eqb→eq (at starts (x .place)) (at starts k) (p .0); ends = eqb→eq (at firsts (x .place)) (at firsts j) (p .1) }
+      record {
+        place = x .place;
+        below = x .below;
+        begins = eqb→eq (at starts (x .place)) (at starts k) (p .0);
+        ends =
+            eqb→eq (at firsts (x .place)) (at firsts j) (p .1);
+      }
 
-ending-no : (starts firsts : List ℕ) (w k j : ℕ) → ((l : ℕ) → l < w → at starts l ≡ at starts k → at firsts l ≡ at firsts j → ⊥) → hasEnding starts firsts w k j ≡ false
+ending-no : (starts firsts : List ℕ) (w k j : ℕ) → ((l : ℕ) → l < w → at starts l ≡ at starts k → at firsts l ≡ at firsts j → ⊥)
+    → hasEnding starts firsts w k j ≡ false
 unfolding hasEnding
-ending-no starts firsts w k j h = any-none (λ l. eqb (at starts l) (at starts k) && eqb (at firsts l) (at firsts j)) w (λ l b. is-false _ (λ u.
+ending-no starts firsts w k j h =
+    any-none (λ l. eqb (at starts l) (at starts k) && eqb (at firsts l) (at firsts j)) w (λ l b. is-false _ (λ u.
     let p = both (eqb (at starts l) (at starts k)) (eqb (at firsts l) (at firsts j)) u in
     h l b (eqb→eq (at starts l) (at starts k) (p .0)) (eqb→eq (at firsts l) (at firsts j) (p .1))))
 
@@ -83,7 +92,8 @@ run-yes starts w a l e =
     (ltb→lt l w (p .0), eqb→eq (at starts l) a (p .1))
 
 -- behind a word that is no more of the run no word is
-pub run-no : {starts firsts : List ℕ} {w i a l : ℕ} → SearchRows w starts firsts → i < w → a ≡ at starts i → at starts i ≤ l → inRun starts w a l ≡ false
+pub run-no : {starts firsts : List ℕ} {w i a l : ℕ} → SearchRows w starts firsts → i < w → a ≡ at starts i → at starts i ≤ l
+    → inRun starts w a l ≡ false
     → (x : ℕ) → l ≤ x → x < w → at starts x ≡ at starts i → ⊥
 unfolding inRun
 run-no {starts} {firsts} {w} {i} {a} {l} R h e f n x p q s =
@@ -100,7 +110,8 @@ pub record InEnding (starts firsts : List ℕ) (w k j a x l : ℕ) : Type 0 wher
   pub from : at starts k ≤ l
   pub none : (y : ℕ) → y < l → at starts y ≡ at starts k → at firsts y ≡ at firsts j → ⊥
 
-pub ending-none : {starts firsts : List ℕ} {w k j a x l : ℕ} → SearchRows w starts firsts → k < w → a ≡ at starts k → x ≡ at firsts j → l ≡ a
+pub ending-none : {starts firsts : List ℕ} {w k j a x l : ℕ} → SearchRows w starts firsts → k < w → a ≡ at starts k → x ≡ at firsts j
+    → l ≡ a
     → InEnding starts firsts w k j a x l
 ending-none {starts} {firsts} {w} {k} {j} {a} {x} {l} R h e f g = record {
   rows = R;
@@ -148,6 +159,7 @@ module _ (starts firsts : List ℕ) (w i j k : ℕ) where
   unfolding refutesIn
   refutes-end p h = simp (eq-eqb (at starts i) (at starts j) p, ne-eqb (at firsts i) (at firsts k) h)
 
-  pub refutes-last : {r : Bool} → at starts i ≡ at starts j → at firsts i ≡ at firsts k → r ≡ hasEnding starts firsts w k j → not r ≡ refutesIn starts firsts w i j k
+  pub refutes-last : {r : Bool} → at starts i ≡ at starts j → at firsts i ≡ at firsts k → r ≡ hasEnding starts firsts w k j
+      → not r ≡ refutesIn starts firsts w i j k
   unfolding refutesIn
   refutes-last {r} p q e = simp (eq-eqb (at starts i) (at starts j) p, eq-eqb (at firsts i) (at firsts k) q) (ap not e)

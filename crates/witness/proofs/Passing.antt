@@ -1,5 +1,6 @@
--- Why a word i may be passed over. No witness begins with i if the run of every word with i's ending has all endings of i's run. That is so too where it is so of
--- the first word with i's ending, and its run has all endings of i's run: then i's endings are endings of that word's run, which the other runs have.
+-- Why a word i may be passed over. No witness begins with i if the run of every word with i's ending has all endings of i's run. That is so
+-- too where it is so of the first word with i's ending, and its run has all endings of i's run: then i's endings are endings of that word's
+-- run, which the other runs have.
 use mathlib.Core.Path.{_≡_, refl, sym, ap, _∙_}
 use mathlib.Core.Bool.{Bool, true, false, not}
 use mathlib.Core.List.{List}
@@ -30,7 +31,8 @@ pub record InWithin (starts firsts : List ℕ) (w i k a b j l : ℕ) : Type 0 wh
   pub lLe : l ≤ w
   pub done : (x : ℕ) → x < j → at starts x ≡ at starts i → hasEnding starts firsts w k x ≡ true
 
-pub within-none : {starts firsts : List ℕ} {w i k a b j l : ℕ} → SearchRows w starts firsts → i < w → k < w → a ≡ at starts i → b ≡ at starts k → j ≡ a → l ≡ b
+pub within-none : {starts firsts : List ℕ} {w i k a b j l : ℕ} → SearchRows w starts firsts → i < w → k < w → a ≡ at starts i
+    → b ≡ at starts k → j ≡ a → l ≡ b
     → InWithin starts firsts w i k a b j l
 within-none {starts} {firsts} {w} {i} {k} R p q e f g o = record {
   rows = R;
@@ -53,7 +55,8 @@ module _ {starts firsts : List ℕ} {w i k a b j l : ℕ} (c : InWithin starts f
       go : Dec (at firsts l ≡ at firsts j) → InWithin starts firsts w i k a b next (l + 1)
       go (yes f) =
           let step : next ≡ j + 1 = e ∙ ap (λ b. j + one-if b) (eq-eqb (at firsts l) (at firsts j) f) in
-          let found : hasEnding starts firsts w k j ≡ true = ending-yes (record { place = l; below = lt; begins = run-yes starts w b l q .1 ∙ c .other; ends = f }) in
+          let found : hasEnding starts firsts w k j ≡ true =
+          ending-yes (record { place = l; below = lt; begins = run-yes starts w b l q .1 ∙ c .other; ends = f }) in
           record {
             rows = c .rows;
             iLt = c .iLt;
@@ -61,7 +64,8 @@ module _ {starts firsts : List ℕ} {w i k a b j l : ℕ} (c : InWithin starts f
             other = c .other;
             from = omega (arith, c .from);
             lLe = omega (arith, lt);
-            done = λ x m. upto-next (λ x. at starts x ≡ at starts i → hasEnding starts firsts w k x ≡ true) j (c .done) (λ o. found) x (omega arith);
+            done = λ x m. upto-next (λ x. at starts x ≡ at starts i → hasEnding starts firsts w k x ≡ true) j (c .done) (λ o. found) x
+                (omega arith);
           }
       go (no f) =
           let step : next ≡ j + 0 = e ∙ ap (λ b. j + one-if b) (ne-eqb (at firsts l) (at firsts j) f) in
@@ -91,7 +95,8 @@ pub record InAlike (starts firsts : List ℕ) (w i k : ℕ) : Type 0 where
   pub soFar : (x : ℕ) → x < k → at firsts i ≡ at firsts x → Within starts firsts w i x
 
 -- where i is the first word with its ending, none before has it; and i's run has its own endings
-pub alike-none : {starts firsts : List ℕ} {w i first : ℕ} → SearchRows w starts firsts → i < w → first ≡ at firsts i → i ≤ first → InAlike starts firsts w i (i + 1)
+pub alike-none : {starts firsts : List ℕ} {w i first : ℕ} → SearchRows w starts firsts → i < w → first ≡ at firsts i → i ≤ first
+    → InAlike starts firsts w i (i + 1)
 alike-none {starts} {firsts} {w} {i} {first} R h e f = record {
   from = omega arith;
   kLe = omega arith;
@@ -100,7 +105,8 @@ alike-none {starts} {firsts} {w} {i} {first} R h e f = record {
       (λ q j p s. ending-yes (record { place = j; below = p; begins = s; ends = refl }));
 }
 
-pub alike-more : {starts firsts : List ℕ} {w i k : ℕ} → InAlike starts firsts w i k → (at firsts i ≡ at firsts k → Within starts firsts w i k) → k < w
+pub alike-more : {starts firsts : List ℕ} {w i k : ℕ} → InAlike starts firsts w i k
+    → (at firsts i ≡ at firsts k → Within starts firsts w i k) → k < w
     → InAlike starts firsts w i (k + 1)
 alike-more {starts} {firsts} {w} {i} {k} c f h = record {
   from = omega (arith, c .from);
@@ -124,15 +130,18 @@ pub alike-end : {starts firsts : List ℕ} {w i k : ℕ} → InAlike starts firs
 alike-end {starts} {firsts} {w} {i} {k} c h = none-by starts firsts w i (λ j x p q s f. c .soFar x (omega arith) f j p s)
 
 -- a triple that does not refute, of words that begin alike and end alike
-pub not-missing : (starts firsts : List ℕ) (w i j k : ℕ) → refutesIn starts firsts w i j k ≡ false → at starts i ≡ at starts j → at firsts i ≡ at firsts k
+pub not-missing : (starts firsts : List ℕ) (w i j k : ℕ) → refutesIn starts firsts w i j k ≡ false → at starts i ≡ at starts j
+    → at firsts i ≡ at firsts k
     → hasEnding starts firsts w k j ≡ true
-not-missing starts firsts w i j k e p q = go (hasEnding starts firsts w k j) (refutes-last starts firsts w i j k {r = hasEnding starts firsts w k j} p q refl ∙ e)
+not-missing starts firsts w i j k e p q =
+    go (hasEnding starts firsts w k j) (refutes-last starts firsts w i j k {r = hasEnding starts firsts w k j} p q refl ∙ e)
   where
     go : (b : Bool) → not b ≡ false → b ≡ true
     go true f = refl
     go false f = sym f
 
-pub earlier-none : {starts firsts : List ℕ} {w i first : ℕ} → SearchRows w starts firsts → i < w → first ≡ at firsts i → first < i → Within starts firsts w i first
+pub earlier-none : {starts firsts : List ℕ} {w i first : ℕ} → SearchRows w starts firsts → i < w → first ≡ at firsts i → first < i
+    → Within starts firsts w i first
     → NoneBefore (refutesIn starts firsts w) w i → NoneFrom (refutesIn starts firsts w) w i
 earlier-none {starts} {firsts} {w} {i} {first} R h e f I B = none-by starts firsts w i (λ j k p q s g.
     let E = ending-of (I j p s) in
@@ -142,7 +151,8 @@ earlier-none {starts} {firsts} {w} {i} {first} R h e f I B = none-by starts firs
 
 -- ---- the searches over j and over k start late
 
-pub enter-J : {starts firsts : List ℕ} {w i j : ℕ} → SearchRows w starts firsts → NoneBefore (refutesIn starts firsts w) w i → i < w → j ≡ at starts i
+pub enter-J : {starts firsts : List ℕ} {w i j : ℕ} → SearchRows w starts firsts → NoneBefore (refutesIn starts firsts w) w i → i < w
+    → j ≡ at starts i
     → InJ (refutesIn starts firsts w) w i j
 enter-J {starts} {firsts} {w} {i} {j} R B h e =
     let l = R .startLe i h in
@@ -153,7 +163,8 @@ enter-J {starts} {firsts} {w} {i} {j} R B h e =
       none = λ y p k q. sym (refutes-begin starts firsts w i y k (λ d. omega (arith, R .startLe y (omega arith))));
     }
 
-pub enter-K : {starts firsts : List ℕ} {w i j k : ℕ} → SearchRows w starts firsts → InJ (refutesIn starts firsts w) w i j → j < w → k ≡ at firsts i
+pub enter-K : {starts firsts : List ℕ} {w i j k : ℕ} → SearchRows w starts firsts → InJ (refutesIn starts firsts w) w i j → j < w
+    → k ≡ at firsts i
     → InK (refutesIn starts firsts w) w i j k
 enter-K {starts} {firsts} {w} {i} {j} {k} R c h e =
     let l = R .firstLe i (c .iLt) in

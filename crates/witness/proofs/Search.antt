@@ -1,5 +1,5 @@
--- The nested search over i, j, k. Each loop keeps that no triple before the present one passes. A first triple that passes is what the nested searches of the
--- definition find: each search over a range gives the first place where there is something, and so its triple.
+-- The nested search over i, j, k. Each loop keeps that no triple before the present one passes. A first triple that passes is what the
+-- nested searches of the definition find: each search over a range gives the first place where there is something, and so its triple.
 use mathlib.Core.Path.{_≡_, refl, sym, ap, _∙_}
 use mathlib.Core.Bool.{Bool, true, false}
 use mathlib.Core.List.{List}
@@ -42,7 +42,8 @@ pub next-none : {test : ℕ → ℕ → ℕ → Bool} {w low i : ℕ} → Next t
 next-none {test} {w} {low} {i} c h n = record { from = omega (arith, c .from); before = before-more (c .before) h n }
 
 pub again-K : {test : ℕ → ℕ → ℕ → Bool} {w i j k : ℕ} → InK test w i j k → k < w → test i j k ≡ false → InK test w i j (k + 1)
-again-K {test} {w} {i} {j} {k} c h e = record { inJ = c .inJ; jLt = c .jLt; kLe = omega arith; none = upto-next (λ z. test i j z ≡ false) k (c .none) e }
+again-K {test} {w} {i} {j} {k} c h e =
+    record { inJ = c .inJ; jLt = c .jLt; kLe = omega arith; none = upto-next (λ z. test i j z ≡ false) k (c .none) e }
 
 pub again-J : {test : ℕ → ℕ → ℕ → Bool} {w i j k : ℕ} → InK test w i j k → w ≤ k → InJ test w i (j + 1)
 again-J {test} {w} {i} {j} {k} c h = record {
@@ -69,7 +70,8 @@ none-left {test} {w} {i} c h = record { le = omega arith; none = λ x l. c .none
 
 -- ---- one test for another
 
-pub first-cong : (p q : ℕ → ℕ → ℕ → Bool) (w : ℕ) → ((i j k : ℕ) → i < w → j < w → k < w → p i j k ≡ q i j k) → (r : Witness) → FirstIn p w r → FirstIn q w r
+pub first-cong : (p q : ℕ → ℕ → ℕ → Bool) (w : ℕ) → ((i j k : ℕ) → i < w → j < w → k < w → p i j k ≡ q i j k) → (r : Witness)
+    → FirstIn p w r → FirstIn q w r
 first-cong p q w e (At i j k) F =
     let a = F .below .0 in
     let b = F .below .1 in
@@ -85,7 +87,8 @@ first-cong p q w e Nothing F = record { le = F .le; none = λ x h y l z m. sym (
 
 -- ---- the searches of the definition
 
-search-nothing : (count low : ℕ) (f : ℕ → trellis.Witness) → ((m : ℕ) → low ≤ m → m < low + count → f m ≡ nothing) → firstOf count low f ≡ nothing
+search-nothing : (count low : ℕ) (f : ℕ → trellis.Witness) → ((m : ℕ) → low ≤ m → m < low + count → f m ≡ nothing)
+    → firstOf count low f ≡ nothing
 unfolding firstOf
 search-nothing zero low f h = refl
 search-nothing (suc count) low f h =
@@ -99,7 +102,8 @@ search-found zero low place f t i j k a b e h = absurd (omega arith)
 search-found (suc count) low place f t i j k a b e h =
     go (ℕ-discrete low place) (λ l. search-found count (suc low) place f t i j k l (omega arith) e (λ m p q. h m (omega arith) q))
   where
-    go : Dec (low ≡ place) → (suc low ≤ place → firstOf count (suc low) f ≡ found t i j k) → orElse (f low) (firstOf count (suc low) f) ≡ found t i j k
+    go : Dec (low ≡ place) → (suc low ≤ place → firstOf count (suc low) f ≡ found t i j k)
+        → orElse (f low) (firstOf count (suc low) f) ≡ found t i j k
     go (yes d) r = ap (λ v. orElse v (firstOf count (suc low) f)) (ap f d ∙ e)
     go (no d) r = ap (λ v. orElse v (firstOf count (suc low) f)) (h low (omega arith) (omega arith)) ∙ r (omega arith)
 
@@ -116,8 +120,11 @@ module _ (n : ℕ) (table : List Word) (t : ℕ) where
   pub first-is : (r : Witness) → FirstIn (refutes n table t) (length table) r → asWitness t r ≡ witnessAt n table t
   unfolding witnessAt overJ overK
   first-is (At i j k) F =
-      let at-k = search-found (length table) 0 k (λ k. when (refutes n table t i j k) (found t i j k)) t i j k (omega arith) (omega (arith, F .below .2))
+      let at-k = search-found (length table) 0 k (λ k. when (refutes n table t i j k) (found t i j k)) t i j k (omega arith)
+      (omega (arith, F .below .2))
       (ap (λ v. when v (found t i j k)) (F .passes)) (λ z a b. ap (λ v. when v (found t i j z)) (F .firstK z b)) in
-      let at-j = search-found (length table) 0 j (overK n table t i) t i j k (omega arith) (omega (arith, F .below .1)) at-k (λ y a b. none-k i y (F .firstJ y b)) in
-      sym (search-found (length table) 0 i (overJ n table t) t i j k (omega arith) (omega (arith, F .below .0)) at-j (λ x a b. none-j x (F .firstI x b)))
+      let at-j = search-found (length table) 0 j (overK n table t i) t i j k (omega arith) (omega (arith, F .below .1)) at-k
+      (λ y a b. none-k i y (F .firstJ y b)) in
+      sym (search-found (length table) 0 i (overJ n table t) t i j k (omega arith) (omega (arith, F .below .0)) at-j
+      (λ x a b. none-j x (F .firstI x b)))
   first-is Nothing F = sym (search-nothing (length table) 0 (overJ n table t) (λ x a b. none-j x (F .none x (omega arith))))

@@ -1,5 +1,5 @@
--- What the rows say of the words. Words have one run start exactly if they begin alike, and one number in the row of first words exactly if they end alike; and the
--- run of k has the ending of j exactly if the joined word is in the table. So the rows' test is the definition's.
+-- What the rows say of the words. Words have one run start exactly if they begin alike, and one number in the row of first words exactly if
+-- they end alike; and the run of k has the ending of j exactly if the joined word is in the table. So the rows' test is the definition's.
 use mathlib.Core.Path.{_≡_, sym, ap, ap₂, subst, _∙_}
 use mathlib.Core.Bool.{_&&_, not}
 use mathlib.Core.Logic.{_↔_}
@@ -33,16 +33,20 @@ use Rattle.witness.proofs.Endings.{ending-yes, ending-of}
 -- ---- the rows' test is the definition's
 
 module _ {n : ℕ} {table : List Word} (G : Table n table) (t : ℕ) (le : t ≤ n) (starts firsts : List ℕ)
-    (start : (i : ℕ) → i < length table → at starts i ≡ firstLike (beginningAt n table t) i) (D : Tells (length table) (endingAt n table t) (at firsts)) where
-  starts-same : (i j : ℕ) → i < length table → j < length table → (at starts i ≡ at starts j) ↔ (beginningAt n table t i ≡ beginningAt n table t j)
+    (start : (i : ℕ) → i < length table → at starts i ≡ firstLike (beginningAt n table t) i)
+    (D : Tells (length table) (endingAt n table t) (at firsts)) where
+  starts-same : (i j : ℕ) → i < length table → j < length table → (at starts i ≡ at starts j)
+      ↔ (beginningAt n table t i ≡ beginningAt n table t j)
   starts-same i j a b = (
-    λ e. sym (like-is (beginningAt n table t) i) ∙ ap (beginningAt n table t) (sym (start i a) ∙ e ∙ start j b) ∙ like-is (beginningAt n table t) j,
+    λ e. sym (like-is (beginningAt n table t) i) ∙ ap (beginningAt n table t) (sym (start i a) ∙ e ∙ start j b)
+        ∙ like-is (beginningAt n table t) j,
     λ e. start i a ∙ like-eq (beginningAt n table t) i j e ∙ sym (start j b),
   )
 
   has-is : (k j : ℕ) → k < length table → j < length table
       → hasEnding starts firsts (length table) k j ≡ isIn sameWord (joined n t (wordAt table k) (wordAt table j)) table
-  has-is k j a b = same-test (hasEnding starts firsts (length table) k j) (isIn sameWord (joined n t (wordAt table k) (wordAt table j)) table)
+  has-is k j a b = same-test (hasEnding starts firsts (length table) k j)
+      (isIn sameWord (joined n t (wordAt table k) (wordAt table j)) table)
       (λ u.
       let E = ending-of (is-true (hasEnding starts firsts (length table) k j) u) in
       in-of sameWord same-yes same-self _ table (shared-joined G t le k j a b (record {
@@ -60,13 +64,16 @@ module _ {n : ℕ} {table : List Word} (G : Table n table) (t : ℕ) (le : t ≤
         ends = D (S .at) j (S .inside) b .1 (S .ends);
       })))
 
-  refutes-is : (i j k : ℕ) → i < length table → j < length table → k < length table → refutesIn starts firsts (length table) i j k ≡ refutes n table t i j k
+  refutes-is : (i j k : ℕ) → i < length table → j < length table → k < length table
+      → refutesIn starts firsts (length table) i j k ≡ refutes n table t i j k
   unfolding refutesIn refutes
   refutes-is i j k a b c =
       ap₂ (λ x y. x && y)
-      (eqb-iff (at starts i) (at starts j) (beginningAt n table t i) (beginningAt n table t j) (starts-same i j a b) ∙ sym (begins-eq G t le i j a b))
+      (eqb-iff (at starts i) (at starts j) (beginningAt n table t i) (beginningAt n table t j) (starts-same i j a b)
+      ∙ sym (begins-eq G t le i j a b))
       (ap₂ (λ x y. x && not y)
-      (eqb-iff (at firsts i) (at firsts k) (endingAt n table t i) (endingAt n table t k) (D i k a c) ∙ sym (ends-eq G t le i k a c)) (has-is k j c b))
+      (eqb-iff (at firsts i) (at firsts k) (endingAt n table t i) (endingAt n table t k) (D i k a c) ∙ sym (ends-eq G t le i k a c))
+      (has-is k j c b))
 
 -- ---- the rows of the search, from the passes
 
@@ -87,14 +94,17 @@ pub record InRows (n t : ℕ) (roots labels goals row : List ℕ) (u : ℕ) : Ty
   pub ends : EndingRow n (words roots labels goals) u row
   pub firsts : u < n → FirstRow (length (words roots labels goals)) row
 
-pub rows-none : {n t : ℕ} {roots labels goals row : List ℕ} → InnerDepth n t roots labels goals → EndingRow n (words roots labels goals) n row
+pub rows-none : {n t : ℕ} {roots labels goals row : List ℕ} → InnerDepth n t roots labels goals
+    → EndingRow n (words roots labels goals) n row
     → InRows n t roots labels goals row n
 rows-none Q E = record { from = omega (arith, Q .deep); le = omega arith; ends = E; firsts = λ h. absurd (omega arith) }
 
-pub rows-small : {n t : ℕ} {roots labels goals row : List ℕ} {u : ℕ} → InnerDepth n t roots labels goals → InRows n t roots labels goals row u → Small (length labels) row
+pub rows-small : {n t : ℕ} {roots labels goals row : List ℕ} {u : ℕ} → InnerDepth n t roots labels goals
+    → InRows n t roots labels goals row u → Small (length labels) row
 rows-small Q c = row-small (Q .held) (c .ends)
 
-pub rows-more : {n t : ℕ} {roots labels goals row new : List ℕ} {u : ℕ} → InnerDepth n t roots labels goals → InRows n t roots labels goals row u
+pub rows-more : {n t : ℕ} {roots labels goals row new : List ℕ} {u : ℕ} → InnerDepth n t roots labels goals
+    → InRows n t roots labels goals row u
     → Row (length labels) (firstLike (rowKey labels n (u - 1) row)) new → t < u → InRows n t roots labels goals new (u - 1)
 rows-more {n} {t} {roots} {labels} {goals} {row} {new} {u} Q c B h =
     let e : u ≡ suc (u - 1) = omega arith in
@@ -104,10 +114,12 @@ rows-more {n} {t} {roots} {labels} {goals} {row} {new} {u} Q c B h =
       from = omega arith;
       le = omega (arith, c .le);
       ends = ends-now (Q .held) (u - 1) d E B;
-      firsts = λ l. first-row (length (words roots labels goals)) (stepKey n (words roots labels goals) (u - 1) (at row)) new (firsts-are (Q .held) (u - 1) d E B);
+      firsts = λ l. first-row (length (words roots labels goals)) (stepKey n (words roots labels goals) (u - 1) (at row)) new
+          (firsts-are (Q .held) (u - 1) d E B);
     }
 
-module _ {n t : ℕ} {roots labels goals starts : List ℕ} (Q : InnerDepth n t roots labels goals) (A : Row (length roots) (runStart (joins roots labels n t)) starts) where
+module _ {n t : ℕ} {roots labels goals starts : List ℕ} (Q : InnerDepth n t roots labels goals)
+    (A : Row (length roots) (runStart (joins roots labels n t)) starts) where
   abbrev table : List Word
   table = words roots labels goals
 
@@ -140,4 +152,5 @@ module _ {n t : ℕ} {roots labels goals starts : List ℕ} (Q : InnerDepth n t 
         let e : u ≡ t = omega (arith, c .from) in
         let D = subst (λ k. EndingRow n table k row) e (c .ends) in
         first-is n table t r (first-cong (refutesIn starts row (length table)) (refutes n table t) (length table)
-        (refutes-is (Q .held .table) t le starts row start-is (D .tells)) r (subst (λ w. FirstIn (refutesIn starts row w) w r) (sym size) F))
+        (refutes-is (Q .held .table) t le starts row start-is (D .tells)) r
+        (subst (λ w. FirstIn (refutesIn starts row w) w r) (sym size) F))

@@ -118,7 +118,8 @@ fn within_if_alike(
     k: usize,
 ) -> bool
     requires { ⌜ SearchRows w (now starts) (now firsts) × (i < w) × (k < w) ⌝ }
-    ensures { λ r. ⌜ (r ≡ true → at (now (firsts .entry)) i ≡ at (now (firsts .entry)) k → Within (now (starts .entry)) (now (firsts .entry)) w i k) ⌝ }
+    ensures { λ r. ⌜ (r ≡ true → at (now (firsts .entry)) i ≡ at (now (firsts .entry)) k
+        → Within (now (starts .entry)) (now (firsts .entry)) w i k) ⌝ }
 {
     if firsts[i] != firsts[k] {
         return true;
@@ -126,11 +127,13 @@ fn within_if_alike(
     run_within(starts, firsts, w, i, k)
 }
 
-// True only if no witness begins with i, where none begins with an earlier word. If an earlier word has the ending of i and its run has all endings of i's run,
-// then a witness that begins with i would give one that begins with that word. Otherwise all runs with i's ending are looked at.
+// True only if no witness begins with i, where none begins with an earlier word. If an earlier word has the ending of i and its run has all
+// endings of i's run, then a witness that begins with i would give one that begins with that word. Otherwise all runs with i's ending are
+// looked at.
 fn begins_none(starts: &[u16; MOST_WORDS], firsts: &[u16; MOST_WORDS], w: usize, i: usize) -> bool
     requires { ⌜ SearchRows w (now starts) (now firsts) × (i < w) ⌝ }
-    ensures { λ r. ⌜ (r ≡ true → NoneBefore (refutesIn (now (starts .entry)) (now (firsts .entry)) w) w i → NoneFrom (refutesIn (now (starts .entry)) (now (firsts .entry)) w) w i) ⌝ }
+    ensures { λ r. ⌜ (r ≡ true → NoneBefore (refutesIn (now (starts .entry)) (now (firsts .entry)) w) w i
+        → NoneFrom (refutesIn (now (starts .entry)) (now (firsts .entry)) w) w i) ⌝ }
 {
     let first = wide(firsts[i]);
     if first < i {
@@ -166,7 +169,8 @@ fn next_candidate(
     next
 }
 
-// The first i, then j, then k that refute the table. No j before i's run begins like i, and no k before the first word with i's ending ends like i.
+// The first i, then j, then k that refute the table. No j before i's run begins like i, and no k before the first word with i's ending ends
+// like i.
 fn first_witness(starts: &[u16; MOST_WORDS], firsts: &[u16; MOST_WORDS], w: usize) -> Witness
     requires { ⌜ SearchRows w (now starts) (now firsts) ⌝ }
     ensures { λ r. ⌜ FirstIn (refutesIn (now (starts .entry)) (now (firsts .entry)) w) w r ⌝ }

@@ -1,6 +1,7 @@
 -- `assemble::put_section` writes the parts one behind another; each has room behind those before it.
 use native.Mathlib.Omega.{arith}
-use Rattle.assemble.proofs.SectionParts.{room-vertices, room-edges, room-roots, room-goals, room-pairs, room-symbols, all-long, all-parts}
+use Rattle.assemble.proofs.SectionParts.{room-vertices, room-edges, room-roots, room-goals, room-pairs, room-symbols, all-long}
+use Rattle.assemble.proofs.SectionParts.{all-parts}
 use borrow.Author.Needs.{needs}
 use Rattle.assemble.proofs.put_section.Statement.{statement}
 use Rattle.assemble.proofs.put_section.Tie as tie
@@ -30,16 +31,21 @@ put-numbers-requires-2 : tie.Need-put-numbers-requires-2
 put-numbers-requires-2 c κs =
     let s2 = c .before .before .before .before in
     let s1 = s2 .before .before .before .before .before in
-    let entry = s1 .before .before .before .before .before .before .before .before .before .before in
-    (omega (arith, entry .pre .taken .places, entry .pre .small .steps), room-edges (entry .pre) (s1 .put-header .ensures) (s2 .put-numbers .ensures))
+    let entry = s1 .before .before .before .before .before .before .before .before .before .before in (
+      omega (arith, entry .pre .taken .places, entry .pre .small .steps),
+      room-edges (entry .pre) (s1 .put-header .ensures) (s2 .put-numbers .ensures),
+    )
 
 put-states-requires : tie.Need-put-states-requires
 put-states-requires c κs =
     let s3 = c .before .before .before .before in
     let s2 = s3 .before .before .before .before .before in
     let s1 = s2 .before .before .before .before .before in
-    let entry = s1 .before .before .before .before .before .before .before .before .before .before in
-    (entry .pre .rootPlaces, entry .pre .rootBits, room-roots (entry .pre) (s1 .put-header .ensures) (s2 .put-numbers .ensures) (s3 .put-numbers2 .ensures))
+    let entry = s1 .before .before .before .before .before .before .before .before .before .before in (
+      entry .pre .rootPlaces,
+      entry .pre .rootBits,
+      room-roots (entry .pre) (s1 .put-header .ensures) (s2 .put-numbers .ensures) (s3 .put-numbers2 .ensures),
+    )
 
 put-states-requires-2 : tie.Need-put-states-requires-2
 put-states-requires-2 c κs =
@@ -47,8 +53,11 @@ put-states-requires-2 c κs =
     let s3 = s4 .before .before .before .before .before in
     let s2 = s3 .before .before .before .before .before in
     let s1 = s2 .before .before .before .before .before in
-    let entry = s1 .before .before .before .before .before .before .before .before .before .before in
-    (entry .pre .goalPlaces, entry .pre .goalBits, room-goals (entry .pre) (s1 .put-header .ensures) (s2 .put-numbers .ensures) (s3 .put-numbers2 .ensures) (s4 .put-states .ensures))
+    let entry = s1 .before .before .before .before .before .before .before .before .before .before in (
+      entry .pre .goalPlaces,
+      entry .pre .goalBits,
+      room-goals (entry .pre) (s1 .put-header .ensures) (s2 .put-numbers .ensures) (s3 .put-numbers2 .ensures) (s4 .put-states .ensures),
+    )
 
 put-all-pairs-requires : tie.Need-put-all-pairs-requires
 put-all-pairs-requires c κs =
@@ -57,8 +66,12 @@ put-all-pairs-requires c κs =
     let s3 = s4 .before .before .before .before .before in
     let s2 = s3 .before .before .before .before .before in
     let s1 = s2 .before .before .before .before .before in
-    let entry = s1 .before .before .before .before .before .before .before .before .before .before in
-    (entry .pre .small, entry .pre .taken, room-pairs (entry .pre) (s1 .put-header .ensures) (s2 .put-numbers .ensures) (s3 .put-numbers2 .ensures) (s4 .put-states .ensures) (s5 .put-states2 .ensures))
+    let entry = s1 .before .before .before .before .before .before .before .before .before .before in (
+      entry .pre .small,
+      entry .pre .taken,
+      room-pairs (entry .pre) (s1 .put-header .ensures) (s2 .put-numbers .ensures) (s3 .put-numbers2 .ensures) (s4 .put-states .ensures)
+          (s5 .put-states2 .ensures),
+    )
 
 put-all-symbols-requires : tie.Need-put-all-symbols-requires
 put-all-symbols-requires c κs =
@@ -68,8 +81,12 @@ put-all-symbols-requires c κs =
     let s3 = s4 .before .before .before .before .before in
     let s2 = s3 .before .before .before .before .before in
     let s1 = s2 .before .before .before .before .before in
-    let entry = s1 .before .before .before .before .before .before .before .before .before .before in
-    (entry .pre .small, entry .pre .taken, room-symbols (entry .pre) (s1 .put-header .ensures) (s2 .put-numbers .ensures) (s3 .put-numbers2 .ensures) (s4 .put-states .ensures) (s5 .put-states2 .ensures) (s6 .put-all-pairs .ensures))
+    let entry = s1 .before .before .before .before .before .before .before .before .before .before in (
+      entry .pre .small,
+      entry .pre .taken,
+      room-symbols (entry .pre) (s1 .put-header .ensures) (s2 .put-numbers .ensures) (s3 .put-numbers2 .ensures) (s4 .put-states .ensures)
+          (s5 .put-states2 .ensures) (s6 .put-all-pairs .ensures),
+    )
 
 same-length : tie.Need-same-length
 same-length c =
@@ -81,7 +98,8 @@ same-length c =
     let s2 = s3 .before .before .before .before .before in
     let s1 = s2 .before .before .before .before .before in
     let entry = s1 .before .before .before .before .before .before .before .before .before .before in
-    all-long (entry .pre) (s1 .put-header .ensures) (s2 .put-numbers .ensures) (s3 .put-numbers2 .ensures) (s4 .put-states .ensures) (s5 .put-states2 .ensures) (s6 .put-all-pairs .ensures) (s7 .put-all-symbols .ensures)
+    all-long (entry .pre) (s1 .put-header .ensures) (s2 .put-numbers .ensures) (s3 .put-numbers2 .ensures) (s4 .put-states .ensures)
+    (s5 .put-states2 .ensures) (s6 .put-all-pairs .ensures) (s7 .put-all-symbols .ensures)
 
 returns : tie.Need-returns
 returns c =
@@ -93,7 +111,8 @@ returns c =
     let s2 = s3 .before .before .before .before .before in
     let s1 = s2 .before .before .before .before .before in
     let entry = s1 .before .before .before .before .before .before .before .before .before .before in
-    all-parts (entry .pre) (s1 .put-header .ensures) (s2 .put-numbers .ensures) (s3 .put-numbers2 .ensures) (s4 .put-states .ensures) (s5 .put-states2 .ensures) (s6 .put-all-pairs .ensures) (s7 .put-all-symbols .ensures)
+    all-parts (entry .pre) (s1 .put-header .ensures) (s2 .put-numbers .ensures) (s3 .put-numbers2 .ensures) (s4 .put-states .ensures)
+    (s5 .put-states2 .ensures) (s6 .put-all-pairs .ensures) (s7 .put-all-symbols .ensures)
 
 pub put-section-spec : {M : Type 1} → statement M
 put-section-spec =

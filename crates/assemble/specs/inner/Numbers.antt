@@ -30,4 +30,5 @@ pub record Parts (n : ℕ) (counts edgeCounts rootMarks goalMarks m labels words
   pub rootBits : Bits rootMarks
   pub goalBits : Bits goalMarks
   pub some : 0 < length (joinedUp (stepTakers m labels n) n)
-  pub room : 4 + 2 * n + (marksBelow rootMarks mostStates + marksBelow goalMarks mostStates) + 3 * length (joinedUp (stepTakers m labels n) n) ≤ length buffer
+  pub room : 4 + 2 * n + (marksBelow rootMarks mostStates + marksBelow goalMarks mostStates) + 3 * length
+      (joinedUp (stepTakers m labels n) n) ≤ length buffer

@@ -34,7 +34,8 @@ returns-3 c =
     let label = fits .before in
     let asked = label .before in
     let a = asked .before .args in
-    fits-all (a .q) (a .n) (a .received) (a .mask) (asked .is-label .ensures) (label .if1 .left) (fits .mask-fits .ensures) (mask .if2 .left)
+    fits-all (a .q) (a .n) (a .received) (a .mask) (asked .is-label .ensures) (label .if1 .left) (fits .mask-fits .ensures)
+    (mask .if2 .left)
     (c .is-clear .ensures)
 
 pub fits-spec : {M : Type 1} → statement M

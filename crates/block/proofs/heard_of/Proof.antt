@@ -1,5 +1,5 @@
--- `block::heard_of` takes the symbols one by one. The loop's invariant: the symbols passed are 0 where they are erased, and the erasures among them are
--- counted. The measure is how many symbols are left.
+-- `block::heard_of` takes the symbols one by one. The loop's invariant: the symbols passed are 0 where they are erased, and the erasures
+-- among them are counted. The measure is how many symbols are left.
 use borrow.Author.Needs.{needs}
 use Prim.Native.Nat.{_-_}
 use Rattle.block.specs.inner.Heard.{HeardOf}
@@ -50,7 +50,8 @@ loop-again c =
     let symbol = kept .before in
     let erased = symbol .before in
     let turn = erased .before in
-    heard-more (turn .before .before .pre) (turn .before .loop .inv) (turn .loop-test .taken) (erased .is-erased .ensures) (symbol .symbol .ensures)
+    heard-more (turn .before .before .pre) (turn .before .loop .inv) (turn .loop-test .taken) (erased .is-erased .ensures)
+    (symbol .symbol .ensures)
     (kept .unless .ensures) (appended .append .ensures) (c .counted .ensures .0)
 
 returns : tie.Need-returns Inv-loop μ-loop

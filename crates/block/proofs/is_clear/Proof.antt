@@ -1,4 +1,5 @@
--- `block::is_clear` tests the symbols in their order. The loop's invariant: none of those passed is erased and other than 0. The measure is how many are left.
+-- `block::is_clear` tests the symbols in their order. The loop's invariant: none of those passed is erased and other than 0. The measure is
+-- how many are left.
 use borrow.Author.Needs.{needs}
 use Prim.Native.Nat.{_-_}
 use Rattle.block.proofs.Masks.{stray-start, stray-found, stray-more, stray-none, InStray}

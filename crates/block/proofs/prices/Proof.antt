@@ -1,5 +1,5 @@
--- `block::prices` goes from the last symbol to the first, each weighing four times the one before it. The loop's invariant: the steps passed have what
--- their symbols add. The measure is how many are left.
+-- `block::prices` goes from the last symbol to the first, each weighing four times the one before it. The loop's invariant: the steps
+-- passed have what their symbols add. The measure is how many are left.
 use mathlib.Core.Path.{refl}
 use Rattle.block.proofs.Costs.{prices-start, prices-more, prices-end, InPrices}
 use borrow.Author.Needs.{needs}
@@ -111,7 +111,8 @@ loop-again c =
     let symbol = cost₀ .before in
     let erased = symbol .before in
     let turn = erased .before in
-    prices-more (turn .before .before .pre) (turn .before .loop .inv) (turn .loop-test .taken) (erased .is-erased .ensures) (symbol .symbol .ensures)
+    prices-more (turn .before .before .pre) (turn .before .loop .inv) (turn .loop-test .taken) (erased .is-erased .ensures)
+    (symbol .symbol .ensures)
     (cost₀ .symbol-cost .ensures .0) (price₀ .price .ensures) (cost₁ .symbol-cost2 .ensures .0) (price₁ .price2 .ensures)
     (cost₂ .symbol-cost3 .ensures .0) (price₂ .price3 .ensures) (cost₃ .symbol-cost4 .ensures .0) (c .price4 .ensures)
 

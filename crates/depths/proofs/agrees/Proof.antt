@@ -1,4 +1,5 @@
--- `depths::agrees` meets its contract: the test of the definition, read off the rows. The places looked at are words', since rows point backward.
+-- `depths::agrees` meets its contract: the test of the definition, read off the rows. The places looked at are words', since rows point
+-- backward.
 use borrow.Author.Needs.{needs}
 use native.Mathlib.Omega.{arith}
 use Rattle.depths.proofs.Agreement.{agrees-no, agrees-yes}
@@ -28,7 +29,8 @@ returns c =
     let at-word = at-word2 .before in
     let at-wide = at-word .before in
     let entry = at-wide .before .before in
-    agrees-no _ (entry .args .starts .now) (entry .args .firsts .now) (entry .args .i) _ _ _ (at-wide .wide .ensures .0) (at-word .first-word .ensures) (at-word2 .first-word2 .ensures) (c .if1 .taken)
+    agrees-no _ (entry .args .starts .now) (entry .args .firsts .now) (entry .args .i) _ _ _ (at-wide .wide .ensures .0)
+    (at-word .first-word .ensures) (at-word2 .first-word2 .ensures) (c .if1 .taken)
 
 goes-on-requires : tie.Need-goes-on-requires
 goes-on-requires c κs = search needs
@@ -45,8 +47,10 @@ add-goes-on c =
 
 goes-on-requires-2 : tie.Need-goes-on-requires-2
 goes-on-requires-2 c κs =
-    let entry = c .before .before .before .before .before .before in
-    (omega (arith, entry .pre .2 .startLe (entry .args .i) (entry .pre .0), entry .pre .2 .wordLe (entry .args .i) (entry .pre .0)), search needs)
+    let entry = c .before .before .before .before .before .before in (
+      omega (arith, entry .pre .2 .startLe (entry .args .i) (entry .pre .0), entry .pre .2 .wordLe (entry .args .i) (entry .pre .0)),
+      search needs,
+    )
 
 returns-2 : tie.Need-returns-2
 returns-2 c =
@@ -56,7 +60,8 @@ returns-2 c =
     let at-word = at-word2 .before in
     let at-wide = at-word .before in
     let entry = at-wide .before .before in
-    agrees-yes _ (entry .args .starts .now) (entry .args .firsts .now) (entry .args .i) _ _ _ (at-wide .wide .ensures .0) (at-word .first-word .ensures)
+    agrees-yes _ (entry .args .starts .now) (entry .args .firsts .now) (entry .args .i) _ _ _ (at-wide .wide .ensures .0)
+    (at-word .first-word .ensures)
     (at-word2 .first-word2 .ensures) _ _ (at-if1 .if1 .left) (at-goes-on .goes-on .ensures) (c .goes-on2 .ensures)
 
 pub agrees-spec : {M : Type 1} → statement M

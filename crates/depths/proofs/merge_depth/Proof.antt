@@ -28,7 +28,8 @@ returns c =
     let at-put-firsts = at-agree .before .before .before in
     let at-put-starts = at-put-firsts .before .before in
     let entry = at-put-starts .before .before .before .before .before .before in
-    depth-refused (entry .pre) (at-put-starts .put-starts .ensures) (at-put-firsts .put-firsts .ensures) (sym (not-true _ (c .if1 .taken)) ∙ at-agree .runs-agree .ensures)
+    depth-refused (entry .pre) (at-put-starts .put-starts .ensures) (at-put-firsts .put-firsts .ensures)
+    (sym (not-true _ (c .if1 .taken)) ∙ at-agree .runs-agree .ensures)
 
 mul-put-numbers : tie.Need-mul-put-numbers
 mul-put-numbers c = search needs
@@ -40,7 +41,8 @@ put-numbers-requires c κs =
     let at-put-firsts = at-agree .before .before .before in
     let at-put-starts = at-put-firsts .before .before in
     let entry = at-put-starts .before .before .before .before .before .before in
-    depth-to-number (entry .pre) (at-put-starts .put-starts .ensures) (at-put-firsts .put-firsts .ensures) (sym (not-false _ (at-if1 .if1 .left)) ∙ at-agree .runs-agree .ensures)
+    depth-to-number (entry .pre) (at-put-starts .put-starts .ensures) (at-put-firsts .put-firsts .ensures)
+    (sym (not-false _ (at-if1 .if1 .left)) ∙ at-agree .runs-agree .ensures)
 
 same-length : tie.Need-same-length
 same-length c = search needs
@@ -53,7 +55,8 @@ returns-2 c =
     let at-put-firsts = at-agree .before .before .before in
     let at-put-starts = at-put-firsts .before .before in
     let entry = at-put-starts .before .before .before .before .before .before in
-    depth-merged (entry .pre) (at-put-starts .put-starts .ensures) (at-put-firsts .put-firsts .ensures) (sym (not-false _ (at-if1 .if1 .left)) ∙ at-agree .runs-agree .ensures) (at-put-numbers .put-numbers .ensures)
+    depth-merged (entry .pre) (at-put-starts .put-starts .ensures) (at-put-firsts .put-firsts .ensures)
+    (sym (not-false _ (at-if1 .if1 .left)) ∙ at-agree .runs-agree .ensures) (at-put-numbers .put-numbers .ensures)
 
 pub merge-depth-spec : {M : Type 1} → statement M
 merge-depth-spec =

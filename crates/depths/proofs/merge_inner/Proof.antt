@@ -1,4 +1,5 @@
--- `depths::merge_inner` meets its contract. The loop keeps what is found at the depths from t on, and that the row tells the endings at depth t apart.
+-- `depths::merge_inner` meets its contract. The loop keeps what is found at the depths from t on, and that the row tells the endings at
+-- depth t apart.
 use native.Mathlib.Omega.{arith}
 use borrow.Author.Needs.{needs}
 use Rattle.depths.specs.inner.Words.{words}
@@ -55,7 +56,8 @@ loop-again c =
     let at-depth = at-count .before .before .before in
     let turn = at-depth .before .before .before .before in
     let entry = turn .before .before .before .before .before .before .before in
-    depths-more (turn .loop .inv) (entry .pre .held .short) (search needs) (at-depth .merge-depth .ensures) (at-count .vertex-count .ensures) (c .lowest .ensures)
+    depths-more (turn .loop .inv) (entry .pre .held .short) (search needs) (at-depth .merge-depth .ensures)
+    (at-count .vertex-count .ensures) (c .lowest .ensures)
 
 same-length : tie.Need-same-length Inv-loop μ-loop
 same-length c = c .before .loop .inv .len

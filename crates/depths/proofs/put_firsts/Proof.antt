@@ -1,4 +1,5 @@
--- `depths::put_firsts` meets its contract. The loop keeps the first words of the words before i, and for each key the first of them that has it.
+-- `depths::put_firsts` meets its contract. The loop keeps the first words of the words before i, and for each key the first of them that
+-- has it.
 use Prim.Native.Nat.{_-_}
 use lib.ListN.{length}
 use borrow.Author.Needs.{needs}
@@ -45,21 +46,33 @@ add-key c =
     let at-symbol = c .before in
     let at-wide = at-symbol .before .before in
     let turn = at-wide .before .before .before in
-    omega (arith, firsts-lt (turn .loop .inv) (at-wide .wide .ensures .0) (at-symbol .symbol .ensures) (c .wide2 .ensures .0) (search needs))
+    omega (
+      arith,
+      firsts-lt (turn .loop .inv) (at-wide .wide .ensures .0) (at-symbol .symbol .ensures) (c .wide2 .ensures .0)
+          (search needs),
+    )
 
 mul-noted : tie.Need-mul-noted Inv-loop μ-loop
 mul-noted c =
     let at-symbol = c .before in
     let at-wide = at-symbol .before .before in
     let turn = at-wide .before .before .before in
-    omega (arith, firsts-lt (turn .loop .inv) (at-wide .wide .ensures .0) (at-symbol .symbol .ensures) (c .wide2 .ensures .0) (search needs))
+    omega (
+      arith,
+      firsts-lt (turn .loop .inv) (at-wide .wide .ensures .0) (at-symbol .symbol .ensures) (c .wide2 .ensures .0)
+          (search needs),
+    )
 
 array-read-noted : tie.Need-array-read-noted Inv-loop μ-loop
 array-read-noted c =
     let at-symbol = c .before in
     let at-wide = at-symbol .before .before in
     let turn = at-wide .before .before .before in
-    omega (arith, firsts-lt (turn .loop .inv) (at-wide .wide .ensures .0) (at-symbol .symbol .ensures) (c .wide2 .ensures .0) (search needs))
+    omega (
+      arith,
+      firsts-lt (turn .loop .inv) (at-wide .wide .ensures .0) (at-symbol .symbol .ensures) (c .wide2 .ensures .0)
+          (search needs),
+    )
 
 cast-noted : tie.Need-cast-noted Inv-loop μ-loop
 cast-noted c = search needs
@@ -73,7 +86,11 @@ mul-seen c =
     let at-symbol = at-wide2 .before in
     let at-wide = at-symbol .before .before in
     let turn = at-wide .before .before .before in
-    omega (arith, firsts-lt (turn .loop .inv) (at-wide .wide .ensures .0) (at-symbol .symbol .ensures) (at-wide2 .wide2 .ensures .0) (search needs))
+    omega (
+      arith,
+      firsts-lt (turn .loop .inv) (at-wide .wide .ensures .0) (at-symbol .symbol .ensures) (at-wide2 .wide2 .ensures .0)
+          (search needs),
+    )
 
 array-write-seen : tie.Need-array-write-seen Inv-loop μ-loop
 array-write-seen c =
@@ -81,7 +98,11 @@ array-write-seen c =
     let at-symbol = at-wide2 .before in
     let at-wide = at-symbol .before .before in
     let turn = at-wide .before .before .before in
-    omega (arith, firsts-lt (turn .loop .inv) (at-wide .wide .ensures .0) (at-symbol .symbol .ensures) (at-wide2 .wide2 .ensures .0) (search needs))
+    omega (
+      arith,
+      firsts-lt (turn .loop .inv) (at-wide .wide .ensures .0) (at-symbol .symbol .ensures) (at-wide2 .wide2 .ensures .0)
+          (search needs),
+    )
 
 mul-row : tie.Need-mul-row Inv-loop μ-loop
 mul-row c = search needs
@@ -101,7 +122,9 @@ loop-again c =
     let at-symbol = at-wide2 .before in
     let at-wide = at-symbol .before .before in
     let turn = at-wide .before .before .before in
-    firsts-more (turn .loop .inv) (firsts-key (turn .loop .inv) (at-wide .wide .ensures .0) (at-symbol .symbol .ensures) (at-wide2 .wide2 .ensures .0)) (c .noted .ensures) (search needs)
+    firsts-more (turn .loop .inv)
+    (firsts-key (turn .loop .inv) (at-wide .wide .ensures .0) (at-symbol .symbol .ensures) (at-wide2 .wide2 .ensures .0))
+    (c .noted .ensures) (search needs)
 
 returns : tie.Need-returns Inv-loop μ-loop
 returns c = firsts-end (c .before .loop .inv) (search needs)

@@ -1,5 +1,5 @@
--- `depths::put_numbers` meets its contract. The loop keeps that the words before i have their numbers, and how many vertices they have. A first word is no later than
--- its word, so its number can be read back.
+-- `depths::put_numbers` meets its contract. The loop keeps that the words before i have their numbers, and how many vertices they have. A
+-- first word is no later than its word, so its number can be read back.
 use Prim.Native.Nat.{_-_}
 use lib.ListN.{length-set}
 use borrow.Author.Needs.{needs}
@@ -47,7 +47,8 @@ slice-read-map c =
     let at-first = c .before in
     let turn = at-first .before .before in
     let entry = turn .before .before in
-    simp length-set (omega (arith, turn .loop .inv .row .len, entry .pre .room, (numbers-own (entry .pre) (at-first .first-word .ensures) (search needs))))
+    simp length-set (omega
+    (arith, turn .loop .inv .row .len, entry .pre .room, (numbers-own (entry .pre) (at-first .first-word .ensures) (search needs))))
 
 add-map-3 : tie.Need-add-map-3 Inv-loop μ-loop
 add-map-3 c = omega (arith, c .before .before .before .loop .inv .row .len, c .before .before .before .before .before .pre .room)
@@ -56,10 +57,12 @@ mul-map-3 : tie.Need-mul-map-3 Inv-loop μ-loop
 mul-map-3 c = omega (arith, c .before .before .before .loop .inv .row .len, c .before .before .before .before .before .pre .room)
 
 slice-write-map-2 : tie.Need-slice-write-map-2 Inv-loop μ-loop
-slice-write-map-2 c = simp length-set (omega (arith, c .before .before .before .loop .inv .row .len, c .before .before .before .before .before .pre .room))
+slice-write-map-2 c =
+    simp length-set (omega (arith, c .before .before .before .loop .inv .row .len, c .before .before .before .before .before .pre .room))
 
 numbered-requires : tie.Need-numbered-requires Inv-loop μ-loop
-numbered-requires c κs = omega (arith, numbers-few (c .before .before .before .loop .inv), c .before .before .before .before .before .pre .few)
+numbered-requires c κs =
+    omega (arith, numbers-few (c .before .before .before .loop .inv), c .before .before .before .before .before .pre .few)
 
 add-i : tie.Need-add-i Inv-loop μ-loop
 add-i c = search needs
@@ -72,7 +75,8 @@ loop-again c =
     let at-first = c .before .before in
     let turn = at-first .before .before in
     let entry = turn .before .before in
-    numbers-more (turn .loop .inv) (at-first .first-word .ensures) (numbers-own (entry .pre) (at-first .first-word .ensures) (search needs)) (entry .pre .twice _ (search needs)) (entry .pre .room) (c .numbered .ensures) (search needs)
+    numbers-more (turn .loop .inv) (at-first .first-word .ensures) (numbers-own (entry .pre) (at-first .first-word .ensures) (search needs))
+    (entry .pre .twice _ (search needs)) (entry .pre .room) (c .numbered .ensures) (search needs)
 
 same-length : tie.Need-same-length Inv-loop μ-loop
 same-length c = c .before .loop .inv .row .len

@@ -20,7 +20,8 @@ agrees-requires : tie.Need-agrees-requires Inv-loop μ-loop
 agrees-requires c κs = search needs
 
 returns : tie.Need-returns Inv-loop μ-loop
-returns c = agreement-no (c .before .before .before .loop .inv) (sym (c .before .agrees .ensures) ∙ not-true _ (c .if1 .taken)) (search needs)
+returns c = agreement-no (c .before .before .before .loop .inv) (sym (c .before .agrees .ensures) ∙ not-true _ (c .if1 .taken))
+    (search needs)
 
 add-i : tie.Need-add-i Inv-loop μ-loop
 add-i c = search needs
@@ -29,7 +30,8 @@ loop-less : tie.Need-loop-less Inv-loop μ-loop
 loop-less c = search needs
 
 loop-again : tie.Need-loop-again Inv-loop μ-loop
-loop-again c = agreement-more (c .before .before .before .loop .inv) (sym (c .before .agrees .ensures) ∙ not-false _ (c .if1 .left)) (search needs)
+loop-again c = agreement-more (c .before .before .before .loop .inv) (sym (c .before .agrees .ensures) ∙ not-false _ (c .if1 .left))
+    (search needs)
 
 returns-2 : tie.Need-returns-2 Inv-loop μ-loop
 returns-2 c = agreement-yes (c .before .loop .inv) (search needs)

@@ -1,4 +1,5 @@
--- What merging the inner depths of a table asks and leaves: the smallest depth at which the table is not rectangular, or the vertices of every inner depth.
+-- What merging the inner depths of a table asks and leaves: the smallest depth at which the table is not rectangular, or the vertices of
+-- every inner depth.
 use mathlib.Core.Path.{_≡_}
 use mathlib.Core.List.{List}
 use Prim.Native.Nat.{ℕ, zero, suc, _+_, _*_, _≤_, _<_}

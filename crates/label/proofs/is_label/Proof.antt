@@ -1,5 +1,5 @@
--- `label::is_label` meets its contract. The loop's invariant: the answer is whether `rest` is a label of `left` symbols, since each turn takes one
--- symbol off both. The measure is `left`.
+-- `label::is_label` meets its contract. The loop's invariant: the answer is whether `rest` is a label of `left` symbols, since each turn
+-- takes one symbol off both. The measure is `left`.
 use mathlib.Core.Path.{_≡_, sym, _∙_}
 use native.Mathlib.Omega.{arith}
 use borrow.Author.Needs.{needs}

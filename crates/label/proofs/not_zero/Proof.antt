@@ -1,5 +1,5 @@
--- `label::not_zero` meets its contract: the whole table is the list that the rule makes, which antt computes, so each entry is the rule there; and the
--- rule looks at four symbols only.
+-- `label::not_zero` meets its contract: the whole table is the list that the rule makes, which antt computes, so each entry is the rule
+-- there; and the rule looks at four symbols only.
 use mathlib.Core.Path.{_∙_}
 use native.Mathlib.Omega.{arith}
 use lib.Bits.{bitAnd, mask-lt}

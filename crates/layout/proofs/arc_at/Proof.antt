@@ -47,7 +47,11 @@ mul-t12 c =
     let at-symbol = c .before .before in
     let at-wide = at-symbol .before .before in
     let entry = at-wide .before .before .before .before in
-    omega (arith, arc-from _ _ (entry .pre .0) (entry .pre .1) (at-wide .wide .ensures .0) (at-symbol .symbol .ensures) (c .before .wide2 .ensures .0))
+    omega (
+      arith,
+      arc-from _ _ (entry .pre .0) (entry .pre .1) (at-wide .wide .ensures .0) (at-symbol .symbol .ensures)
+          (c .before .wide2 .ensures .0),
+    )
 
 add-t11 : tie.Need-add-t11
 add-t11 c =
@@ -57,7 +61,8 @@ add-t11 c =
     omega (
       arith,
       arc-from _ _ (entry .pre .0) (entry .pre .1) (at-wide .wide .ensures .0) (at-symbol .symbol .ensures) (c .before .wide2 .ensures .0),
-      arc-symbol _ _ (entry .pre .0) (entry .pre .1) (at-wide .wide .ensures .0) (at-symbol .symbol .ensures) (c .before .wide2 .ensures .0),
+      arc-symbol _ _ (entry .pre .0) (entry .pre .1) (at-wide .wide .ensures .0) (at-symbol .symbol .ensures)
+          (c .before .wide2 .ensures .0),
     )
 
 returns : tie.Need-returns

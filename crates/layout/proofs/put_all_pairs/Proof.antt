@@ -10,7 +10,8 @@ use Rattle.layout.proofs.put_all_pairs.Statement.{statement}
 use Rattle.layout.proofs.put_all_pairs.Tie as tie
 
 abbrev Inv-loop : tie.InvT-loop
-Inv-loop words counts n labels map section₀ at w to₀ lo₀ row₀ t₀ section to lo row t = (InAll map labels n (stepPairs map labels n) 2 at section₀ section to lo t) × (row ≡ t * length labels)
+Inv-loop words counts n labels map section₀ at w to₀ lo₀ row₀ t₀ section to lo row t =
+    (InAll map labels n (stepPairs map labels n) 2 at section₀ section to lo t) × (row ≡ t * length labels)
 
 abbrev μ-loop : tie.MeasureT-loop
 μ-loop words counts n labels map section₀ at w to₀ lo₀ row₀ t₀ section to lo row t = n - t
@@ -43,8 +44,11 @@ put-pairs-requires : tie.Need-put-pairs-requires Inv-loop μ-loop
 put-pairs-requires c κs =
     let at-wide = c .before in
     let turn = at-wide .before .before .before in
-    let entry = turn .before .before .before .before .before in
-    (step-words (entry .pre .1) (search needs) (turn .loop .inv .0 .lo-is) (at-wide .wide .ensures .0), row-room (entry .pre .0) (turn .loop .inv .1) (search needs), omega (arith, all-room (entry .pre .1) (turn .loop .inv .0) (search needs) (at-wide .wide .ensures .0) (entry .pre .2)))
+    let entry = turn .before .before .before .before .before in (
+      step-words (entry .pre .1) (search needs) (turn .loop .inv .0 .lo-is) (at-wide .wide .ensures .0),
+      row-room (entry .pre .0) (turn .loop .inv .1) (search needs),
+      omega (arith, all-room (entry .pre .1) (turn .loop .inv .0) (search needs) (at-wide .wide .ensures .0) (entry .pre .2)),
+    )
 
 add-lo : tie.Need-add-lo Inv-loop μ-loop
 add-lo c =
@@ -73,8 +77,11 @@ loop-again c =
     let at-put = c .before .before in
     let at-wide = at-put .before .before in
     let turn = at-wide .before .before .before in
-    let entry = turn .before .before .before .before .before in
-    (pairs-more (entry .pre .1) (turn .loop .inv .0) (search needs) (at-wide .wide .ensures .0) (turn .loop .inv .1) (at-put .put-pairs .ensures), row-more _ _ (turn .loop .inv .1))
+    let entry = turn .before .before .before .before .before in (
+      pairs-more (entry .pre .1) (turn .loop .inv .0) (search needs) (at-wide .wide .ensures .0) (turn .loop .inv .1)
+          (at-put .put-pairs .ensures),
+      row-more _ _ (turn .loop .inv .1),
+    )
 
 same-length : tie.Need-same-length Inv-loop μ-loop
 same-length c = c .before .loop .inv .0 .len

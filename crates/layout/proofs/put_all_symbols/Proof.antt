@@ -8,7 +8,8 @@ use Rattle.layout.proofs.put_all_symbols.Statement.{statement}
 use Rattle.layout.proofs.put_all_symbols.Tie as tie
 
 abbrev Inv-loop : tie.InvT-loop
-Inv-loop words counts n labels map section₀ at to₀ lo₀ t₀ section to lo t = InAll map labels n (stepSymbols map labels n) 1 at section₀ section to lo t
+Inv-loop words counts n labels map section₀ at to₀ lo₀ t₀ section to lo t =
+    InAll map labels n (stepSymbols map labels n) 1 at section₀ section to lo t
 
 abbrev μ-loop : tie.MeasureT-loop
 μ-loop words counts n labels map section₀ at to₀ lo₀ t₀ section to lo t = n - t
@@ -41,8 +42,10 @@ put-symbols-requires : tie.Need-put-symbols-requires Inv-loop μ-loop
 put-symbols-requires c κs =
     let at-wide = c .before in
     let turn = at-wide .before .before .before in
-    let entry = turn .before .before .before .before .before in
-    (step-words (entry .pre .1) (search needs) (turn .loop .inv .lo-is) (at-wide .wide .ensures .0), omega (arith, all-room (entry .pre .1) (turn .loop .inv) (search needs) (at-wide .wide .ensures .0) (entry .pre .2)))
+    let entry = turn .before .before .before .before .before in (
+      step-words (entry .pre .1) (search needs) (turn .loop .inv .lo-is) (at-wide .wide .ensures .0),
+      omega (arith, all-room (entry .pre .1) (turn .loop .inv) (search needs) (at-wide .wide .ensures .0) (entry .pre .2)),
+    )
 
 add-lo : tie.Need-add-lo Inv-loop μ-loop
 add-lo c =

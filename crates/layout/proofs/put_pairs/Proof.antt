@@ -28,13 +28,26 @@ wide-requires : tie.Need-wide-requires Inv-loop μ-loop
 wide-requires c κs = search needs
 
 add-section : tie.Need-add-section Inv-loop μ-loop
-add-section c = omega (arith, word-below (c .before .before .before .before .before .before .before .pre .0) (c .before .before .before .loop .inv) (c .wide .ensures .0) (search needs))
+add-section c = omega (
+  arith,
+  word-below (c .before .before .before .before .before .before .before .pre .0) (c .before .before .before .loop .inv)
+      (c .wide .ensures .0) (search needs),
+)
 
 mul-section : tie.Need-mul-section Inv-loop μ-loop
-mul-section c = omega (arith, word-below (c .before .before .before .before .before .before .before .pre .0) (c .before .before .before .loop .inv) (c .wide .ensures .0) (search needs))
+mul-section c = omega (
+  arith,
+  word-below (c .before .before .before .before .before .before .before .pre .0) (c .before .before .before .loop .inv)
+      (c .wide .ensures .0) (search needs),
+)
 
 shared-slice-read-section : tie.Need-shared-slice-read-section Inv-loop μ-loop
-shared-slice-read-section c = omega (arith, word-below (c .before .before .before .before .before .before .before .before .pre .0) (c .before .before .before .before .loop .inv) (c .before .wide .ensures .0) (search needs))
+shared-slice-read-section c =
+    omega (
+      arith,
+      word-below (c .before .before .before .before .before .before .before .before .pre .0)
+          (c .before .before .before .before .loop .inv) (c .before .wide .ensures .0) (search needs),
+    )
 
 mul-section-2 : tie.Need-mul-section-2 Inv-loop μ-loop
 mul-section-2 c = search needs
@@ -43,16 +56,33 @@ slice-write-section : tie.Need-slice-write-section Inv-loop μ-loop
 slice-write-section c = search needs
 
 add-section-2 : tie.Need-add-section-2 Inv-loop μ-loop
-add-section-2 c = omega (arith, word-below (c .before .before .before .before .before .before .before .before .pre .0) (c .before .before .before .before .loop .inv) (c .before .wide .ensures .0) (search needs))
+add-section-2 c = omega (
+  arith,
+  word-below (c .before .before .before .before .before .before .before .before .pre .0)
+      (c .before .before .before .before .loop .inv) (c .before .wide .ensures .0) (search needs),
+)
 
 add-section-3 : tie.Need-add-section-3 Inv-loop μ-loop
-add-section-3 c = omega (arith, word-below (c .before .before .before .before .before .before .before .before .pre .0) (c .before .before .before .before .loop .inv) (c .before .wide .ensures .0) (search needs))
+add-section-3 c = omega (
+  arith,
+  word-below (c .before .before .before .before .before .before .before .before .pre .0)
+      (c .before .before .before .before .loop .inv) (c .before .wide .ensures .0) (search needs),
+)
 
 mul-section-3 : tie.Need-mul-section-3 Inv-loop μ-loop
-mul-section-3 c = omega (arith, word-below (c .before .before .before .before .before .before .before .before .pre .0) (c .before .before .before .before .loop .inv) (c .before .wide .ensures .0) (search needs))
+mul-section-3 c = omega (
+  arith,
+  word-below (c .before .before .before .before .before .before .before .before .pre .0)
+      (c .before .before .before .before .loop .inv) (c .before .wide .ensures .0) (search needs),
+)
 
 shared-slice-read-section-2 : tie.Need-shared-slice-read-section-2 Inv-loop μ-loop
-shared-slice-read-section-2 c = omega (arith, word-below (c .before .before .before .before .before .before .before .before .before .pre .0) (c .before .before .before .before .before .loop .inv) (c .before .before .wide .ensures .0) (search needs))
+shared-slice-read-section-2 c =
+    omega (
+      arith,
+      word-below (c .before .before .before .before .before .before .before .before .before .pre .0)
+          (c .before .before .before .before .before .loop .inv) (c .before .before .wide .ensures .0) (search needs),
+    )
 
 add-section-4 : tie.Need-add-section-4 Inv-loop μ-loop
 add-section-4 c = search needs
@@ -61,7 +91,9 @@ mul-section-4 : tie.Need-mul-section-4 Inv-loop μ-loop
 mul-section-4 c = search needs
 
 slice-write-section-2 : tie.Need-slice-write-section-2 Inv-loop μ-loop
-slice-write-section-2 c = simp length-set (omega (arith, c .before .before .before .before .before .loop .inv .len, c .before .before .before .before .before .loop .inv .to-is))
+slice-write-section-2 c =
+    simp length-set (omega
+    (arith, c .before .before .before .before .before .loop .inv .len, c .before .before .before .before .before .loop .inv .to-is))
 
 add-to : tie.Need-add-to Inv-loop μ-loop
 add-to c = search needs
@@ -73,7 +105,8 @@ loop-less : tie.Need-loop-less Inv-loop μ-loop
 loop-less c = search needs
 
 loop-again : tie.Need-loop-again Inv-loop μ-loop
-loop-again c = let at-wide = c .before .before in pair-more _ _ _ (at-wide .before .before .before .loop .inv) (at-wide .wide .ensures .0) refl refl (search needs)
+loop-again c = let at-wide = c .before .before in
+    pair-more _ _ _ (at-wide .before .before .before .loop .inv) (at-wide .wide .ensures .0) refl refl (search needs)
 
 same-length : tie.Need-same-length Inv-loop μ-loop
 same-length c = c .before .loop .inv .len

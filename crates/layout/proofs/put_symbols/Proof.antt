@@ -26,10 +26,19 @@ wide-requires : tie.Need-wide-requires Inv-loop μ-loop
 wide-requires c κs = search needs
 
 mul-symbol : tie.Need-mul-symbol Inv-loop μ-loop
-mul-symbol c = omega (arith, word-below (c .before .before .before .before .before .before .before .pre .0) (c .before .before .before .loop .inv) (c .wide .ensures .0) (search needs))
+mul-symbol c = omega (
+  arith,
+  word-below (c .before .before .before .before .before .before .before .pre .0) (c .before .before .before .loop .inv)
+      (c .wide .ensures .0) (search needs),
+)
 
 shared-slice-read-symbol : tie.Need-shared-slice-read-symbol Inv-loop μ-loop
-shared-slice-read-symbol c = omega (arith, word-below (c .before .before .before .before .before .before .before .before .pre .0) (c .before .before .before .before .loop .inv) (c .before .wide .ensures .0) (search needs))
+shared-slice-read-symbol c =
+    omega (
+      arith,
+      word-below (c .before .before .before .before .before .before .before .before .pre .0)
+          (c .before .before .before .before .loop .inv) (c .before .wide .ensures .0) (search needs),
+    )
 
 symbol-requires : tie.Need-symbol-requires Inv-loop μ-loop
 symbol-requires c κs = search needs
@@ -50,7 +59,8 @@ loop-less : tie.Need-loop-less Inv-loop μ-loop
 loop-less c = search needs
 
 loop-again : tie.Need-loop-again Inv-loop μ-loop
-loop-again c = let at-wide = c .before .before in symbol-more _ _ _ (at-wide .before .before .before .loop .inv) (at-wide .wide .ensures .0) (c .symbol .ensures) (search needs)
+loop-again c = let at-wide = c .before .before in
+    symbol-more _ _ _ (at-wide .before .before .before .loop .inv) (at-wide .wide .ensures .0) (c .symbol .ensures) (search needs)
 
 same-length : tie.Need-same-length Inv-loop μ-loop
 same-length c = c .before .loop .inv .len

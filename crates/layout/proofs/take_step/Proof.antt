@@ -1,5 +1,5 @@
--- `layout::take_step` writes the words that lead higher than all before them. The loop keeps the words noted so far, and for each key one more than the
--- highest vertex.
+-- `layout::take_step` writes the words that lead higher than all before them. The loop keeps the words noted so far, and for each key one
+-- more than the highest vertex.
 use mathlib.Core.Path.{refl}
 use Prim.Native.Nat.{_-_}
 use lib.ListN.{length}
@@ -57,7 +57,8 @@ loop-again c =
     let at-as-high = at-note .before in
     let at-higher = at-as-high .before .before in
     let at-arc = at-higher .before in
-    takers-more (at-arc .before .before .loop .inv) (at-arc .arc-at .ensures) refl (at-higher .higher .ensures) (at-as-high .as-high .ensures) (at-note .note .ensures) (search needs)
+    takers-more (at-arc .before .before .loop .inv) (at-arc .arc-at .ensures) refl (at-higher .higher .ensures)
+    (at-as-high .as-high .ensures) (at-note .note .ensures) (search needs)
 
 same-length : tie.Need-same-length Inv-loop μ-loop
 same-length c = search needs

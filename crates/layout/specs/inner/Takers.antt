@@ -1,5 +1,5 @@
--- The first word on each edge of a step, found in one scan over the words: for each vertex and symbol the scan keeps one more than the highest vertex
--- that they led to so far, and a word is the first on its edge if it leads higher.
+-- The first word on each edge of a step, found in one scan over the words: for each vertex and symbol the scan keeps one more than the
+-- highest vertex that they led to so far, and a word is the first on its edge if it leads higher.
 use mathlib.Core.Path.{_≡_}
 use mathlib.Core.Bool.{Bool, cond}
 use mathlib.Core.List.{List, [], _∷_, _++_}

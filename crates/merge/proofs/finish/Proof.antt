@@ -43,14 +43,27 @@ add-needed-2 c =
     let at-edges = c .before .before .before .before in
     let at-outer = at-edges .before .before .before .before .before in
     let entry = at-outer .before .before .before .before .before .before .before in
-    omega (arith, c .before .wide .ensures .0, c .wide2 .ensures .0, root-few (entry .pre) (at-outer .put-outer .ensures), goal-few (entry .pre) (at-outer .put-outer .ensures))
+    omega (
+      arith,
+      c .before .wide .ensures .0,
+      c .wide2 .ensures .0,
+      root-few (entry .pre) (at-outer .put-outer .ensures),
+      goal-few (entry .pre) (at-outer .put-outer .ensures),
+    )
 
 add-needed-3 : tie.Need-add-needed-3
 add-needed-3 c =
     let at-edges = c .before .before .before .before in
     let at-outer = at-edges .before .before .before .before .before in
     let entry = at-outer .before .before .before .before .before .before .before in
-    omega (arith, c .before .wide .ensures .0, c .wide2 .ensures .0, root-few (entry .pre) (at-outer .put-outer .ensures), goal-few (entry .pre) (at-outer .put-outer .ensures), entry .pre .asked .held .short)
+    omega (
+      arith,
+      c .before .wide .ensures .0,
+      c .wide2 .ensures .0,
+      root-few (entry .pre) (at-outer .put-outer .ensures),
+      goal-few (entry .pre) (at-outer .put-outer .ensures),
+      entry .pre .asked .held .short,
+    )
 
 mul-needed-2 : tie.Need-mul-needed-2
 mul-needed-2 c =
@@ -70,7 +83,15 @@ add-needed-4 c =
     let at-edges = at-wide .before .before .before in
     let at-outer = at-edges .before .before .before .before .before in
     let entry = at-outer .before .before .before .before .before .before .before in
-    omega (arith, total-few (entry .pre) (at-outer .put-outer .ensures) (at-edges .take-edges .ensures), at-wide .wide .ensures .0, at-wide2 .wide2 .ensures .0, root-few (entry .pre) (at-outer .put-outer .ensures), goal-few (entry .pre) (at-outer .put-outer .ensures), entry .pre .asked .held .short)
+    omega (
+      arith,
+      total-few (entry .pre) (at-outer .put-outer .ensures) (at-edges .take-edges .ensures),
+      at-wide .wide .ensures .0,
+      at-wide2 .wide2 .ensures .0,
+      root-few (entry .pre) (at-outer .put-outer .ensures),
+      goal-few (entry .pre) (at-outer .put-outer .ensures),
+      entry .pre .asked .held .short,
+    )
 
 same-length : tie.Need-same-length
 same-length c = search needs
@@ -83,7 +104,8 @@ returns c =
     let at-edges = at-wide .before .before .before in
     let at-outer = at-edges .before .before .before .before .before in
     let entry = at-outer .before .before .before .before .before .before .before in
-    ends-short (entry .pre) (at-outer .put-outer .ensures) (at-edges .take-edges .ensures) _ _ (at-wide .wide .ensures .0) (at-wide2 .wide2 .ensures .0) (c .if1 .taken)
+    ends-short (entry .pre) (at-outer .put-outer .ensures) (at-edges .take-edges .ensures) _ _ (at-wide .wide .ensures .0)
+    (at-wide2 .wide2 .ensures .0) (c .if1 .taken)
 
 slice-aggregate-put-section : tie.Need-slice-aggregate-put-section
 slice-aggregate-put-section c = search needs
@@ -96,7 +118,8 @@ put-section-requires c κs =
     let at-edges = at-wide .before .before .before in
     let at-outer = at-edges .before .before .before .before .before in
     let entry = at-outer .before .before .before .before .before .before .before in
-    parts (entry .pre) (at-outer .put-outer .ensures) (at-edges .take-edges .ensures) 0 0 (at-wide .wide .ensures .0) (at-wide2 .wide2 .ensures .0) (c .before .before .before .if1 .left)
+    parts (entry .pre) (at-outer .put-outer .ensures) (at-edges .take-edges .ensures) 0 0 (at-wide .wide .ensures .0)
+    (at-wide2 .wide2 .ensures .0) (c .before .before .before .if1 .left)
 
 same-length-2 : tie.Need-same-length-2
 same-length-2 c = search needs
@@ -112,7 +135,9 @@ returns-2 c =
     let at-edges = at-wide .before .before .before in
     let at-outer = at-edges .before .before .before .before .before in
     let entry = at-outer .before .before .before .before .before .before .before in
-    ends-done (entry .pre) (at-outer .put-outer .ensures) (at-edges .take-edges .ensures) _ _ (at-wide .wide .ensures .0) (at-wide2 .wide2 .ensures .0) (c .before .before .before .before .before .before .if1 .left) (c .before .before .put-section .ensures)
+    ends-done (entry .pre) (at-outer .put-outer .ensures) (at-edges .take-edges .ensures) _ _ (at-wide .wide .ensures .0)
+    (at-wide2 .wide2 .ensures .0) (c .before .before .before .before .before .before .if1 .left)
+    (c .before .before .put-section .ensures)
 
 pub finish-spec : {M : Type 1} → statement M
 finish-spec =

@@ -1,6 +1,7 @@
 -- `merge::merge_table` lays the words of an accepted file into three slices, and its answer is theirs.
 use native.Mathlib.Omega.{arith}
-use Rattle.merge.proofs.FileStage.{count-few, needed-fits, ends-map, part-roots, part-labels, part-goals, size-roots, size-labels, size-goals, words-asked, ends-words}
+use Rattle.merge.proofs.FileStage.{count-few, needed-fits, ends-map, part-roots, part-labels, part-goals, size-roots, size-labels}
+use Rattle.merge.proofs.FileStage.{size-goals, words-asked, ends-words}
 use borrow.Author.Needs.{needs}
 use Rattle.merge.proofs.merge_table.Statement.{statement}
 use Rattle.merge.proofs.merge_table.Tie as tie
@@ -83,10 +84,12 @@ same-length-2 c = search needs
 
 returns-2 : tie.Need-returns-2
 returns-2 c =
-    let at-wide = c .before .before .before .before .before .before .before .before .before .before .before .before .before .before .before in
+    let at-wide = c .before .before .before .before .before .before .before .before .before .before .before .before .before .before
+    .before in
     let at-copy = c .before .before .before .before .before .before .before .before .before .before .before .before .before in
     let entry = at-wide .before .before .before .before in
-    ends-words _ (entry .pre) (at-copy .copy-words .ensures) (at-wide .wide .ensures .0) _ _ _ _ _ (at-copy .before .if1 .left) (c .before .before .before .before .merge-words .ensures)
+    ends-words _ (entry .pre) (at-copy .copy-words .ensures) (at-wide .wide .ensures .0) _ _ _ _ _ (at-copy .before .if1 .left)
+    (c .before .before .before .before .merge-words .ensures)
 
 pub merge-table-spec : {M : Type 1} → statement M
 merge-table-spec =

@@ -20,7 +20,8 @@ returns : tie.Need-returns
 returns c =
     let at-inner = c .before .before .before .before .before .before .before in
     let entry = at-inner .before .before .before .before .before .before .before .before in
-    ends-refused (entry .pre) (at-inner .merge-inner .ensures) _ _ (c .before .before .before .before .if1 .taken) (c .before .before .refuse .ensures)
+    ends-refused (entry .pre) (at-inner .merge-inner .ensures) _ _ (c .before .before .before .before .if1 .taken)
+    (c .before .before .refuse .ensures)
 
 finish-requires : tie.Need-finish-requires
 finish-requires c κs =
@@ -38,7 +39,8 @@ returns-2 : tie.Need-returns-2
 returns-2 c =
     let at-inner = c .before .before .before .before .before .before .before .before .before .before in
     let entry = at-inner .before .before .before .before .before .before .before .before in
-    ends-written (entry .pre) (at-inner .merge-inner .ensures) _ _ _ (c .before .before .before .before .before .before .before .if1 .left) (c .before .before .before .before .finish .ensures)
+    ends-written (entry .pre) (at-inner .merge-inner .ensures) _ _ _ (c .before .before .before .before .before .before .before .if1 .left)
+    (c .before .before .before .before .finish .ensures)
 
 pub merge-words-spec : {M : Type 1} → statement M
 merge-words-spec =

@@ -35,7 +35,10 @@ add-codes c = search needs
 
 mul-codes-2 : tie.Need-mul-codes-2 Inv-loop μ-loop
 mul-codes-2 c = let h = c .before .before in let p = h .before .before .before .pre in
-    record { fits = omega (arith, p .0 .small (h .before .loop .v) (h .loop-test .taken), p .0 .few, c .before .number .ensures, c .wider .ensures .0) }
+    record {
+      fits = omega
+          (arith, p .0 .small (h .before .loop .v) (h .loop-test .taken), p .0 .few, c .before .number .ensures, c .wider .ensures .0);
+    }
 
 mul-codes-3 : tie.Need-mul-codes-3 Inv-loop μ-loop
 mul-codes-3 c = search needs
@@ -50,7 +53,9 @@ loop-less : tie.Need-loop-less Inv-loop μ-loop
 loop-less c = search needs
 
 loop-again : tie.Need-loop-again Inv-loop μ-loop
-loop-again c = let h = c .before .before in rooted-next (h .before .loop .inv) (h .before .before .before .pre .0) (h .loop-test .taken) (c .before .number .ensures) (c .wider .ensures)
+loop-again c = let h = c .before .before in
+    rooted-next (h .before .loop .inv) (h .before .before .before .pre .0) (h .loop-test .taken) (c .before .number .ensures)
+    (c .wider .ensures)
 
 returns : tie.Need-returns Inv-loop μ-loop
 returns c = rooted-all (c .before .loop .inv) (search needs)

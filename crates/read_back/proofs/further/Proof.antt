@@ -29,7 +29,8 @@ add-result-2 : tie.Need-add-result-2
 add-result-2 c = search needs
 
 returns : tie.Need-returns
-returns c = further-is _ _ _ (c .before .before .before .wider .ensures) (c .before .before .label-of .ensures) (c .before .append .ensures) (c .wider2 .ensures)
+returns c = further-is _ _ _ (c .before .before .before .wider .ensures) (c .before .before .label-of .ensures) (c .before .append .ensures)
+    (c .wider2 .ensures)
 
 pub further-spec : {M : Type 1} → statement M
 further-spec =

@@ -1,4 +1,5 @@
--- `read_back::grow` meets its contract. The loop's invariant: the beginnings passed are put one step further. The measure is what is left of them.
+-- `read_back::grow` meets its contract. The loop's invariant: the beginnings passed are put one step further. The measure is what is left
+-- of them.
 use native.Mathlib.Omega.{arith}
 use Prim.Native.Nat.{_-_}
 use Rattle.trellis.specs.Lists.{run}
@@ -10,7 +11,8 @@ use Rattle.read_back.proofs.grow.Statement.{statement}
 use Rattle.read_back.proofs.grow.Tie as tie
 
 abbrev Inv-loop : tie.InvT-loop
-Inv-loop s pairs symbols count old have codes₀ starts made₀ i₀ codes made i = Growing (grownCodes (run (edgeAt s pairs symbols) 0 count)) old have codes made i
+Inv-loop s pairs symbols count old have codes₀ starts made₀ i₀ codes made i =
+    Growing (grownCodes (run (edgeAt s pairs symbols) 0 count)) old have codes made i
 
 abbrev μ-loop : tie.MeasureT-loop
 μ-loop s pairs symbols count old have codes₀ starts made₀ i₀ codes made i = have - i
@@ -40,11 +42,16 @@ wide-requires : tie.Need-wide-requires Inv-loop μ-loop
 wide-requires c κs = search needs
 
 grow-one-requires : tie.Need-grow-one-requires Inv-loop μ-loop
-grow-one-requires c κs = let w = c .before in let v = w .before in let h = v .before .before in let t = h .before .before in
-    (search needs, begins-of _ (t .starts-of .ensures) (v .vertex-of .ensures) (w .wide .ensures), h .before .loop .inv .room, h .before .loop .inv .long)
+grow-one-requires c κs = let w = c .before in let v = w .before in let h = v .before .before in let t = h .before .before in (
+  search needs,
+  begins-of _ (t .starts-of .ensures) (v .vertex-of .ensures) (w .wide .ensures),
+  h .before .loop .inv .room,
+  h .before .loop .inv .long,
+)
 
 returns : tie.Need-returns Inv-loop μ-loop
-returns c = let g = c .before in let h = g .before .before .before .before .before in growing-over (h .before .loop .inv) (h .loop-test .taken) (search needs) (g .grow-one .ensures) (c .if1 .taken)
+returns c = let g = c .before in let h = g .before .before .before .before .before in
+    growing-over (h .before .loop .inv) (h .loop-test .taken) (search needs) (g .grow-one .ensures) (c .if1 .taken)
 
 add-i : tie.Need-add-i Inv-loop μ-loop
 add-i c = search needs
@@ -53,7 +60,8 @@ loop-less : tie.Need-loop-less Inv-loop μ-loop
 loop-less c = search needs
 
 loop-again : tie.Need-loop-again Inv-loop μ-loop
-loop-again c = let g = c .before in let h = g .before .before .before .before .before in growing-next (h .before .loop .inv) (h .loop-test .taken) (search needs) (g .grow-one .ensures) (c .if1 .left)
+loop-again c = let g = c .before in let h = g .before .before .before .before .before in
+    growing-next (h .before .loop .inv) (h .loop-test .taken) (search needs) (g .grow-one .ensures) (c .if1 .left)
 
 returns-2 : tie.Need-returns-2 Inv-loop μ-loop
 returns-2 c = growing-all (c .before .loop .inv) (search needs)

@@ -1,5 +1,5 @@
--- `read_back::grow_one` meets its contract. The loop's invariant: what is filled, and the edges of the vertex from k on, are all that is to be put there.
--- The measure is what is left of the edges.
+-- `read_back::grow_one` meets its contract. The loop's invariant: what is filled, and the edges of the vertex from k on, are all that is to
+-- be put there. The measure is what is left of the edges.
 use mathlib.Core.Path.{sym, _∙_}
 use native.Mathlib.Omega.{arith}
 use Prim.Native.Nat.{_-_}
@@ -11,7 +11,8 @@ use Rattle.read_back.proofs.grow_one.Statement.{statement}
 use Rattle.read_back.proofs.grow_one.Tie as tie
 
 abbrev Inv-loop : tie.InvT-loop
-Inv-loop s pairs symbols count start c made codes₀ vertex filled₀ k₀ codes filled k = Putting (furtherCode c) (edgeAt s pairs symbols) count (codeVertex c) codes₀ made codes filled k
+Inv-loop s pairs symbols count start c made codes₀ vertex filled₀ k₀ codes filled k =
+    Putting (furtherCode c) (edgeAt s pairs symbols) count (codeVertex c) codes₀ made codes filled k
 
 abbrev μ-loop : tie.MeasureT-loop
 μ-loop s pairs symbols count start c made codes₀ vertex filled₀ k₀ codes filled k = count - k
@@ -36,11 +37,14 @@ wide-requires c κs = search needs
 
 returns : tie.Need-returns Inv-loop μ-loop
 returns c = let w = c .before in let n = w .before in let h = n .before in let u = h .before .before in
-    putting-stops (h .before .loop .inv) (h .loop-test .taken) (λ q. c .if1 .taken (w .wide .ensures .0 ∙ n .number .ensures ∙ q ∙ sym (u .vertex-of .ensures))) (u .before .before .pre .0 .fromsRise)
+    putting-stops (h .before .loop .inv) (h .loop-test .taken)
+    (λ q. c .if1 .taken (w .wide .ensures .0 ∙ n .number .ensures ∙ q ∙ sym (u .vertex-of .ensures)))
+    (u .before .before .pre .0 .fromsRise)
 
 returns-2 : tie.Need-returns-2 Inv-loop μ-loop
 returns-2 c = let e1 = c .before in let w = e1 .before in let n = w .before in let h = n .before in let u = h .before .before in
-    putting-over (h .before .loop .inv) (h .loop-test .taken) (sym (n .number .ensures) ∙ sym (w .wide .ensures .0) ∙ e1 .if1 .left ∙ u .vertex-of .ensures) (c .if2 .taken)
+    putting-over (h .before .loop .inv) (h .loop-test .taken)
+    (sym (n .number .ensures) ∙ sym (w .wide .ensures .0) ∙ e1 .if1 .left ∙ u .vertex-of .ensures) (c .if2 .taken)
 
 add-number-2 : tie.Need-add-number-2 Inv-loop μ-loop
 add-number-2 c = search needs
@@ -80,9 +84,12 @@ loop-less : tie.Need-loop-less Inv-loop μ-loop
 loop-less c = search needs
 
 loop-again : tie.Need-loop-again Inv-loop μ-loop
-loop-again c = let n3 = c .before in let n2 = n3 .before in let e2 = n2 .before in let e1 = e2 .before in let w = e1 .before in let n = w .before in let h = n .before in let u = h .before .before in
-    putting-next (h .before .loop .inv) (h .loop-test .taken) (sym (n .number .ensures) ∙ sym (w .wide .ensures .0) ∙ e1 .if1 .left ∙ u .vertex-of .ensures) (e2 .if2 .left)
-    (further-at (u .before .before .args .c) (c .further .ensures) (n2 .number2 .ensures) (n3 .number3 .ensures)) (u .before .before .pre .0 .fromsRise)
+loop-again c = let n3 = c .before in let n2 = n3 .before in let e2 = n2 .before in let e1 = e2 .before in let w = e1 .before in let n =
+    w .before in let h = n .before in let u = h .before .before in
+    putting-next (h .before .loop .inv) (h .loop-test .taken)
+    (sym (n .number .ensures) ∙ sym (w .wide .ensures .0) ∙ e1 .if1 .left ∙ u .vertex-of .ensures) (e2 .if2 .left)
+    (further-at (u .before .before .args .c) (c .further .ensures) (n2 .number2 .ensures) (n3 .number3 .ensures))
+    (u .before .before .pre .0 .fromsRise)
 
 returns-3 : tie.Need-returns-3 Inv-loop μ-loop
 returns-3 c = putting-done (c .before .loop .inv) (search needs)

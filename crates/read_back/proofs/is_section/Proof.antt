@@ -15,10 +15,12 @@ enum-told : tie.Need-enum-told
 enum-told c = search needs
 
 returns : tie.Need-returns
-returns c = let u = c .before .before .before in is-usable (u .before .before .args .s .now) (c .before .part .given .0 .0) (sym (c .before .part .given .1) ∙ u .usable-at .ensures)
+returns c = let u = c .before .before .before in
+    is-usable (u .before .before .args .s .now) (c .before .part .given .0 .0) (sym (c .before .part .given .1) ∙ u .usable-at .ensures)
 
 returns-2 : tie.Need-returns-2
-returns-2 c = let u = c .before .before in not-usable (u .before .before .args .s .now) (sym (c .enum-told .given .1) ∙ u .usable-at .ensures)
+returns-2 c = let u = c .before .before in
+    not-usable (u .before .before .args .s .now) (sym (c .enum-told .given .1) ∙ u .usable-at .ensures)
 
 pub is-section-spec : {M : Type 1} → statement M
 is-section-spec =

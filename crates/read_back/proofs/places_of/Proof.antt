@@ -32,7 +32,8 @@ add-pairs : tie.Need-add-pairs
 add-pairs c = search needs
 
 sub-symbols : tie.Need-sub-symbols
-sub-symbols c = let m = c .before in let w = m .before in let n = w .before in let p = n .before .before .pre in pairs-inside (p .0) (p .1) (p .2) (n .number .ensures) (w .wide .ensures) (m .number2 .ensures) (c .wide2 .ensures)
+sub-symbols c = let m = c .before in let w = m .before in let n = w .before in let p = n .before .before .pre in
+    pairs-inside (p .0) (p .1) (p .2) (n .number .ensures) (w .wide .ensures) (m .number2 .ensures) (c .wide2 .ensures)
 
 mul-symbols : tie.Need-mul-symbols
 mul-symbols c = search needs
@@ -41,7 +42,8 @@ add-symbols : tie.Need-add-symbols
 add-symbols c = search needs
 
 returns : tie.Need-returns
-returns c = let m = c .before in let w = m .before in let n = w .before in let p = n .before .before .pre in places-are (p .0) (p .1) (p .2) (n .number .ensures) (w .wide .ensures) (m .number2 .ensures) (c .wide2 .ensures)
+returns c = let m = c .before in let w = m .before in let n = w .before in let p = n .before .before .pre in
+    places-are (p .0) (p .1) (p .2) (n .number .ensures) (w .wide .ensures) (m .number2 .ensures) (c .wide2 .ensures)
 
 pub places-of-spec : {M : Type 1} → statement M
 places-of-spec =

@@ -55,7 +55,8 @@ loop-less c = search needs
 
 loop-again : tie.Need-loop-again Inv-loop μ-loop
 loop-again c = let b = c .before in let w = b .before in let l = w .before in let h = l .before .before in
-    pieces-next (h .before .loop .inv) (h .loop-test .taken) (search needs) (label-is _ (l .label-of .ensures) (w .wide .ensures) (b .byte .ensures) (c .byte2 .ensures))
+    pieces-next (h .before .loop .inv) (h .loop-test .taken) (search needs)
+    (label-is _ (l .label-of .ensures) (w .wide .ensures) (b .byte .ensures) (c .byte2 .ensures))
 
 same-length : tie.Need-same-length Inv-loop μ-loop
 same-length c = c .before .loop .inv .len

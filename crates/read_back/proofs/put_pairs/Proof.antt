@@ -63,8 +63,11 @@ loop-less : tie.Need-loop-less Inv-loop μ-loop
 loop-less c = search needs
 
 loop-again : tie.Need-loop-again Inv-loop μ-loop
-loop-again c = let w = c .before in let n = w .before in let v = n .before in let b = v .before in let r = b .before in let h = r .before .before in let a = h .before .before .before .before .args in
-    pieces-next (h .before .loop .inv) (h .loop-test .taken) (search needs) (pair-is (a .s .now) (a .goals) _ (r .root-of .ensures) (b .byte .ensures) (v .vertex-of .ensures) (n .number .ensures) (w .wide .ensures) (c .byte2 .ensures))
+loop-again c = let w = c .before in let n = w .before in let v = n .before in let b = v .before in let r = b .before in let h =
+    r .before .before in let a = h .before .before .before .before .args in
+    pieces-next (h .before .loop .inv) (h .loop-test .taken) (search needs)
+    (pair-is (a .s .now) (a .goals) _ (r .root-of .ensures) (b .byte .ensures) (v .vertex-of .ensures) (n .number .ensures)
+    (w .wide .ensures) (c .byte2 .ensures))
 
 same-length : tie.Need-same-length Inv-loop μ-loop
 same-length c = c .before .loop .inv .len

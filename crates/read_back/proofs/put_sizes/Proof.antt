@@ -58,8 +58,12 @@ same-length : tie.Need-same-length
 same-length c = search needs
 
 returns : tie.Need-returns
-returns c = let b4 = c .before in let b3 = b4 .before in let w3 = b3 .before in let n3 = w3 .before in let b2 = n3 .before in let w2 = b2 .before in let n2 = w2 .before in let b1 = n2 .before in let w1 = b1 .before in let n1 = w1 .before in let a = n1 .before .before .before .args in
-    sizes-put (a .file .now) (a .s .now) (a .count) (n1 .number .ensures) (w1 .wide .ensures) (b1 .byte .ensures) (n2 .number2 .ensures) (w2 .wide2 .ensures) (b2 .byte2 .ensures) (n3 .number3 .ensures) (w3 .wide3 .ensures) (b3 .byte3 .ensures) (b4 .byte4 .ensures) (c .byte5 .ensures)
+returns c = let b4 = c .before in let b3 = b4 .before in let w3 = b3 .before in let n3 = w3 .before in let b2 = n3 .before in let w2 =
+    b2 .before in let n2 = w2 .before in let b1 = n2 .before in let w1 = b1 .before in let n1 = w1 .before in let a =
+    n1 .before .before .before .args in
+    sizes-put (a .file .now) (a .s .now) (a .count) (n1 .number .ensures) (w1 .wide .ensures) (b1 .byte .ensures) (n2 .number2 .ensures)
+    (w2 .wide2 .ensures) (b2 .byte2 .ensures) (n3 .number3 .ensures) (w3 .wide3 .ensures) (b3 .byte3 .ensures) (b4 .byte4 .ensures)
+    (c .byte5 .ensures)
 
 pub put-sizes-spec : {M : Type 1} → statement M
 put-sizes-spec =

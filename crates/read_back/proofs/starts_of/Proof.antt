@@ -43,14 +43,20 @@ mul-starts c = search needs
 
 array-write-starts : tie.Need-array-write-starts Inv-loop μ-loop
 array-write-starts c = let h = c .before .before in let a = h .before .loop in
-    omega (arith, h .before .before .before .pre .fromSmall (a .k - 1) (omega (arith, a .inv .inside, h .loop-test .taken)), c .before .number .ensures, c .wide .ensures .0)
+    omega (
+      arith,
+      h .before .before .before .pre .fromSmall (a .k - 1) (omega (arith, a .inv .inside, h .loop-test .taken)),
+      c .before .number .ensures,
+      c .wide .ensures .0,
+    )
 
 loop-less : tie.Need-loop-less Inv-loop μ-loop
 loop-less c = search needs
 
 loop-again : tie.Need-loop-again Inv-loop μ-loop
 loop-again c = let h = c .before .before in let a = h .before .loop in
-    noted-next (a .inv) (h .loop-test .taken) (c .before .number .ensures) (c .wide .ensures) (h .before .before .before .pre .fromSmall (a .k - 1) (omega (arith, a .inv .inside, h .loop-test .taken)))
+    noted-next (a .inv) (h .loop-test .taken) (c .before .number .ensures) (c .wide .ensures)
+    (h .before .before .before .pre .fromSmall (a .k - 1) (omega (arith, a .inv .inside, h .loop-test .taken)))
 
 returns : tie.Need-returns Inv-loop μ-loop
 returns c = noted-all (c .before .loop .inv) (search needs)

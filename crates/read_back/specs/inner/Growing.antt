@@ -1,5 +1,5 @@
--- Numbers put into a fixed array one behind another, which may turn out too many; the edges of a step as the code finds them; and where the edges of
--- a vertex begin.
+-- Numbers put into a fixed array one behind another, which may turn out too many; the edges of a step as the code finds them; and where the
+-- edges of a vertex begin.
 use mathlib.Core.Path.{_≡_}
 use mathlib.Core.List.{List, [], _∷_, _++_, map, flatMap}
 use Prim.Native.Nat.{ℕ, _+_, _-_, _*_, _%_, _≤_, _<_}

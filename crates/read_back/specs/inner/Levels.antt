@@ -1,5 +1,5 @@
--- Words found depth by depth: the beginnings of words up to depth t, in word order, each with the vertex where its path stands, and each as one
--- number. From one depth to the next every beginning goes on along all edges that leave its vertex.
+-- Words found depth by depth: the beginnings of words up to depth t, in word order, each with the vertex where its path stands, and each as
+-- one number. From one depth to the next every beginning goes on along all edges that leave its vertex.
 use mathlib.Core.List.{List, map, flatMap}
 use Prim.Native.Nat.{ℕ, zero, suc, _+_, _*_, _/_, _%_}
 use Rattle.trellis.specs.Lists.{each}

@@ -1,5 +1,6 @@
--- A table of W words cut at one depth, in numbers: word i is the pair of beginning i and ending i. Words with one beginning stand together, a run.
--- The definitions give a test for rectangular tables and the first word of each vertex, from the runs and a key that tells endings apart.
+-- A table of W words cut at one depth, in numbers: word i is the pair of beginning i and ending i. Words with one beginning stand together,
+-- a run. The definitions give a test for rectangular tables and the first word of each vertex, from the runs and a key that tells endings
+-- apart.
 use mathlib.Core.Path.{_≡_}
 use mathlib.Core.Bool.{Bool, _&&_}
 use mathlib.Core.Logic.{_↔_}
@@ -58,7 +59,8 @@ firstWordBy beginning key i = firstLike beginning (firstLike key i)
 abbrev pub goesOn : ℕ → (ℕ → ℕ) → ℕ → Bool
 goesOn W start i = ltb (i + 1) W && eqb (start (i + 1)) (start i)
 
--- i has the first word that its run's start has, and its run goes on behind i exactly if the run of the first word does at the same distance
+-- i has the first word that its run's start has, and its run goes on behind i exactly if the run of the first word does at the same
+-- distance
 pub record Agrees (W : ℕ) (start firstWord : ℕ → ℕ) (i : ℕ) : Type 0 where
   pub firsts : firstWord i ≡ firstWord (start i)
   pub lasts : goesOn W start i ≡ goesOn W start (firstWord i + (i - start i))

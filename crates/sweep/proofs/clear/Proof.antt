@@ -1,5 +1,5 @@
--- `sweep::clear` writes the top to the first places of a row. The loop's invariant: the places passed hold it, and the others are as they were.
--- The measure is how many are left.
+-- `sweep::clear` writes the top to the first places of a row. The loop's invariant: the places passed hold it, and the others are as they
+-- were. The measure is how many are left.
 use borrow.Author.Needs.{needs}
 use Prim.Native.Nat.{_-_}
 use Rattle.sweep.specs.inner.Loops.{RowCleared}

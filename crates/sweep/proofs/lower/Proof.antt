@@ -1,5 +1,5 @@
--- `sweep::lower` takes the edges of a step one by one. The loop's invariant: each vertex of the row has the least that the edges passed give it.
--- The measure is how many edges are left.
+-- `sweep::lower` takes the edges of a step one by one. The loop's invariant: each vertex of the row has the least that the edges passed
+-- give it. The measure is how many edges are left.
 use borrow.Author.Needs.{needs}
 use Prim.Native.Nat.{_-_}
 use Rattle.sweep.proofs.Lowering.{lower-start, lower-more, lower-end, InLower}

@@ -1,4 +1,5 @@
--- `sweep::sweep` makes the rows from the last depth to the first. The loop's invariant: the rows from depth t on hold the least costs. The measure is t.
+-- `sweep::sweep` makes the rows from the last depth to the first. The loop's invariant: the rows from depth t on hold the least costs. The
+-- measure is t.
 use borrow.Author.Needs.{needs}
 use mathlib.Core.Path.{refl}
 use Prim.Native.Nat.{_-_}
@@ -30,7 +31,8 @@ read-of lent = lent .before .before .before
 
 -- the edges of the step
 step-here : (read : tie.After-wide Inv-loop μ-loop)
-    → let head = turn-of read .before in LastStep (entry head .args .l .now) (head .loop .t - 1) (head .loop .hi - read .wide .result) (head .loop .hi)
+    → let head = turn-of read .before in
+    LastStep (entry head .args .l .now) (head .loop .t - 1) (head .loop .hi - read .wide .result) (head .loop .hi)
 step-here read =
     let turn = turn-of read in
     let head = turn .before in
@@ -86,8 +88,11 @@ lower-requires c κs =
     let lent = c .before .before in
     let read = read-of lent in
     let p = entry (turn-of read .before) .pre in
-    let S = step-here read in
-    (reads-at (p .0) (p .1), step-in (S .inside) (S .lo-is) (S .hi-is), is-clear (c .before .clear .ensures) (lent .before .wide2 .ensures .0))
+    let S = step-here read in (
+      reads-at (p .0) (p .1),
+      step-in (S .inside) (S .lo-is) (S .hi-is),
+      is-clear (c .before .clear .ensures) (lent .before .wide2 .ensures .0),
+    )
 
 loop-less : tie.Need-loop-less Inv-loop μ-loop
 loop-less c = search needs
@@ -98,7 +103,8 @@ loop-again c =
     let read = read-of (cleared .before) in
     let turn = turn-of read in
     let p = entry (turn .before) .pre in
-    sweep-more (p .0) (p .1 .nIs) (turn .before .loop .inv) (turn .loop-test .taken) (step-here read) (cleared .clear .ensures) (c .lower .ensures)
+    sweep-more (p .0) (p .1 .nIs) (turn .before .loop .inv) (turn .loop-test .taken) (step-here read) (cleared .clear .ensures)
+    (c .lower .ensures)
 
 returns : tie.Need-returns Inv-loop μ-loop
 returns c = sweep-end (c .before .loop .inv) (search needs)

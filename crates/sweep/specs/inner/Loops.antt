@@ -66,4 +66,5 @@ pub record Clear (l : List ℕ) (t : ℕ) (rows : List ℕ) : Type 0 where
 pub record Lowered (l prices : List ℕ) (t lo hi : ℕ) (old rows : List ℕ) : Type 0 where
   pub long : length rows ≡ 9216
   pub kept : (j : ℕ) → mostWords * suc t ≤ j → getD rows j 0 ≡ getD old j 0
-  pub at : (v : ℕ) → v < vertexCountOf l t → getD rows (mostWords * t + v) 0 ≡ minAll noCost (through prices old t) (leaving v (between l lo hi))
+  pub at : (v : ℕ) → v < vertexCountOf l t
+      → getD rows (mostWords * t + v) 0 ≡ minAll noCost (through prices old t) (leaving v (between l lo hi))

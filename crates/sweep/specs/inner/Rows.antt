@@ -1,11 +1,13 @@
--- The costs of one section as they lie in an array: a row of 1,024 numbers for each depth, at place v of row t the least cost from vertex v of depth t.
--- `l` is a list of numbers with a section at its front. `cost` is what a symbol costs at a step, and `number` what it costs to end in a vertex of depth n.
+-- The costs of one section as they lie in an array: a row of 1,024 numbers for each depth, at place v of row t the least cost from vertex v
+-- of depth t. `l` is a list of numbers with a section at its front. `cost` is what a symbol costs at a step, and `number` what it costs to
+-- end in a vertex of depth n.
 use mathlib.Core.Path.{_≡_}
 use mathlib.Core.List.{List}
 use Prim.Native.Nat.{ℕ, suc, _+_, _-_, _*_, _≤_, _<_}
 use lib.ListN.{length, getD}
 use Rattle.trellis.specs.Bounds.{mostWords, mostSymbols}
-use Rattle.trellis.specs.Layout.{nOf, vertexCountOf, edgeCountOf, edgesBefore, allEdges, rootsPlace, goalsPlace, pairsPlace, symbolsPlace, edgeNumber, stepEdges}
+use Rattle.trellis.specs.Layout.{nOf, vertexCountOf, edgeCountOf, edgesBefore, allEdges, rootsPlace, goalsPlace, pairsPlace, symbolsPlace}
+use Rattle.trellis.specs.Layout.{edgeNumber, stepEdges}
 use Rattle.paths.specs.inner.Sections.{sectionLeast}
 
 -- no path

@@ -1,5 +1,5 @@
--- `table::check` meets its contract: the definition tries the same checks in the same order, so each way out is the case of the definition that the
--- tests before it leave.
+-- `table::check` meets its contract: the definition tries the same checks in the same order, so each way out is the case of the definition
+-- that the tests before it leave.
 use mathlib.Core.Path.{sym, _∙_}
 use Rattle.table.proofs.Checks.{SizesRight, WordsRight, out-length, out-size, out-word, out-order, out-table}
 use borrow.Author.Needs.{needs}

@@ -1,5 +1,5 @@
--- `table::first_bad` meets its contract. The loop's invariant: no word passed is bad. A word that is bad is then the first, and where the loop ends
--- there is none.
+-- `table::first_bad` meets its contract. The loop's invariant: no word passed is bad. A word that is bad is then the first, and where the
+-- loop ends there is none.
 use mathlib.Core.Path.{_≡_, sym, _∙_}
 use Prim.Native.Nat.{_-_}
 use borrow.Author.Needs.{needs}
@@ -17,7 +17,8 @@ abbrev μ-loop : tie.MeasureT-loop
 
 -- the test of a turn is that of check 3
 bad : (d : tie.After-word-outside Inv-loop μ-loop)
-    → d .word-outside .result ≡ wordBad (d .before .before .before .before .before .before .before .before .before .args .file .now) (d .before .before .before .loop .i)
+    → d .word-outside .result ≡ wordBad (d .before .before .before .before .before .before .before .before .before .args .file .now)
+    (d .before .before .before .loop .i)
 bad d =
     let w = d .before .before .before .before in
     word-bad-is _ _ (w .before .before .before .byte-at .ensures) (w .before .before .byte-at2 .ensures) (w .before .byte-at3 .ensures)

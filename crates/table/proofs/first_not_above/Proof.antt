@@ -1,5 +1,5 @@
--- `table::first_not_above` meets its contract. The loop's invariant: every word passed is above the one before it, and the word kept is the last one
--- passed. Word 0 has none before it, so the loop starts behind it, and a file of no words is settled before.
+-- `table::first_not_above` meets its contract. The loop's invariant: every word passed is above the one before it, and the word kept is the
+-- last one passed. Word 0 has none before it, so the loop starts behind it, and a file of no words is settled before.
 use Prim.Native.Nat.{_-_}
 use borrow.Author.Needs.{needs}
 use Rattle.table.proofs.Checks.{Ascending, no-words, ascending-start, ascending-next, ascending-found, ascending-all}

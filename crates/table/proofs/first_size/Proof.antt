@@ -15,7 +15,8 @@ past-n : (e : tie.Else2) → Clear (sizeOutside (e .before .before .before .befo
 past-n e = clear-next (past-q (e .before .before)) (search needs) (sym (n-outside _ (e .before .byte-outside2 .ensures)) ∙ e .if2 .left)
 
 past-states : (e : tie.Else3) → Clear (sizeOutside (e .before .before .before .before .before .before .before .args .file .now)) 4 3
-past-states e = clear-next (past-n (e .before .before)) (search needs) (sym (states-outside _ (e .before .byte-outside3 .ensures)) ∙ e .if3 .left)
+past-states e = clear-next (past-n (e .before .before)) (search needs)
+    (sym (states-outside _ (e .before .byte-outside3 .ensures)) ∙ e .if3 .left)
 
 count-bad : (d : tie.After-is-outside)
     → d .is-outside .result ≡ sizeOutside (d .before .before .before .before .before .before .before .before .before .args .file .now) 3
@@ -31,13 +32,15 @@ byte-outside-requires-2 : tie.Need-byte-outside-requires-2
 byte-outside-requires-2 c κs = search needs
 
 returns-2 : tie.Need-returns-2
-returns-2 c = clear-found (past-q (c .before .before)) (search needs) (sym (n-outside _ (c .before .byte-outside2 .ensures)) ∙ c .if2 .taken)
+returns-2 c = clear-found (past-q (c .before .before)) (search needs)
+    (sym (n-outside _ (c .before .byte-outside2 .ensures)) ∙ c .if2 .taken)
 
 byte-outside-requires-3 : tie.Need-byte-outside-requires-3
 byte-outside-requires-3 c κs = search needs
 
 returns-3 : tie.Need-returns-3
-returns-3 c = clear-found (past-n (c .before .before)) (search needs) (sym (states-outside _ (c .before .byte-outside3 .ensures)) ∙ c .if3 .taken)
+returns-3 c = clear-found (past-n (c .before .before)) (search needs)
+    (sym (states-outside _ (c .before .byte-outside3 .ensures)) ∙ c .if3 .taken)
 
 word-count-requires : tie.Need-word-count-requires
 word-count-requires c κs = search needs
@@ -50,7 +53,8 @@ returns-4 c = clear-found (past-states (c .before .before .before)) (search need
 
 returns-5 : tie.Need-returns-5
 returns-5 c =
-    clear-all (clear-next (past-states (c .before .before .before)) (search needs) (sym (count-bad (c .before)) ∙ c .if4 .left)) (search needs)
+    clear-all (clear-next (past-states (c .before .before .before)) (search needs) (sym (count-bad (c .before)) ∙ c .if4 .left))
+    (search needs)
 
 pub first-size-spec : {M : Type 1} → statement M
 first-size-spec =

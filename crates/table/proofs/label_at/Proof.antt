@@ -1,4 +1,5 @@
--- `table::label_at` meets its contract: it reads the two places that the definition names, which lie behind the pairs of as many words as the file states.
+-- `table::label_at` meets its contract: it reads the two places that the definition names, which lie behind the pairs of as many words as
+-- the file states.
 use Rattle.table.proofs.Reading.{label-is}
 use borrow.Author.Needs.{needs}
 use Rattle.table.proofs.label_at.Statement.{statement}

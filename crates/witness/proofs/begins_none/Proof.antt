@@ -1,5 +1,5 @@
--- `witness::begins_none` meets its contract. Where an earlier word has i's ending, that word decides; else the loop keeps that the run of each word before k
--- with i's ending has all endings of i's run.
+-- `witness::begins_none` meets its contract. Where an earlier word has i's ending, that word decides; else the loop keeps that the run of
+-- each word before k with i's ending has all endings of i's run.
 use Prim.Native.Nat.{_-_}
 use borrow.Author.Needs.{needs}
 use borrow.Author.Tests.{not-false}
@@ -53,7 +53,8 @@ loop-less : tie.Need-loop-less Inv-loop μ-loop
 loop-less c = search needs
 
 loop-again : tie.Need-loop-again Inv-loop μ-loop
-loop-again c = alike-more (c .before .before .before .loop .inv) (c .before .within-if-alike .ensures (not-false _ (c .if2 .left))) (search needs)
+loop-again c = alike-more (c .before .before .before .loop .inv) (c .before .within-if-alike .ensures (not-false _ (c .if2 .left)))
+    (search needs)
 
 returns-3 : tie.Need-returns-3 Inv-loop μ-loop
 returns-3 c = λ e B. alike-end (c .before .loop .inv) (search needs)

@@ -1,4 +1,5 @@
--- `witness::find_witness` meets its contract. The loop keeps that the row tells the endings at depth u apart; at depth t the rows' first triple is the witness.
+-- `witness::find_witness` meets its contract. The loop keeps that the row tells the endings at depth u apart; at depth t the rows' first
+-- triple is the witness.
 use native.Mathlib.Omega.{arith}
 use borrow.Author.Needs.{needs}
 use Rattle.depths.proofs.Goals.{goal-row}
@@ -53,7 +54,8 @@ returns c =
     let turn = c .before .before .before .before in
     let at-starts = turn .before .before .before in
     let entry = at-starts .before .before .before .before .before in
-    rows-witness (entry .pre) (at-starts .put-starts .ensures) (turn .loop .inv) (search needs) (c .first-witness .result) (c .first-witness .ensures)
+    rows-witness (entry .pre) (at-starts .put-starts .ensures) (turn .loop .inv) (search needs) (c .first-witness .result)
+    (c .first-witness .ensures)
 
 pub find-witness-spec : {M : Type 1} → statement M
 find-witness-spec =

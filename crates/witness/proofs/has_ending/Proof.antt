@@ -28,7 +28,8 @@ element-copy-out-if1 c = search needs
 returns : tie.Need-returns Inv-loop μ-loop
 returns c =
     let entry = c .before .before .before in
-    ending-own (entry .args .starts .now) (entry .args .firsts .now) (entry .args .w) (entry .args .k) (entry .args .j) (entry .pre .2) (c .if1 .taken)
+    ending-own (entry .args .starts .now) (entry .args .firsts .now) (entry .args .w) (entry .args .k) (entry .args .j) (entry .pre .2)
+    (c .if1 .taken)
 
 mul-x : tie.Need-mul-x Inv-loop μ-loop
 mul-x c = search needs

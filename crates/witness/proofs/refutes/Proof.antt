@@ -37,7 +37,8 @@ returns-2 : tie.Need-returns-2
 returns-2 c =
     let at-if1 = c .before .before .before in
     let entry = at-if1 .before .before .before in
-    refutes-end (entry .args .starts .now) (entry .args .firsts .now) _ (entry .args .i) (entry .args .j) (entry .args .k) (at-if1 .if1 .left) (c .if2 .taken)
+    refutes-end (entry .args .starts .now) (entry .args .firsts .now) _ (entry .args .i) (entry .args .j) (entry .args .k)
+    (at-if1 .if1 .left) (c .if2 .taken)
 
 has-ending-requires : tie.Need-has-ending-requires
 has-ending-requires c κs = search needs
@@ -47,7 +48,8 @@ returns-3 c =
     let at-if2 = c .before in
     let at-if1 = at-if2 .before .before .before in
     let entry = at-if1 .before .before .before in
-    refutes-last (entry .args .starts .now) (entry .args .firsts .now) _ (entry .args .i) (entry .args .j) (entry .args .k) (at-if1 .if1 .left) (at-if2 .if2 .left) (c .has-ending .ensures)
+    refutes-last (entry .args .starts .now) (entry .args .firsts .now) _ (entry .args .i) (entry .args .j) (entry .args .k)
+    (at-if1 .if1 .left) (at-if2 .if2 .left) (c .has-ending .ensures)
 
 pub refutes-spec : {M : Type 1} → statement M
 refutes-spec =

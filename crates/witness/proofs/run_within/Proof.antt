@@ -55,46 +55,75 @@ mul-more-if-equal : tie.Need-mul-more-if-equal Inv-loop μ-loop
 mul-more-if-equal c =
     let at-l = c in
     let at-j = at-l .before .before in
-    omega (arith, run-yes _ _ _ _ (sym (at-l .before .in-run2 .ensures) ∙ not-false _ (at-l .if2 .left)) .0, at-j .before .before .loop .inv .rows .few)
+    omega (
+      arith,
+      run-yes _ _ _ _ (sym (at-l .before .in-run2 .ensures) ∙ not-false _ (at-l .if2 .left)) .0,
+      at-j .before .before .loop .inv .rows .few,
+    )
 
 element-copy-out-more-if-equal : tie.Need-element-copy-out-more-if-equal Inv-loop μ-loop
 element-copy-out-more-if-equal c =
     let at-l = c in
     let at-j = at-l .before .before in
-    omega (arith, run-yes _ _ _ _ (sym (at-l .before .in-run2 .ensures) ∙ not-false _ (at-l .if2 .left)) .0, at-j .before .before .loop .inv .rows .few)
+    omega (
+      arith,
+      run-yes _ _ _ _ (sym (at-l .before .in-run2 .ensures) ∙ not-false _ (at-l .if2 .left)) .0,
+      at-j .before .before .loop .inv .rows .few,
+    )
 
 mul-more-if-equal-2 : tie.Need-mul-more-if-equal-2 Inv-loop μ-loop
 mul-more-if-equal-2 c =
     let at-j = c .before .before .before in
-    omega (arith, run-yes _ _ _ _ (sym (at-j .before .in-run .ensures) ∙ not-false _ (at-j .if1 .left)) .0, at-j .before .before .loop .inv .rows .few)
+    omega (
+      arith,
+      run-yes _ _ _ _ (sym (at-j .before .in-run .ensures) ∙ not-false _ (at-j .if1 .left)) .0,
+      at-j .before .before .loop .inv .rows .few,
+    )
 
 element-copy-out-more-if-equal-2 : tie.Need-element-copy-out-more-if-equal-2 Inv-loop μ-loop
 element-copy-out-more-if-equal-2 c =
     let at-j = c .before .before .before in
-    omega (arith, run-yes _ _ _ _ (sym (at-j .before .in-run .ensures) ∙ not-false _ (at-j .if1 .left)) .0, at-j .before .before .loop .inv .rows .few)
+    omega (
+      arith,
+      run-yes _ _ _ _ (sym (at-j .before .in-run .ensures) ∙ not-false _ (at-j .if1 .left)) .0,
+      at-j .before .before .loop .inv .rows .few,
+    )
 
 more-if-equal-requires : tie.Need-more-if-equal-requires Inv-loop μ-loop
 more-if-equal-requires c κs =
     let at-j = c .before .before .before .before in
-    omega (arith, run-yes _ _ _ _ (sym (at-j .before .in-run .ensures) ∙ not-false _ (at-j .if1 .left)) .0, at-j .before .before .loop .inv .rows .few)
+    omega (
+      arith,
+      run-yes _ _ _ _ (sym (at-j .before .in-run .ensures) ∙ not-false _ (at-j .if1 .left)) .0,
+      at-j .before .before .loop .inv .rows .few,
+    )
 
 add-l : tie.Need-add-l Inv-loop μ-loop
 add-l c =
     let at-l = c .before .before .before in
     let at-j = at-l .before .before in
-    omega (arith, run-yes _ _ _ _ (sym (at-l .before .in-run2 .ensures) ∙ not-false _ (at-l .if2 .left)) .0, at-j .before .before .loop .inv .rows .few)
+    omega (
+      arith,
+      run-yes _ _ _ _ (sym (at-l .before .in-run2 .ensures) ∙ not-false _ (at-l .if2 .left)) .0,
+      at-j .before .before .loop .inv .rows .few,
+    )
 
 loop-less : tie.Need-loop-less Inv-loop μ-loop
 loop-less c =
     let at-l = c .before .before .before in
     let at-j = at-l .before .before in
-    omega (arith, run-yes _ _ _ _ (sym (at-l .before .in-run2 .ensures) ∙ not-false _ (at-l .if2 .left)) .0, at-j .before .before .loop .inv .rows .few)
+    omega (
+      arith,
+      run-yes _ _ _ _ (sym (at-l .before .in-run2 .ensures) ∙ not-false _ (at-l .if2 .left)) .0,
+      at-j .before .before .loop .inv .rows .few,
+    )
 
 loop-again : tie.Need-loop-again Inv-loop μ-loop
 loop-again c =
     let at-l = c .before .before .before in
     let at-j = at-l .before .before in
-    within-more (at-j .before .before .loop .inv) (sym (at-j .before .in-run .ensures) ∙ not-false _ (at-j .if1 .left)) (sym (at-l .before .in-run2 .ensures) ∙ not-false _ (at-l .if2 .left)) (c .more-if-equal .ensures)
+    within-more (at-j .before .before .loop .inv) (sym (at-j .before .in-run .ensures) ∙ not-false _ (at-j .if1 .left))
+    (sym (at-l .before .in-run2 .ensures) ∙ not-false _ (at-l .if2 .left)) (c .more-if-equal .ensures)
 
 pub run-within-spec : {M : Type 1} → statement M
 run-within-spec =

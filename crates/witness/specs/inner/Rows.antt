@@ -34,7 +34,8 @@ hasEnding starts firsts w k j = any (λ l. eqb (at starts l) (at starts k) && eq
 
 -- i and j begin alike, i and k end alike, and the run of k lacks the ending of j
 unfoldable pub refutesIn : List ℕ → List ℕ → ℕ → ℕ → ℕ → ℕ → Bool
-refutesIn starts firsts w i j k = eqb (at starts i) (at starts j) && (eqb (at firsts i) (at firsts k) && not (hasEnding starts firsts w k j))
+refutesIn starts firsts w i j k = eqb (at starts i) (at starts j)
+    && (eqb (at firsts i) (at firsts k) && not (hasEnding starts firsts w k j))
 
 -- each ending of i's run is in k's run
 abbrev pub Within : List ℕ → List ℕ → ℕ → ℕ → ℕ → Type 0

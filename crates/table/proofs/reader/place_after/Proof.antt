@@ -1,5 +1,5 @@
--- `table::reader::place_after` meets its contract: it asks what `word_at` asks, and goes on by one where that finds a word. The next index fits 16 bits
--- because the index is below the word count.
+-- `table::reader::place_after` meets its contract: it asks what `word_at` asks, and goes on by one where that finds a word. The next index
+-- fits 16 bits because the index is below the word count.
 use Rattle.table.proofs.Reading.{stays-length, stays-past, goes-on}
 use borrow.Author.Needs.{needs}
 use Rattle.table.proofs.reader.place_after.Statement.{statement}
