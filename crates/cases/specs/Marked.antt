@@ -2,12 +2,13 @@
 -- it shows. Bytes and numbers are written as the paper writes them; a buffer is full of nines before the call.
 use mathlib.Core.Path.{_≡_}
 use mathlib.Core.List.{List, [], _∷_, _++_, map, flatMap}
-use Prim.Native.Nat.{ℕ, suc, _*_}
+use Prim.Native.Nat.{ℕ, suc, _-_, _*_}
 use lib.ListN.{length, replicate}
 use Rattle.trellis.specs.Lists.{each}
 use Rattle.trellis.specs.Outcome.{Outcome}
 use Rattle.trellis.specs.Demand.{selections}
 use Rattle.trellis.specs.Layout.{nOf, vertexCountOf, edgeCountOf, sectionWords}
+use Rattle.trellis.specs.Bounds.{costsABlock}
 use Rattle.merge.specs.Merging.{Merging, merging}
 use Rattle.read_back.specs.ReadingBack.{ReadingBack, readingBack}
 use Rattle.chain.specs.Decoding.{Decoding, decoding}
@@ -48,7 +49,7 @@ left (merge file mapPlaces sectionPlaces) = leftByMerging (merging file (nines m
 left (readBack c places) = leftByReading (readingBack (left c .section) (nines places))
 left (decode c received erased) =
     let blocks = length received in
-    leftByDecoding (decoding (left c .section) 1 (replicate blocks 0) received erased 0 0 (nines (64 * blocks)) (nines blocks)
+    leftByDecoding (decoding (left c .section) 1 (replicate blocks 0) received erased 0 0 (nines (costsABlock * blocks)) (nines blocks)
     (nines blocks))
 
 -- what of a call the paper names: the outcome's number and values; all of a buffer; and by the counts that stand in the section, the
@@ -152,7 +153,7 @@ tie = decode crossedMerged (0 ∷ 1 ∷ []) (0 ∷ 0 ∷ [])
 
 -- the places of the states other than 0 in the cost table: no path starts there
 abbrev elsewhere : List ℕ
-elsewhere = replicate 63 4294967295
+elsewhere = replicate (costsABlock - 1) 4294967295
 
 abbrev pub cases : List Marked
 cases =
