@@ -3,17 +3,17 @@ use mathlib.Core.Path.{_≡_, refl, sym, ap, ap₂, subst, _∙_}
 use mathlib.Core.List.{List, [], _∷_}
 use Prim.Native.Nat.{ℕ, zero, suc, _+_, _-_, _<_, _≤_}
 use native.Mathlib.Omega.{arith}
-use lib.ListN.{length, getD}
+use lib.ListN.{getD}
 use Rattle.trellis.specs.Lists.{sum}
 use Rattle.trellis.specs.Demand.{allVertices, additions, selections}
 use Rattle.trellis.specs.Layout.{qOf, nOf, statesOf, vertexCountOf, edgeCountOf, joinedUp}
 use Rattle.merge.specs.Answer.{outcomeOf}
 use Rattle.merge.specs.declared.Merged.{Merged}
-use Rattle.merge.specs.declared.Merged.the-variants.{Section, Length, Size, Word, Order, ShortMap, NotRectangular, ShortSection}
 use Rattle.text.specs.Line.{line}
 use Rattle.text.specs.inner.Put.{Put}
 use Rattle.text.proofs.Putting.{put-none, put-then}
-use Rattle.listing.specs.Text.{sectionWord, depthWord, additionsWord, selectionsWord, entering, depthLine, sums, sizesOf, textFrom}
+use Rattle.listing.specs.Text.{sectionWord, depthWord, additionsWord, selectionsWord, entering, depthLine, sums, sizesOf}
+use Rattle.listing.specs.inner.Made.{textFrom}
 
 -- ---- depths
 
@@ -36,7 +36,8 @@ pub depths-start : {l old : List ℕ} {n at : ℕ} → Depths l n old at old at 
 unfolding joinedUp
 depths-start = record { t-le = omega arith; put = put-none }
 
-pub depths-next : {l old now new : List ℕ} {n at end far t x v e : ℕ} → Depths l n old at now end t → t ≤ n → x ≡ getD l (3 + t) 0 → v ≡ x → e ≡ entering l t
+pub depths-next : {l old now new : List ℕ} {n at end far t x v e : ℕ}
+    → Depths l n old at now end t → t ≤ n → x ≡ getD l (3 + t) 0 → v ≡ x → e ≡ entering l t
     → Put now end (line depthWord (t ∷ v ∷ e ∷ [])) new far → Depths l n old at new far (t + 1)
 unfolding depthLine joinedUp vertexCountOf
 depths-next {l} {old} {now} {new} {n} {at} {end} {far} {t} {x} {v} {e} D h x-is v-is e-is p = record {
@@ -47,8 +48,11 @@ depths-next {l} {old} {now} {new} {n} {at} {end} {far} {t} {x} {v} {e} D h x-is 
       (put-then (D .put) (subst (λ r. Put now end (line depthWord (t ∷ r)) new far) (ap₂ (λ a b. a ∷ b ∷ []) (v-is ∙ x-is) e-is) p));
 }
 
-pub depths-all : {l old now : List ℕ} {n at end t : ℕ} → Depths l n old at now end t → n < t → Put old at (joinedUp (depthLine l) (suc n)) now end
-depths-all {l} {old} {now} {n} {at} {end} {t} D h = let e : t ≡ suc n = omega (arith, D .t-le) in subst (λ k. Put old at (joinedUp (depthLine l) k) now end) e (D .put)
+pub depths-all : {l old now : List ℕ} {n at end t : ℕ}
+    → Depths l n old at now end t → n < t → Put old at (joinedUp (depthLine l) (suc n)) now end
+depths-all {l} {old} {now} {n} {at} {end} {t} D h =
+    let e : t ≡ suc n = omega (arith, D .t-le) in
+    subst (λ k. Put old at (joinedUp (depthLine l) k) now end) e (D .put)
 
 -- ---- sums
 
@@ -61,13 +65,15 @@ module _ (l : List ℕ) {n : ℕ} (n-is : n ≡ nOf l) where
   unfolding allVertices vertexCountOf
   vertices-sum e = let o : n + 1 ≡ suc (nOf l) = omega (arith, n-is) in e ∙ ap (λ m. sum (λ t. getD l (3 + t) 0) 0 m) o
 
-  selected : {edges vertices roots s : ℕ} → edges ≡ additions (nOf l) (edgeCountOf l) → vertices ≡ allVertices (nOf l) (vertexCountOf l) → roots ≡ getD l 3 0
+  selected : {edges vertices roots s : ℕ} → edges ≡ additions (nOf l) (edgeCountOf l)
+      → vertices ≡ allVertices (nOf l) (vertexCountOf l) → roots ≡ getD l 3 0
       → s ≡ (edges + roots) - vertices → s ≡ selections (nOf l) (vertexCountOf l) (edgeCountOf l)
   unfolding selections vertexCountOf
   selected e v r h = h ∙ ap₂ (λ a b. a - b) (ap₂ (λ a b. a + b) e r) v
 
   pub sums-put : {old mid new : List ℕ} {at m end edges vertices x roots s : ℕ}
-      → edges ≡ sum (λ t. getD l (4 + n + t) 0) 0 n → vertices ≡ sum (λ t. getD l (3 + t) 0) 0 (n + 1) → x ≡ getD l 3 0 → roots ≡ x → s ≡ (edges + roots) - vertices
+      → edges ≡ sum (λ t. getD l (4 + n + t) 0) 0 n → vertices ≡ sum (λ t. getD l (3 + t) 0) 0 (n + 1) → x ≡ getD l 3 0 → roots ≡ x
+      → s ≡ (edges + roots) - vertices
       → Put old at (line additionsWord (edges ∷ [])) mid m → Put mid m (line selectionsWord (s ∷ [])) new end → Put old at (sums l) new end
   unfolding sums
   sums-put {old} {mid} {new} {at} {m} {end} e v x-is r h p q =
@@ -78,7 +84,8 @@ module _ (l : List ℕ) {n : ℕ} (n-is : n ≡ nOf l) where
 
 pub sizes-put : (l : List ℕ) (words : ℕ) {old one two new : List ℕ} {a b end x y z q n states : ℕ}
     → x ≡ getD l 0 0 → q ≡ x → y ≡ getD l 1 0 → n ≡ y → z ≡ getD l 2 0 → states ≡ z
-    → Put old 0 (line sectionWord (q ∷ n ∷ states ∷ words ∷ [])) one a → Put one a (joinedUp (depthLine l) (suc n)) two b → Put two b (sums l) new end
+    → Put old 0 (line sectionWord (q ∷ n ∷ states ∷ words ∷ [])) one a → Put one a (joinedUp (depthLine l) (suc n)) two b
+    → Put two b (sums l) new end
     → Put old 0 (sizesOf words l) new end
 unfolding sizesOf
 sizes-put l words {old} {one} {two} {new} {a} {b} {end} {x} {y} {z} {q} {n} {states} x-is q-is y-is n-is z-is s-is p d s =
@@ -93,13 +100,3 @@ sizes-put l words {old} {one} {two} {new} {a} {b} {end} {x} {y} {z} {q} {n} {sta
 pub answered-by : (words : ℕ) (l : List ℕ) {a x : Merged} {old new : List ℕ} {end : ℕ}
     → a ≡ x → Put old 0 (textFrom words (outcomeOf x) l) new end → Put old 0 (textFrom words (outcomeOf a) l) new end
 answered-by words l {a} {x} {old} {new} {end} e p = subst (λ b. Put old 0 (textFrom words (outcomeOf b) l) new end) (sym e) p
-
-pub few-values : (a : Merged) → length (outcomeOf a .values) ≤ 4
-few-values (Section x) = omega arith
-few-values (Length x) = omega arith
-few-values (Size x) = omega arith
-few-values (Word x) = omega arith
-few-values (Order x) = omega arith
-few-values (ShortMap x) = omega arith
-few-values (NotRectangular t i j k) = omega arith
-few-values (ShortSection x) = omega arith

@@ -1,29 +1,32 @@
--- What the two ways out leave: the text that was made in a buffer of its own is the file's text, whole, since it is short; so its length is known, and
--- copied to the front of the lent buffer it is there.
+-- What the two ways out leave: the text that was made in a buffer of its own is the file's text, whole, since it is short; so its length is
+-- known, and copied to the front of the lent buffer it is there.
 use mathlib.Core.Path.{_≡_, sym, ap, ap₂, subst, _∙_}
 use mathlib.Core.Bool.{Bool, true, false, cond}
-use mathlib.Core.List.{List, _++_}
+use mathlib.Core.List.{List}
 use Prim.Native.Nat.{ℕ, _+_, _<_, _≤_}
 use native.Mathlib.Omega.{arith}
-use lib.ListN.{length, getD, take, drop, replicate, length-append}
+use native.Mathlib.Nat.{le-of-eq}
+use lib.ListN.{length, getD, take, drop, replicate, length-append, length-replicate}
 use lib.Seq.{length-take-le}
 use lib.Dec.{ltb}
 use borrow.Author.Tests.{lt-ltb, le-ltb}
+use Rattle.trellis.specs.Lists.{over}
 use Rattle.trellis.specs.Outcome.{badLength, success, shortBuffer}
 use Rattle.trellis.specs.Bounds.{mostBytes}
-use Rattle.table.specs.File.{wordCount}
+use Rattle.table.specs.File.{wordCount, tableFile}
 use Rattle.merge.specs.Answer.{outcomeOf, Ends}
 use Rattle.merge.specs.Merging.{merging}
 use Rattle.merge.specs.declared.Merged.{Merged}
 use Rattle.text.specs.inner.Put.{Put}
 use Rattle.text.proofs.Putting.{front-holds, front-end, front-put}
-use Rattle.listing.specs.Text.{refusalLine, textFrom, merged, textOf}
+use Rattle.listing.specs.Text.{refusalLine, fileText, textOf}
 use Rattle.listing.specs.Listing.{Listing, listedOutcome, left, listing}
-use Rattle.listing.specs.inner.Made.{TextMade}
+use Rattle.listing.specs.inner.Made.{textFrom, anyText, TextMade}
 use Rattle.listing.specs.declared.Listed.{Listed}
 use Rattle.listing.specs.declared.Listed.the-variants.{Text}
-use Rattle.listing.proofs.Lines.{few-values}
-use Rattle.listing.proofs.Short.{text-short, refusal-short}
+use Rattle.listing.proofs.Room.{anyMap, anySection}
+use Rattle.listing.proofs.Short.{text-short}
+use Rattle.listing.proofs.Merged.{printed, merged-text}
 
 module _ (file : List ℕ) {old new : List ℕ} {end : ℕ} where
   pub made-long : mostBytes < length file → Put old 0 (refusalLine (badLength (mostBytes + 1))) new end → TextMade file old new end
@@ -32,23 +35,27 @@ module _ (file : List ℕ) {old new : List ℕ} {end : ℕ} where
       let e : textOf file ≡ refusalLine (badLength (mostBytes + 1)) = simp (lt-ltb mostBytes (length file) h) in
       record {
         put = subst (λ r. Put old 0 r new end) (sym e) p;
-        short = subst (λ r. length r ≤ 1024) (sym e) (refusal-short (badLength (mostBytes + 1)) (omega arith));
+        short = text-short file;
       }
 
   pub made-merged : {r : Merged} {map section : List ℕ} {words x : ℕ} → length file ≤ mostBytes
-      → Ends (merging file (replicate 9216 0) (replicate 26644 0)) r map section → x ≡ wordCount file → words ≡ x
+      → Ends (merging file (replicate anyMap 0) (replicate anySection 0)) r map section → x ≡ wordCount file → words ≡ x
       → Put old 0 (textFrom words (outcomeOf r) section) new end → TextMade file old new end
-  unfolding textOf merged
+  unfolding textOf
   made-merged {r} {map} {section} {words} {x} h E x-is w-is p =
-      let e : textOf file ≡ textFrom (wordCount file) (merged file .answer) (merged file .section) = simp (le-ltb mostBytes (length file) h) in
-      let f : textFrom words (outcomeOf r) section ≡ textFrom (wordCount file) (merged file .answer) (merged file .section)
-      = ap (λ k. textFrom k (outcomeOf r) section) (w-is ∙ x-is) ∙ ap₂ (λ o l. textFrom (wordCount file) o l) (E .answerIs) (E .sectionIs) in
-      record {
-        put = subst (λ t. Put old 0 t new end) (f ∙ sym e) p;
-        short = text-short file (subst (λ o. length (o .values) ≤ 4) (E .answerIs) (few-values r));
-      }
+      let e : textOf file ≡ fileText (tableFile file) = simp (le-ltb mostBytes (length file) h) in
+      let f : textFrom words (outcomeOf r) section ≡ printed (wordCount file) (merging file (replicate anyMap 0) (replicate anySection 0)) =
+      ap (λ k. textFrom k (outcomeOf r) section) (w-is ∙ x-is)
+      ∙ ap₂ (λ o l. textFrom (wordCount file) o l) (E .answerIs) (E .sectionIs) in
+      let g = merged-text (replicate anyMap 0) (replicate anySection 0) (le-of-eq (sym (length-replicate {A = ℕ} anyMap 0)))
+      (le-of-eq (sym (length-replicate {A = ℕ} anySection 0))) file h in
+      record { put = subst (λ t. Put old 0 t new end) (f ∙ g ∙ sym e) p; short = text-short file }
 
-module _ (file : List ℕ) {old made : List ℕ} {end : ℕ} (M : TextMade file old made end) (room : 1024 ≤ length old) where
+-- what is left of a buffer by whether it is too short for the text
+abbrev leaves : List ℕ → List ℕ → Bool → Listing
+leaves made text short = cond short (left (shortBuffer (length made)) text) (left (success (length made)) (over made text))
+
+module _ (file : List ℕ) {old made : List ℕ} {end : ℕ} (M : TextMade file old made end) (room : anyText ≤ length old) where
   fits : length (textOf file) ≤ length old
   fits = omega (arith, M .short)
 
@@ -66,28 +73,28 @@ module _ (file : List ℕ) {old made : List ℕ} {end : ℕ} (M : TextMade file 
   listed-short text h =
       let l : ltb (length text) (length (textOf file)) ≡ true = lt-ltb (length text) (length (textOf file)) (omega (arith, end-is)) in
       ap (λ k. left (shortBuffer k) text) end-is
-      ∙ sym (ap (λ b. cond b (left (shortBuffer (length (textOf file))) text) (left (success (length (textOf file))) (textOf file ++ drop (length (textOf file)) text))) l)
+      ∙ sym (ap (leaves (textOf file) text) l)
 
-  pub listed-text : (text : List ℕ) {new : List ℕ} {far : ℕ} → end ≤ length text → Put text 0 (take end made) new far → left (success end) new ≡ listing file text
+  pub listed-text : (text : List ℕ) {new : List ℕ} {far : ℕ} → end ≤ length text → Put text 0 (take end made) new far
+      → left (success end) new ≡ listing file text
   unfolding listing
   listed-text text {new} {far} h p =
       let l : ltb (length text) (length (textOf file)) ≡ false = le-ltb (length text) (length (textOf file)) (omega (arith, end-is)) in
       let q : Put text 0 (textOf file) new far = subst (λ t. Put text 0 t new far) (front-holds (M .put) fits) p in
-      let n : new ≡ textOf file ++ drop (length (textOf file)) text = front-put q (omega (arith, end-is)) in
+      let n : new ≡ over (textOf file) text = front-put q (omega (arith, end-is)) in
       ap₂ (λ k t. left (success k) t) end-is n
-      ∙ sym (ap (λ b. cond b (left (shortBuffer (length (textOf file))) text) (left (success (length (textOf file))) (textOf file ++ drop (length (textOf file)) text))) l)
+      ∙ sym (ap (leaves (textOf file) text) l)
 
 -- what callers know: a text that was written stands in the buffer
-pub written-inside : (file text : List ℕ) {new : List ℕ} {r : Listed} {k : ℕ} → left (listedOutcome r) new ≡ listing file text → r ≡ Text k → k ≤ length new
+pub written-inside : (file text : List ℕ) {new : List ℕ} {r : Listed} {k : ℕ}
+    → left (listedOutcome r) new ≡ listing file text → r ≡ Text k → k ≤ length new
 unfolding listing
 written-inside file text {new} {r} {k} e f =
     go (ltb (length text) (length (textOf file))) (ap (λ x. left (listedOutcome x) new) (sym f) ∙ e)
   where
-    go : (b : Bool)
-        → left (success k) new ≡ cond b (left (shortBuffer (length (textOf file))) text) (left (success (length (textOf file))) (textOf file ++ drop (length (textOf file)) text))
-        → k ≤ length new
+    go : (b : Bool) → left (success k) new ≡ leaves (textOf file) text b → k ≤ length new
     go true e = absurd (omega (arith, ap (λ (m : Listing). m .outcome .number) e))
     go false e =
         let v : k ≡ length (textOf file) = ap (λ (m : Listing). getD (m .outcome .values) 0 0) e in
-        let n : length new ≡ length (textOf file ++ drop (length (textOf file)) text) = ap (λ (m : Listing). length (m .text)) e in
+        let n : length new ≡ length (over (textOf file) text) = ap (λ (m : Listing). length (m .text)) e in
         omega (arith, length-append (textOf file) (drop (length (textOf file)) text))

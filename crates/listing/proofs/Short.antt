@@ -1,126 +1,128 @@
--- Every text is short: a number takes at most a space and twenty digits, a section has at most nine depths, and a refusal at most five numbers.
-use mathlib.Core.Path.{_≡_, refl}
+-- Every text is short: the numbers printed have at most five digits, a section has at most nine depths, and a refusal at most five numbers.
+use mathlib.Core.Path.{_≡_, refl, sym, subst}
 use mathlib.Core.Bool.{Bool, true, false, cond}
 use mathlib.Core.List.{List, [], _∷_, _++_, flatMap}
-use Prim.Native.Nat.{ℕ, zero, suc, _+_, _*_, _/_, _%_, _≤_}
+use Prim.Native.Nat.{ℕ, zero, suc, _+_, _*_, _≤_}
 use native.Mathlib.Omega.{arith}
 use native.Mathlib.Nat.{mul-le-mul, suc-mul}
-use lib.ListN.{length, getD, drop, replicate, length-append, getD-replicate}
-use lib.Dec.{ltb, leb, eqb, lit<}
-use Rattle.trellis.specs.Bounds.{mostSymbols, mostBytes}
+use lib.ListN.{length, length-append}
+use lib.Dec.{ltb}
+use borrow.Author.Tests.{ltb-false}
+use Rattle.trellis.specs.Bounds.{mostSymbols, mostWords, mostBytes}
 use Rattle.trellis.specs.Word.{Word}
 use Rattle.trellis.specs.Witness.{Witness, found, nothing, witness}
 use Rattle.trellis.specs.Outcome.{Outcome, badLength}
 use Rattle.trellis.specs.Demand.{additions, selections}
-use Rattle.trellis.specs.Layout.{nOf, vertexCountOf, edgeCountOf, joinedUp, sectionOf}
-use Rattle.table.specs.File.{TableFile, refused, accepted, tableFile, wordCount}
+use Rattle.trellis.specs.Layout.{qOf, nOf, statesOf, vertexCountOf, edgeCountOf, edgesBefore, joinedUp, sectionOf}
+use Rattle.trellis.proofs.OwnLaid.{own-q, own-n, own-states}
+use Rattle.table.specs.File.{TableFile, refused, accepted, tableFile}
+use Rattle.table.specs.inner.Good.{GoodFile}
 use Rattle.table.proofs.Accepted.{accepted-good}
-use Rattle.merge.specs.Merging.{Merging, mapLength, written, merged as mergedBy, mergedTable, mergedFile, merging}
-use Rattle.text.specs.Line.{digits, spaced, line}
-use Rattle.listing.specs.Text.{sectionWord, additionsWord, selectionsWord, entering, depthLine, sums, sizesOf, refusalLine, textFrom, merged, textOf}
+use Rattle.text.specs.Line.{spaced, line}
+use Rattle.text.proofs.Decimal.{decimal-few}
+use Rattle.listing.specs.Text.{sectionWord, depthWord, additionsWord, selectionsWord, refusedWord}
+use Rattle.listing.specs.Text.{entering, depthLine, sums, sizesOf, refusalLine, tableText, fileText, textOf}
+use Rattle.listing.specs.inner.Made.{anyText}
+use Rattle.listing.proofs.Room.{vertices-at, edges-at, edges-all}
+use Rattle.listing.proofs.Refusals.{Small, AllSmall, Refusal, too-long, witness-refusal, file-refusal}
 
 -- ---- lines
 
-digits-few : (more x : ℕ) → length (digits more x) ≤ suc more
-unfolding digits
-digits-few zero x = omega arith
-digits-few (suc more) x = go (leb 10 x) (digits-few more (x / 10))
-  where
-    go : (b : Bool) → length (digits more (x / 10)) ≤ suc more → length (cond b (digits more (x / 10)) [] ++ ((48 + x % 10) ∷ [])) ≤ suc (suc more)
-    go true h = omega (arith, length-append (digits more (x / 10)) ((48 + x % 10) ∷ []))
-    go false h = omega arith
-
-numbers-few : (xs : List ℕ) → length (flatMap spaced xs) ≤ 21 * length xs
+numbers-few : (xs : List ℕ) → AllSmall xs → length (flatMap spaced xs) ≤ 6 * length xs
 unfolding flatMap spaced
-numbers-few [] = omega arith
-numbers-few (x ∷ xs) = omega (arith, digits-few 19 x, numbers-few xs, length-append (spaced x) (flatMap spaced xs))
+numbers-few [] h = omega arith
+numbers-few (x ∷ xs) h = omega (arith, decimal-few x 4 (h .0), numbers-few xs (h .1), length-append (spaced x) (flatMap spaced xs))
 
-line-short : (word xs : List ℕ) → length (line word xs) ≤ length word + (21 * length xs + 1)
+line-short : (word xs : List ℕ) → AllSmall xs → length (line word xs) ≤ length word + (6 * length xs + 1)
 unfolding line
-line-short word xs = omega (arith, numbers-few xs, length-append word (flatMap spaced xs ++ (10 ∷ [])), length-append (flatMap spaced xs) (10 ∷ []))
-
-depths-short : (l : List ℕ) (count : ℕ) → length (joinedUp (depthLine l) count) ≤ count * 69
-unfolding joinedUp depthLine
-depths-short l zero = omega arith
-depths-short l (suc count) =
-    let a : length (depthLine l count) ≤ 69 = line-short (100 ∷ 101 ∷ 112 ∷ 116 ∷ 104 ∷ []) (count ∷ vertexCountOf l count ∷ entering l count ∷ []) in
-    omega (arith, depths-short l count, length-append (joinedUp (depthLine l) count) (depthLine l count), suc-mul count 69)
-
-sums-short : (l : List ℕ) → length (sums l) ≤ 63
-unfolding sums
-sums-short l =
-    let a = line-short additionsWord (additions (nOf l) (edgeCountOf l) ∷ []) in
-    let b = line-short selectionsWord (selections (nOf l) (vertexCountOf l) (edgeCountOf l) ∷ []) in
-    omega (arith, a, b, length-append (line additionsWord (additions (nOf l) (edgeCountOf l) ∷ [])) (line selectionsWord (selections (nOf l) (vertexCountOf l) (edgeCountOf l) ∷ [])))
-
-sizes-short : (words : ℕ) (l : List ℕ) → nOf l ≤ mostSymbols → length (sizesOf words l) ≤ 1024
-unfolding sizesOf
-sizes-short words l h =
-    let first = line sectionWord (getD l 0 0 ∷ nOf l ∷ getD l 2 0 ∷ words ∷ []) in
-    let rest = joinedUp (depthLine l) (suc (nOf l)) ++ sums l in
-    let nine : suc (nOf l) * 69 ≤ 9 * 69 = mul-le-mul (let k : suc (nOf l) ≤ 9 = omega arith in k) (let k : 69 ≤ 69 = omega arith in k) in
+line-short word xs h =
     omega (
       arith,
-      line-short sectionWord (getD l 0 0 ∷ nOf l ∷ getD l 2 0 ∷ words ∷ []),
-      depths-short l (suc (nOf l)),
-      sums-short l,
-      length-append first rest,
-      length-append (joinedUp (depthLine l) (suc (nOf l))) (sums l),
+      numbers-few xs h,
+      length-append word (flatMap spaced xs ++ (10 ∷ [])),
+      length-append (flatMap spaced xs) (10 ∷ []),
     )
 
-pub refusal-short : (o : Outcome) → length (o .values) ≤ 4 → length (refusalLine o) ≤ 1024
+pub refusal-short : {o : Outcome} → Refusal o → length (refusalLine o) ≤ anyText
 unfolding refusalLine
-refusal-short o h = omega (arith, line-short (114 ∷ 101 ∷ 102 ∷ 117 ∷ 115 ∷ 101 ∷ 100 ∷ []) (o .number ∷ o .values))
+refusal-short {o} R = omega (arith, line-short refusedWord (o .number ∷ o .values) (R .small), R .few)
 
--- ---- n is at most 8 in the section that merging leaves: it is a table's n, or the buffer's 0
+-- ---- the sizes of a table's section
 
-abbrev zeros : List ℕ
-zeros = replicate 26644 0
+module _ (file : List ℕ) {q n states : ℕ} {table : List Word} (G : GoodFile file q n states table) where
+  abbrev l : List ℕ
+  l = sectionOf q n states table
 
-abbrev SmallN : Merging → Type 0
-SmallN m = nOf (m .section) ≤ mostSymbols
+  entering-small : (t : ℕ) → t ≤ n → entering l t ≤ mostWords
+  unfolding entering
+  entering-small zero h = omega arith
+  entering-small (suc t) h = edges-at file G t h
 
-either-small : (b : Bool) (x y : Merging) → SmallN x → SmallN y → SmallN (cond b x y)
-either-small true x y g h = g
-either-small false x y g h = h
+  depths-short : (count : ℕ) → count ≤ suc n → length (joinedUp (depthLine l) count) ≤ count * 24
+  unfolding joinedUp depthLine
+  depths-short zero h = omega arith
+  depths-short (suc count) h =
+      let printed = count ∷ vertexCountOf l count ∷ entering l count ∷ [] in
+      let t : Small count = omega (arith, G .nTo) in
+      let v : Small (vertexCountOf l count) = omega (arith, vertices-at file G count (omega arith)) in
+      let e : Small (entering l count) = omega (arith, entering-small count (omega arith)) in
+      let a : length (depthLine l count) ≤ 24 = line-short depthWord printed (t, (v, (e, tt))) in
+      omega (arith, depths-short count (omega arith), length-append (joinedUp (depthLine l) count) (depthLine l count), suc-mul count 24)
 
-zero-n : nOf zeros ≤ mostSymbols
-zero-n = omega (arith, getD-replicate {A = ℕ} 26644 1 0 0 (lit< tt))
+  all-depths : length (joinedUp (depthLine l) (suc n)) ≤ suc n * 24
+  all-depths = depths-short (suc n) (omega arith)
 
-module _ (q n states : ℕ) (table : List Word) (map : List ℕ) (short : n ≤ mostSymbols) where
-  section-n : (rest : List ℕ) → nOf (sectionOf q n states table ++ rest) ≤ mostSymbols
-  unfolding sectionOf
-  section-n rest = short
+  additions-few : additions (nOf l) (edgeCountOf l) ≤ mostSymbols * mostWords
+  unfolding additions edgesBefore
+  additions-few = subst (λ m. additions m (edgeCountOf l) ≤ mostSymbols * mostWords) (sym (own-n q n states table)) (edges-all file G)
 
-  n-written : SmallN (written q n states table map zeros)
-  unfolding written
-  n-written = either-small (ltb (length zeros) (length (sectionOf q n states table))) _ _ zero-n (section-n (drop (length (sectionOf q n states table)) zeros))
+  selections-few : selections (nOf l) (vertexCountOf l) (edgeCountOf l) ≤ mostSymbols * mostWords + mostWords
+  unfolding selections
+  selections-few = omega (arith, additions-few, vertices-at file G 0 (omega arith))
 
-  n-merged : (w : Witness) → SmallN (mergedBy q n states table map zeros w)
-  unfolding mergedBy
-  n-merged (found t i j k) = zero-n
-  n-merged nothing = n-written
+  sums-short : length (sums l) ≤ 33
+  unfolding sums
+  sums-short =
+      let E = additions (nOf l) (edgeCountOf l) in
+      let s = selections (nOf l) (vertexCountOf l) (edgeCountOf l) in
+      let a = line-short additionsWord (E ∷ []) (omega (arith, additions-few), tt) in
+      let b = line-short selectionsWord (s ∷ []) (omega (arith, selections-few), tt) in
+      omega (arith, a, b, length-append (line additionsWord (E ∷ [])) (line selectionsWord (s ∷ [])))
 
-  n-table : SmallN (mergedTable q n states table map zeros)
-  unfolding mergedTable
-  n-table = either-small (ltb (length map) (mapLength n table)) _ _ zero-n (n-merged (witness n table))
+  sizes-short : length (sizesOf (length table) l) ≤ anyText
+  unfolding sizesOf
+  sizes-short =
+      let sized = qOf l ∷ nOf l ∷ statesOf l ∷ length table ∷ [] in
+      let depths = joinedUp (depthLine l) (suc (nOf l)) in
+      let e : nOf l ≡ n = own-n q n states table in
+      let a : Small (qOf l) = omega (arith, own-q q n states table, G .qTo) in
+      let b : Small (nOf l) = omega (arith, e, G .nTo) in
+      let c : Small (statesOf l) = omega (arith, own-states q n states table, G .statesTo) in
+      let w : Small (length table) = omega (arith, G .countTo) in
+      let s = line-short sectionWord sized (a, (b, (c, (w, tt)))) in
+      let d : length depths ≤ suc n * 24 = subst (λ m. length (joinedUp (depthLine l) (suc m)) ≤ suc n * 24) (sym e) all-depths in
+      let nine : suc n * 24 ≤ 9 * 24 = mul-le-mul (let k : suc n ≤ 9 = omega (arith, G .nTo) in k) (let k : 24 ≤ 24 = omega arith in k) in
+      omega (arith, s, d, nine, sums-short, length-append (line sectionWord sized) (depths ++ sums l), length-append depths (sums l))
+
+-- ---- every text
 
 module _ (file : List ℕ) where
-  n-file : (t : TableFile) → tableFile file ≡ t → SmallN (mergedFile (replicate 9216 0) zeros t)
-  unfolding mergedFile
-  n-file (refused o) e = zero-n
-  n-file (accepted q n states table) e = n-table q n states table (replicate 9216 0) (accepted-good file e .nTo)
+  table-short : {q n states : ℕ} {table : List Word} → GoodFile file q n states table → (w : Witness) → witness n table ≡ w
+      → length (tableText q n states table w) ≤ anyText
+  unfolding tableText
+  table-short {q} {n} {states} {table} G (found t i j k) e = refusal-short (witness-refusal n table (G .nTo) (G .countTo) t i j k e)
+  table-short G nothing e = sizes-short file G
 
-  n-small : SmallN (merged file)
-  unfolding merged merging
-  n-small = n-file (tableFile file) refl
+  file-short : length file ≤ mostBytes → (f : TableFile) → tableFile file ≡ f → length (fileText f) ≤ anyText
+  unfolding fileText
+  file-short h (refused o) e = refusal-short (file-refusal file h e)
+  file-short h (accepted q n states table) e = table-short (accepted-good file e) (witness n table) refl
 
-  either-short : (b : Bool) (x y : List ℕ) → length x ≤ 1024 → length y ≤ 1024 → length (cond b x y) ≤ 1024
-  either-short true x y g h = g
-  either-short false x y g h = h
-
-  pub text-short : length (merged file .answer .values) ≤ 4 → length (textOf file) ≤ 1024
-  unfolding textOf textFrom
-  text-short h =
-      either-short (ltb mostBytes (length file)) _ _ (refusal-short (badLength (mostBytes + 1)) (omega arith))
-      (either-short (eqb (merged file .answer .number) 0) _ _ (sizes-short (wordCount file) (merged file .section) n-small) (refusal-short (merged file .answer) h))
+  pub text-short : length (textOf file) ≤ anyText
+  unfolding textOf
+  text-short = go (ltb mostBytes (length file)) refl
+    where
+      go : (b : Bool) → ltb mostBytes (length file) ≡ b
+          → length (cond b (refusalLine (badLength (mostBytes + 1))) (fileText (tableFile file))) ≤ anyText
+      go true e = refusal-short too-long
+      go false e = file-short (ltb-false mostBytes (length file) e) (tableFile file) refl

@@ -1,15 +1,16 @@
--- The bytes that document 01 prints for a table file: the sizes of the section that merging gives, or the refusal. Everything here computes.
+-- The bytes that document 01 prints for a table file: the sizes of the table's section, or the refusal. Everything here computes.
 use mathlib.Core.Bool.{cond}
 use mathlib.Core.List.{List, [], _∷_, _++_}
 use Prim.Native.Nat.{ℕ, zero, suc, _+_}
-use lib.ListN.{length, replicate}
-use lib.Dec.{ltb, eqb}
-use Rattle.trellis.specs.Outcome.{Outcome, badLength}
-use Rattle.trellis.specs.Demand.{additions, selections}
-use Rattle.trellis.specs.Layout.{qOf, nOf, statesOf, vertexCountOf, edgeCountOf, joinedUp}
+use lib.ListN.{length}
+use lib.Dec.{ltb}
 use Rattle.trellis.specs.Bounds.{mostBytes}
-use Rattle.table.specs.File.{wordCount}
-use Rattle.merge.specs.Merging.{Merging, merging}
+use Rattle.trellis.specs.Word.{Word}
+use Rattle.trellis.specs.Witness.{Witness, found, nothing, witness}
+use Rattle.trellis.specs.Outcome.{Outcome, badLength, notRectangular}
+use Rattle.trellis.specs.Demand.{additions, selections}
+use Rattle.trellis.specs.Layout.{qOf, nOf, statesOf, vertexCountOf, edgeCountOf, joinedUp, sectionOf}
+use Rattle.table.specs.File.{TableFile, refused, accepted, tableFile}
 use Rattle.text.specs.Line.{line}
 
 -- the fixed words in bytes: section, depth, additions, selections, refused
@@ -52,13 +53,16 @@ sizesOf words l = line sectionWord (qOf l ∷ nOf l ∷ statesOf l ∷ words ∷
 unfoldable pub refusalLine : Outcome → List ℕ
 refusalLine o = line refusedWord (o .number ∷ o .values)
 
--- the sizes on success, else the refusal
-unfoldable pub textFrom : ℕ → Outcome → List ℕ → List ℕ
-textFrom words o section = cond (eqb (o .number) 0) (sizesOf words section) (refusalLine o)
+-- a table with its q, n and S: the sizes of its section, or refusal 6 where it is not rectangular
+unfoldable pub tableText : ℕ → ℕ → ℕ → List Word → Witness → List ℕ
+tableText q n states table (found t i j k) = refusalLine (notRectangular t i j k)
+tableText q n states table nothing = sizesOf (length table) (sectionOf q n states table)
 
--- merging with buffers that are long enough for every table: proofs/Room
-unfoldable pub merged : List ℕ → Merging
-merged file = merging file (replicate 9216 0) (replicate 26644 0)
+-- a table file: refusals 1 to 4, or what its table gives
+unfoldable pub fileText : TableFile → List ℕ
+fileText (refused o) = refusalLine o
+fileText (accepted q n states table) = tableText q n states table (witness n table)
 
+-- what is printed for a file; one longer than the bound is not read as a table
 unfoldable pub textOf : List ℕ → List ℕ
-textOf file = cond (ltb mostBytes (length file)) (refusalLine (badLength (mostBytes + 1))) (textFrom (wordCount file) (merged file .answer) (merged file .section))
+textOf file = cond (ltb mostBytes (length file)) (refusalLine (badLength (mostBytes + 1))) (fileText (tableFile file))

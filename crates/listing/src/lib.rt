@@ -1,5 +1,5 @@
-// The printed sizes of a table: document 01's listing of a table file, or the line of its refusal, as bytes in a lent buffer. The promise is an equation
-// with `listing`, whose text comes from the section that merging gives.
+// The printed sizes of a table: document 01's listing of a table file, or the line of its refusal, as bytes in a lent buffer. The promise
+// is an equation with `listing`, whose text comes from the table alone, with no buffer in it.
 ghost use mathlib.Core.Path.{_≡_};
 ghost use mathlib.Core.List.{[], _∷_};
 ghost use Prim.Native.Nat.{suc, _+_, _-_, _≤_};
@@ -8,9 +8,9 @@ ghost use Rattle.trellis.specs.Outcome.{outcome, notRectangular};
 ghost use Rattle.trellis.specs.Layout.{nOf, joinedUp};
 ghost use Rattle.merge.specs.Answer.{outcomeOf};
 ghost use Rattle.text.specs.inner.Put.{Put};
-ghost use Rattle.listing.specs.Text.{entering, depthLine, sums, sizesOf, refusalLine, textFrom};
+ghost use Rattle.listing.specs.Text.{entering, depthLine, sums, sizesOf, refusalLine};
 ghost use Rattle.listing.specs.Listing.{left, listedOutcome, listing};
-ghost use Rattle.listing.specs.inner.Made.{TextMade};
+ghost use Rattle.listing.specs.inner.Made.{textFrom, TextMade};
 use merge::Merged;
 use numbers::number;
 use numbers::total;
@@ -18,9 +18,22 @@ use numbers::wide;
 use text::put_bytes;
 use text::put_line;
 use trellis::MOST_BYTES;
+use trellis::MOST_STATES;
+use trellis::MOST_SYMBOLS;
+use trellis::MOST_WORDS;
 
 // What is returned for input of any length over the bound.
 const TOO_LONG: usize = MOST_BYTES + 1;
+
+// As long as the map of any table: a number for each word at each depth.
+const ANY_MAP: usize = (MOST_SYMBOLS + 1) * MOST_WORDS;
+
+// As long as the section of any table: the sizes and counts, the roots and the goals, which are states, and three numbers for each edge, of
+// which a step has no more than the table has words.
+const ANY_SECTION: usize = 4 + 2 * MOST_SYMBOLS + 2 * MOST_STATES + 3 * MOST_SYMBOLS * MOST_WORDS;
+
+// Bytes that are enough for every text: it has at most twelve lines, each of a word and at most five numbers of at most five digits.
+pub const ANY_TEXT: usize = 1024;
 
 // The length of the text, or the length that the buffer would need.
 pub enum Listed {
@@ -122,8 +135,8 @@ fn put_text(file: &[u8], text: &mut [u8]) -> usize
     if file.len() > MOST_BYTES {
         return put_refusal(text, 1, TOO_LONG);
     }
-    let mut map = [0u16; 9216];
-    let mut section = [0u16; 26644];
+    let mut map = [0u16; ANY_MAP];
+    let mut section = [0u16; ANY_SECTION];
     let answer = merge::merge(file, &mut map, &mut section);
     put_answer(answer, wide(table::word_count(file)), &section, text)
 }
@@ -132,7 +145,7 @@ fn put_text(file: &[u8], text: &mut [u8]) -> usize
 pub fn listing(file: &[u8], text: &mut [u8]) -> Listed
     ensures { λ r. ⌜ left (listedOutcome r) (now (text .exit)) ≡ listing (now (file .entry)) (now (text .entry)) ⌝ }
 {
-    let mut made = [0u8; 1024];
+    let mut made = [0u8; ANY_TEXT];
     let length = put_text(file, &mut made);
     if text.len() < length {
         return Listed::Short(length);

@@ -1,4 +1,4 @@
 -- Laws about lines and about putting bytes behind others.
 pub mod Putting
-pub mod Spelling
 pub mod Decimal
+pub mod Spelling

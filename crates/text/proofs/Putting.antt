@@ -57,7 +57,8 @@ put-one old at v h = record {
   len = length-set old at v;
   holds =
       let e : at + 1 ≡ suc at = omega arith in
-      ap (λ k. take k (set old at v)) e ∙ take-set old at v h ∙ sym (take-all (length old) (take at old ++ (v ∷ [])) (length-cut old at v h));
+      ap (λ k. take k (set old at v)) e ∙ take-set old at v h
+      ∙ sym (take-all (length old) (take at old ++ (v ∷ [])) (length-cut old at v h));
   grows = omega arith;
   inside = λ g. omega arith;
   beyond = λ j g. getD-set-other old at j v 0 (λ e. omega arith);
@@ -118,8 +119,9 @@ pub bytes-all : {old xs now : List ℕ} {at end i : ℕ} → Pieces single old a
 bytes-all {old} {xs} {now} {at} {end} {i} P h = subst (λ r. Put old at r now end) (singles xs) (pieces-all P h)
 
 -- a word, the numbers behind it and a newline byte are a line
-pub line-put : {word numbers old mid now new : List ℕ} {at m end far i : ℕ} →
-    Put old at word mid m → Pieces spaced mid m numbers now end i → length numbers ≤ i → Put now end (10 ∷ []) new far → Put old at (line word numbers) new far
+pub line-put : {word numbers old mid now new : List ℕ} {at m end far i : ℕ}
+    → Put old at word mid m → Pieces spaced mid m numbers now end i → length numbers ≤ i → Put now end (10 ∷ []) new far
+    → Put old at (line word numbers) new far
 unfolding line
 line-put w P h p = put-then w (put-then (pieces-all P h) p)
 

@@ -1,9 +1,9 @@
-// Lines of text for people: a fixed word, then numbers in decimal, a space before each, then a newline byte. A line is put behind what a buffer of bytes
-// already holds; what does not fit is left out, so that no function asks for room.
+// Lines of text for people: a fixed word, then numbers in decimal, a space before each, then a newline byte. A line is put behind what a
+// buffer of bytes already holds; what does not fit is left out, so that no function asks for room.
 ghost use mathlib.Core.Path.{_≡_};
 ghost use mathlib.Core.List.{[], _∷_};
 ghost use Prim.Native.Nat.{_+_, _%_};
-ghost use Rattle.text.specs.Line.{digit, spaced, line, longer};
+ghost use Rattle.text.specs.Line.{digit, spaced, line};
 ghost use Rattle.text.specs.inner.Put.{Put, Spelt};
 
 fn put_byte(text: &mut [u8], at: usize, byte: u8) -> usize
@@ -35,13 +35,6 @@ fn last_digit(x: usize) -> u8
     48 + (x % 10) as u8
 }
 
-// Whether digits go in front of the last one, where there is room for `at` of them.
-fn is_longer(at: usize, x: usize) -> bool
-    ensures { λ r. ⌜ r ≡ longer at x ⌝ }
-{
-    if at == 0 { false } else { x >= 10 }
-}
-
 // Spells a number at the end of twenty bytes and says where it begins: the last digit is found first.
 fn spell(x: usize, out: &mut [u8; 20]) -> usize
     ensures { λ r. ⌜ Spelt x (now (out .exit)) r ⌝ }
@@ -49,7 +42,7 @@ fn spell(x: usize, out: &mut [u8; 20]) -> usize
     *out = [0u8; 20];
     let mut rest = x;
     let mut at: usize = 19;
-    while is_longer(at, rest) {
+    while rest >= 10 {
         out[at] = last_digit(rest);
         rest /= 10;
         at -= 1;

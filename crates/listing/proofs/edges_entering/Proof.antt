@@ -23,7 +23,8 @@ returns-2 : tie.Need-returns-2
 returns-2 c =
     let p = c .before in
     let a = p .before .before .before in
-    entering-some (a .args .section .now) (a .args .n) (a .args .t) _ _ (a .pre .0) (p .before .if1 .left) (p .number .ensures) (c .wide .ensures .0)
+    entering-some (a .args .section .now) (a .args .n) (a .args .t) _ _ (a .pre .0) (p .before .if1 .left)
+    (p .number .ensures) (c .wide .ensures .0)
 
 pub edges-entering-spec : {M : Type 1} → statement M
 edges-entering-spec =

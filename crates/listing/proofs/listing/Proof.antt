@@ -11,13 +11,22 @@ put-text-requires : tie.Need-put-text-requires
 put-text-requires c κs = search needs
 
 returns : tie.Need-returns
-returns c = let m = c .before .before in let a = m .before .before .before .before in listed-short (a .args .file .now) (m .put-text .ensures) (search needs) (a .args .text .now) (c .if1 .taken)
+returns c =
+    let m = c .before .before in
+    let a = m .before .before .before .before in
+    listed-short (a .args .file .now) (m .put-text .ensures) (search needs) (a .args .text .now) (c .if1 .taken)
 
 array-share-prefix-made : tie.Need-array-share-prefix-made
-array-share-prefix-made c = let m = c .before .before .before in let a = m .before .before .before .before in end-inside (a .args .file .now) (m .put-text .ensures) (search needs)
+array-share-prefix-made c =
+    let m = c .before .before .before in
+    let a = m .before .before .before .before in
+    end-inside (a .args .file .now) (m .put-text .ensures) (search needs)
 
 slice-aggregate-put-bytes : tie.Need-slice-aggregate-put-bytes
-slice-aggregate-put-bytes c = let m = c .before .before .before .before in let a = m .before .before .before .before in end-taken (a .args .file .now) (m .put-text .ensures) (search needs)
+slice-aggregate-put-bytes c =
+    let m = c .before .before .before .before in
+    let a = m .before .before .before .before in
+    end-taken (a .args .file .now) (m .put-text .ensures) (search needs)
 
 put-bytes-requires : tie.Need-put-bytes-requires
 put-bytes-requires c κs = search needs
@@ -26,7 +35,11 @@ same-length : tie.Need-same-length
 same-length c = search needs
 
 returns-2 : tie.Need-returns-2
-returns-2 c = let p = c .before .before in let e = p .before .before .before in let m = e .before .before in let a = m .before .before .before .before in
+returns-2 c =
+    let p = c .before .before in
+    let e = p .before .before .before in
+    let m = e .before .before in
+    let a = m .before .before .before .before in
     listed-text (a .args .file .now) (m .put-text .ensures) (search needs) (a .args .text .now) (e .if1 .left) (p .put-bytes .ensures)
 
 pub listing-spec : {M : Type 1} → statement M

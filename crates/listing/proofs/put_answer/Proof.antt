@@ -1,6 +1,6 @@
 -- `listing::put_answer` puts the sizes on success, and else the line of the refusal, case by case of the answer.
 use Rattle.listing.proofs.Lines.{answered-by}
-use Rattle.listing.specs.Text.{textFrom}
+use Rattle.listing.specs.inner.Made.{textFrom}
 use borrow.Author.Needs.{needs}
 use Rattle.listing.proofs.put_answer.Statement.{statement}
 use Rattle.listing.proofs.put_answer.Tie as tie

@@ -1,4 +1,5 @@
--- `listing::put_depths` puts a line for each depth. The loop's invariant: the lines of the depths passed are put. The measure is how many are left.
+-- `listing::put_depths` puts a line for each depth. The loop's invariant: the lines of the depths passed are put. The measure is how many
+-- are left.
 use Prim.Native.Nat.{suc, _-_}
 use Rattle.listing.proofs.Lines.{Depths, depths-start, depths-next, depths-all}
 use borrow.Author.Needs.{needs}
@@ -47,7 +48,8 @@ loop-again c =
     let e = p .before .before .before .before in
     let w = e .before in
     let l = w .before .before in
-    depths-next (l .before .loop .inv) (l .loop-test .taken) (w .before .number .ensures) (w .wide .ensures .0) (e .edges-entering .ensures) (p .put-line .ensures)
+    depths-next (l .before .loop .inv) (l .loop-test .taken) (w .before .number .ensures) (w .wide .ensures .0)
+    (e .edges-entering .ensures) (p .put-line .ensures)
 
 same-length : tie.Need-same-length Inv-loop μ-loop
 same-length c = c .before .loop .inv .put .len

@@ -11,7 +11,10 @@ same-length : tie.Need-same-length
 same-length c = search needs
 
 returns : tie.Need-returns
-returns c = let p = c .before .before in let t = p .before .before in made-long (t .before .before .before .args .file .now) (t .if1 .taken) (p .put-refusal .ensures)
+returns c =
+    let p = c .before .before in
+    let t = p .before .before in
+    made-long (t .before .before .before .args .file .now) (t .if1 .taken) (p .put-refusal .ensures)
 
 slice-aggregate-merge : tie.Need-slice-aggregate-merge
 slice-aggregate-merge c = search needs
@@ -42,7 +45,8 @@ returns-2 c = let p = c .before .before in
     let w = p .before .before .before in
     let m = w .before .before .before .before in
     let t = m .before .before .before in
-    made-merged (t .before .before .before .args .file .now) (t .if1 .left) (m .merge .ensures) (w .before .word-count .ensures) (w .wide .ensures .0) (p .put-answer .ensures)
+    made-merged (t .before .before .before .args .file .now) (t .if1 .left) (m .merge .ensures)
+    (w .before .word-count .ensures) (w .wide .ensures .0) (p .put-answer .ensures)
 
 pub put-text-spec : {M : Type 1} → statement M
 put-text-spec =

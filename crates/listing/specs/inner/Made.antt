@@ -1,11 +1,22 @@
 -- What making the text leaves.
+use mathlib.Core.Bool.{cond}
 use mathlib.Core.List.{List}
 use Prim.Native.Nat.{ℕ, _≤_}
 use lib.ListN.{length}
+use lib.Dec.{eqb}
+use Rattle.trellis.specs.Outcome.{Outcome}
 use Rattle.text.specs.inner.Put.{Put}
-use Rattle.listing.specs.Text.{textOf}
+use Rattle.listing.specs.Text.{sizesOf, refusalLine, textOf}
 
--- the text of a file is put at the front of a buffer, and 1,024 bytes are enough for it
+-- the sizes on success, else the refusal
+unfoldable pub textFrom : ℕ → Outcome → List ℕ → List ℕ
+textFrom words o section = cond (eqb (o .number) 0) (sizesOf words section) (refusalLine o)
+
+-- bytes that are enough for every text
+abbrev pub anyText : ℕ
+anyText = 1024
+
+-- the text of a file is put at the front of a buffer, and fits where there are these bytes
 pub record TextMade (file old new : List ℕ) (end : ℕ) : Type 0 where
   pub put : Put old 0 (textOf file) new end
-  pub short : length (textOf file) ≤ 1024
+  pub short : length (textOf file) ≤ anyText

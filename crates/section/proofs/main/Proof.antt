@@ -31,7 +31,8 @@ enum-known-length : tie.Need-enum-known-length
 enum-known-length c = search needs
 
 array-share-prefix-text : tie.Need-array-share-prefix-text
-array-share-prefix-text c = let l = c .before .before .before .before in written-inside _ _ (l .listing .ensures) (c .before .length .given .1)
+array-share-prefix-text c = let l = c .before .before .before .before in
+    written-inside _ _ (l .listing .ensures) (c .before .length .given .1)
 
 slice-aggregate-write-all : tie.Need-slice-aggregate-write-all
 slice-aggregate-write-all c = let l = c .before .before .before .before .before in

@@ -1,5 +1,5 @@
--- `text::put_line` puts the word, then the numbers one by one, then the newline byte. The loop's invariant: the word and the numbers passed are put.
--- The measure is how many numbers are left.
+-- `text::put_line` puts the word, then the numbers one by one, then the newline byte. The loop's invariant: the word and the numbers passed
+-- are put. The measure is how many numbers are left.
 use mathlib.Core.Path.{_∙_}
 use Prim.Native.Nat.{_-_}
 use lib.ListN.{length}

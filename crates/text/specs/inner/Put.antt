@@ -5,7 +5,8 @@ use Prim.Native.Nat.{ℕ, _≤_}
 use lib.ListN.{length, getD, take, drop}
 use Rattle.text.specs.Line.{decimal}
 
--- the buffer held its first `at` bytes; now it holds, up to `end`, those with vs behind them, as far as there is room; places beyond are unchanged
+-- the buffer held its first `at` bytes; now it holds, up to `end`, those with vs behind them, as far as there is room; places beyond are
+-- unchanged
 pub record Put (old : List ℕ) (at : ℕ) (vs : List ℕ) (new : List ℕ) (end : ℕ) : Type 0 where
   pub len : length new ≡ length old
   pub holds : take end new ≡ take (length old) (take at old ++ vs)
