@@ -7,6 +7,7 @@ ghost use lib.ListN.{length, drop};
 ghost use Rattle.trellis.specs.Bounds.{mostSections, mostBlocks};
 ghost use Rattle.trellis.specs.Lists.{first, within};
 ghost use Rattle.trellis.specs.Layout.{sectionLength};
+ghost use Rattle.outcomes.specs.inner.Holds.{Holds};
 ghost use Rattle.section_file.specs.Usable.{usable};
 ghost use Rattle.chain.specs.Frame.{frameBad, blockBad};
 ghost use Rattle.chain.specs.Decoding.{left, neededOf, fitted, framed, decoding};
@@ -16,6 +17,9 @@ ghost use Rattle.chain.specs.inner.Loops.{SectionsFound, FirstUnusable, 
 ghost use Rattle.chain.specs.inner.Checked.{AllFound, FrameChecked};
 use numbers::wide;
 use numbers::widened;
+use outcomes::Returned;
+use outcomes::no_value;
+use outcomes::one_value;
 use passes::NO_PATH;
 use passes::fill_table;
 use passes::name_words;
@@ -34,6 +38,19 @@ pub enum Decoded {
     Block(usize),
     Short(usize),
     NoPath,
+}
+
+// Document 01's number and values of an answer.
+pub fn outcome(answer: Decoded) -> Returned
+    ensures { λ r. ⌜ Holds (decodedOutcome answer) (r .number) (r .count) (r .values) ⌝ }
+{
+    match answer {
+        Decoded::Distance(distance) => one_value(0, distance as usize),
+        Decoded::Section(index) => one_value(8, index),
+        Decoded::Block(block) => one_value(9, block),
+        Decoded::Short(needed) => one_value(10, needed),
+        Decoded::NoPath => no_value(11),
+    }
 }
 
 fn is_within(low: usize, high: usize, x: usize) -> bool

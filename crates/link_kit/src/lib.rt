@@ -1,6 +1,6 @@
-// The kit's front door. Rattle programs get the layers' functions with their enums and promises from here. Programs in C or Rust, which take no enum of
-// ours, get one call for each: it returns document 01's number, puts the numbers returned with it into `values`, and leaves every buffer as its layer
-// does. No call asks anything of its arguments.
+// The kit's front door. Rattle programs get the layers' functions with their enums and promises from here. Programs in C or Rust, which
+// take no enum of ours, get one call for each: it returns document 01's number, puts the numbers returned with it into `values`, and leaves
+// every buffer as its layer does. No call asks anything of its arguments.
 ghost use Rattle.merge.specs.Merging.{merging};
 ghost use Rattle.read_back.specs.ReadingBack.{readingBack};
 ghost use Rattle.chain.specs.Decoding.{decoding};
@@ -27,12 +27,11 @@ pub extern "C" fn link_merge(
     section: &mut [u16],
     values: &mut [u32; 4],
 ) -> u32
-    ensures { λ r. ⌜ MergeLeft (merging (now (file .entry)) (now (map .entry)) (now (section .entry))) r (now (map .exit)) (now (section .exit)) (now (values .exit)) ⌝ }
+    ensures { λ r. ⌜ MergeLeft (merging (now (file .entry)) (now (map .entry)) (now (section .entry))) r
+        (now (map .exit)) (now (section .exit)) (now (values .exit)) ⌝ }
 {
-    let answer = answers::merged(merge::merge(file, map, section));
-    let four = answer.values;
-    *values = four;
-    answer.number
+    let answer = merge::merge(file, map, section);
+    answers::store(merge::outcome(answer), values)
 }
 
 // Writes the table file of a section's words into `file`.
@@ -40,10 +39,8 @@ pub extern "C" fn link_merge(
 pub extern "C" fn link_read_back(section: &[u16], file: &mut [u8], values: &mut [u32; 4]) -> u32
     ensures { λ r. ⌜ ReadBackLeft (readingBack (now (section .entry)) (now (file .entry))) r (now (file .exit)) (now (values .exit)) ⌝ }
 {
-    let answer = answers::read(read_back::read_back(section, file));
-    let four = answer.values;
-    *values = four;
-    answer.number
+    let answer = read_back::read_back(section, file);
+    answers::store(read_back::outcome(answer), values)
 }
 
 // Decodes a chain of blocks over k sections.
@@ -61,10 +58,11 @@ pub extern "C" fn link_decode(
     goals: &mut [u8],
     values: &mut [u32; 4],
 ) -> u32
-    ensures { λ r. ⌜ DecodeLeft (decoding (now (sections .entry)) k (now (indices .entry)) (now (received .entry)) (now (erased .entry)) start end
-        (now (costs .entry)) (now (labels .entry)) (now (goals .entry))) r (now (costs .exit)) (now (labels .exit)) (now (goals .exit)) (now (values .exit)) ⌝ }
+    ensures { λ r. ⌜ DecodeLeft (decoding (now (sections .entry)) k (now (indices .entry)) (now (received .entry)) (now (erased .entry))
+        start end (now (costs .entry)) (now (labels .entry)) (now (goals .entry))) r
+        (now (costs .exit)) (now (labels .exit)) (now (goals .exit)) (now (values .exit)) ⌝ }
 {
-    let answer = answers::decoded(chain::decode(
+    let answer = chain::decode(
         sections,
         k,
         indices,
@@ -75,10 +73,8 @@ pub extern "C" fn link_decode(
         costs,
         labels,
         goals,
-    ));
-    let four = answer.values;
-    *values = four;
-    answer.number
+    );
+    answers::store(chain::outcome(answer), values)
 }
 
 // Writes the printed sizes of the table in `file` into `text`.
@@ -86,8 +82,6 @@ pub extern "C" fn link_decode(
 pub extern "C" fn link_listing(file: &[u8], text: &mut [u8], values: &mut [u32; 4]) -> u32
     ensures { λ r. ⌜ ListingLeft (listing (now (file .entry)) (now (text .entry))) r (now (text .exit)) (now (values .exit)) ⌝ }
 {
-    let answer = answers::listed(listing::listing(file, text));
-    let four = answer.values;
-    *values = four;
-    answer.number
+    let answer = listing::listing(file, text);
+    answers::store(listing::outcome(answer), values)
 }

@@ -1,5 +1,5 @@
 -- The lines put one behind another are the text: a line for each depth in turn, and sums that are those of the counts in the section.
-use mathlib.Core.Path.{_≡_, refl, sym, ap, ap₂, subst, _∙_}
+use mathlib.Core.Path.{_≡_, refl, ap, ap₂, subst, _∙_}
 use mathlib.Core.List.{List, [], _∷_}
 use Prim.Native.Nat.{ℕ, zero, suc, _+_, _-_, _<_, _≤_}
 use native.Mathlib.Omega.{arith}
@@ -7,13 +7,10 @@ use lib.ListN.{getD}
 use Rattle.trellis.specs.Lists.{sum}
 use Rattle.trellis.specs.Demand.{allVertices, additions, selections}
 use Rattle.trellis.specs.Layout.{qOf, nOf, statesOf, vertexCountOf, edgeCountOf, joinedUp}
-use Rattle.merge.specs.Answer.{outcomeOf}
-use Rattle.merge.specs.declared.Merged.{Merged}
 use Rattle.text.specs.Line.{line}
 use Rattle.text.specs.inner.Put.{Put}
 use Rattle.text.proofs.Putting.{put-none, put-then}
 use Rattle.listing.specs.Text.{sectionWord, depthWord, additionsWord, selectionsWord, entering, depthLine, sums, sizesOf}
-use Rattle.listing.specs.inner.Made.{textFrom}
 
 -- ---- depths
 
@@ -95,8 +92,3 @@ sizes-put l words {old} {one} {two} {new} {a} {b} {end} {x} {y} {z} {q} {n} {sta
     same : q ∷ n ∷ states ∷ words ∷ [] ≡ qOf l ∷ nOf l ∷ statesOf l ∷ words ∷ []
     same = ap₂ (λ i r. i ∷ r) (q-is ∙ x-is) (ap₂ (λ i j. i ∷ j ∷ words ∷ []) (n-is ∙ y-is) (s-is ∙ z-is))
 
--- ---- the answer
-
-pub answered-by : (words : ℕ) (l : List ℕ) {a x : Merged} {old new : List ℕ} {end : ℕ}
-    → a ≡ x → Put old 0 (textFrom words (outcomeOf x) l) new end → Put old 0 (textFrom words (outcomeOf a) l) new end
-answered-by words l {a} {x} {old} {new} {end} e p = subst (λ b. Put old 0 (textFrom words (outcomeOf b) l) new end) (sym e) p

@@ -1,12 +1,12 @@
 // The printed sizes of a table: document 01's listing of a table file, or the line of its refusal, as bytes in a lent buffer. The promise
 // is an equation with `listing`, whose text comes from the table alone, with no buffer in it.
 ghost use mathlib.Core.Path.{_≡_};
-ghost use mathlib.Core.List.{[], _∷_};
 ghost use Prim.Native.Nat.{suc, _+_, _-_, _≤_};
 ghost use lib.ListN.{length};
-ghost use Rattle.trellis.specs.Outcome.{outcome, notRectangular};
+ghost use Rattle.trellis.specs.Outcome.{Outcome};
 ghost use Rattle.trellis.specs.Layout.{nOf, joinedUp};
 ghost use Rattle.merge.specs.Answer.{outcomeOf};
+ghost use Rattle.outcomes.specs.inner.Holds.{Holds};
 ghost use Rattle.text.specs.inner.Put.{Put};
 ghost use Rattle.listing.specs.Text.{entering, depthLine, sums, sizesOf, refusalLine};
 ghost use Rattle.listing.specs.Listing.{left, listedOutcome, listing};
@@ -15,6 +15,8 @@ use merge::Merged;
 use numbers::number;
 use numbers::total;
 use numbers::wide;
+use outcomes::Returned;
+use outcomes::one_value;
 use text::put_bytes;
 use text::put_line;
 use trellis::MOST_BYTES;
@@ -39,6 +41,16 @@ pub const ANY_TEXT: usize = 1024;
 pub enum Listed {
     Text(usize),
     Short(usize),
+}
+
+// Document 01's number and values of an answer.
+pub fn outcome(answer: Listed) -> Returned
+    ensures { λ r. ⌜ Holds (listedOutcome answer) (r .number) (r .count) (r .values) ⌝ }
+{
+    match answer {
+        Listed::Text(length) => one_value(0, length),
+        Listed::Short(needed) => one_value(10, needed),
+    }
 }
 
 fn edges_entering(section: &[u16], n: usize, t: usize) -> usize
@@ -99,33 +111,31 @@ fn put_sizes(section: &[u16], words: usize, text: &mut [u8]) -> usize
     put_sums(section, n, text, end)
 }
 
-fn put_refusal(text: &mut [u8], refusal: usize, value: usize) -> usize
-    ensures { λ r. ⌜ Put (now (text .entry)) 0 (refusalLine (outcome refusal (value ∷ []))) (now (text .exit)) r ⌝ }
+// The line of a refusal: its number, and the numbers returned with it.
+fn put_refusal(text: &mut [u8], refusal: Returned) -> usize
+    requires { ⌜ refusal .count ≤ 4 ⌝ }
+    ensures { λ r. ⌜ ((o : Outcome) → Holds o (refusal .number) (refusal .count) (refusal .values)
+        → Put (now (text .entry)) 0 (refusalLine o) (now (text .exit)) r) ⌝ }
 {
-    let numbers = [refusal, value];
-    put_line(text, 0, b"refused", &numbers)
-}
-
-fn put_witness(text: &mut [u8], depth: usize, i: usize, j: usize, k: usize) -> usize
-    ensures { λ r. ⌜ Put (now (text .entry)) 0 (refusalLine (notRectangular depth i j k)) (now (text .exit)) r ⌝ }
-{
-    let numbers = [6, depth, i, j, k];
-    put_line(text, 0, b"refused", &numbers)
+    let values = refusal.values;
+    let numbers = [
+        refusal.number as usize,
+        values[0],
+        values[1],
+        values[2],
+        values[3],
+    ];
+    put_line(text, 0, b"refused", &numbers[..1 + refusal.count])
 }
 
 fn put_answer(answer: Merged, words: usize, section: &[u16], text: &mut [u8]) -> usize
     ensures { λ r. ⌜ Put (now (text .entry)) 0 (textFrom words (outcomeOf answer) (now (section .entry))) (now (text .exit)) r ⌝ }
 {
-    match answer {
-        Merged::Section(length) => put_sizes(section, words, text),
-        Merged::Length(length) => put_refusal(text, 1, length),
-        Merged::Size(place) => put_refusal(text, 2, place),
-        Merged::Word(index) => put_refusal(text, 3, index),
-        Merged::Order(index) => put_refusal(text, 4, index),
-        Merged::ShortMap(needed) => put_refusal(text, 5, needed),
-        Merged::NotRectangular(depth, i, j, k) => put_witness(text, depth, i, j, k),
-        Merged::ShortSection(needed) => put_refusal(text, 7, needed),
+    let returned = merge::outcome(answer);
+    if returned.number == 0 {
+        return put_sizes(section, words, text);
     }
+    put_refusal(text, returned)
 }
 
 // Both buffers are long enough for every table.
@@ -133,7 +143,7 @@ fn put_text(file: &[u8], text: &mut [u8]) -> usize
     ensures { λ r. ⌜ TextMade (now (file .entry)) (now (text .entry)) (now (text .exit)) r ⌝ }
 {
     if file.len() > MOST_BYTES {
-        return put_refusal(text, 1, TOO_LONG);
+        return put_refusal(text, merge::outcome(Merged::Length(TOO_LONG)));
     }
     let mut map = [0u16; ANY_MAP];
     let mut section = [0u16; ANY_SECTION];

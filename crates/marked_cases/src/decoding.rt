@@ -2,27 +2,7 @@
 use crate::print::put_buffer;
 use crate::print::put_bytes;
 use crate::print::put_costs;
-use crate::print::put_number;
-use crate::print::put_value;
-use chain::Decoded;
-
-fn put_distance(distance: u32) {
-    put_number(0);
-    put_number(distance as u64);
-}
-
-// Document 01's number and values of an answer.
-fn put_answer(answer: Decoded) {
-    io::write_all(1, b"answer");
-    match answer {
-        Decoded::Distance(distance) => put_distance(distance),
-        Decoded::Section(index) => put_value(8, index),
-        Decoded::Block(index) => put_value(9, index),
-        Decoded::Short(needed) => put_value(10, needed),
-        Decoded::NoPath => put_number(11),
-    }
-    io::write_all(1, b"\n");
-}
+use crate::print::put_outcome;
 
 // One section for each block, from state 0 to state 0. The buffers have a place more than two blocks take.
 fn run_case(name: &[u8], section: &[u16], indices: &[u8], received: &[u16], erased: &[u8]) {
@@ -30,7 +10,7 @@ fn run_case(name: &[u8], section: &[u16], indices: &[u8], received: &[u16], eras
     let mut labels = [9u16; 3];
     let mut goals = [9u8; 3];
     io::write_all(1, name);
-    put_answer(chain::decode(
+    let answer = chain::decode(
         section,
         1,
         indices,
@@ -41,7 +21,8 @@ fn run_case(name: &[u8], section: &[u16], indices: &[u8], received: &[u16], eras
         &mut costs,
         &mut labels,
         &mut goals,
-    ));
+    );
+    put_outcome(b"answer", chain::outcome(answer));
     put_buffer(b"labels", &labels);
     put_bytes(b"goals", &goals);
     put_costs(b"costs", &costs);
@@ -73,7 +54,8 @@ fn case_8() {
     run_case(b"case 8\n", &section, b"\x00", &received, b"\x01");
 }
 
-// The words (0,0,1), (0,1,0), (1,0,0), received 0 and 1: labels 0, 0 and labels 1, 1 are at the same distance, and the first block settles it.
+// The words (0,0,1), (0,1,0), (1,0,0), received 0 and 1: labels 0, 0 and labels 1, 1 are at the same distance, and the first block settles
+// it.
 fn tie() {
     let mut map = [9u16; 6];
     let mut section = [9u16; 19];
@@ -90,7 +72,7 @@ fn run_bound(name: &[u8], indices: &[u8], received: &[u16], erased: &[u8]) {
     let mut labels = [0u16; 257];
     let mut goals = [0u8; 257];
     io::write_all(1, name);
-    put_answer(chain::decode(
+    let answer = chain::decode(
         &section,
         1,
         indices,
@@ -101,7 +83,8 @@ fn run_bound(name: &[u8], indices: &[u8], received: &[u16], erased: &[u8]) {
         &mut costs,
         &mut labels,
         &mut goals,
-    ));
+    );
+    put_outcome(b"answer", chain::outcome(answer));
 }
 
 pub fn run_cases() {

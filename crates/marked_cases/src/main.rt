@@ -1,5 +1,5 @@
-// Runs document 01's marked cases against the compiled code and prints what each call leaves: its answer's number and values, and the buffers, whose
-// places were all 9. Then the answers on each side of the bounds on words, states, n, q and blocks.
+// Runs document 01's marked cases against the compiled code and prints what each call leaves: its answer's number and values, and the
+// buffers, whose places were all 9. Then the answers on each side of the bounds on words, states, n, q and blocks.
 mod decoding;
 mod merging;
 mod print;

@@ -1,51 +1,14 @@
-// The marked cases of merging, 1 to 6 and 9, and the round trip: what merging leaves is read back. And the bounds on words, states, n and q.
+// The marked cases of merging, 1 to 6 and 9, and the round trip: what merging leaves is read back. And the bounds on words, states, n, q.
 ghost use Prim.Native.Nat.{_+_, _*_, _≤_};
 ghost use lib.ListN.{length};
 use crate::print::put_buffer;
 use crate::print::put_bytes;
-use crate::print::put_number;
-use crate::print::put_value;
-use merge::Merged;
-use read_back::ReadBack;
-
-fn put_witness(depth: usize, i: usize, j: usize, k: usize) {
-    put_value(6, depth);
-    put_number(i as u64);
-    put_number(j as u64);
-    put_number(k as u64);
-}
-
-// Document 01's number and values of an answer.
-fn put_answer(answer: Merged) {
-    io::write_all(1, b"answer");
-    match answer {
-        Merged::Section(length) => put_value(0, length),
-        Merged::Length(length) => put_value(1, length),
-        Merged::Size(place) => put_value(2, place),
-        Merged::Word(index) => put_value(3, index),
-        Merged::Order(index) => put_value(4, index),
-        Merged::ShortMap(needed) => put_value(5, needed),
-        Merged::NotRectangular(depth, i, j, k) => put_witness(depth, i, j, k),
-        Merged::ShortSection(needed) => put_value(7, needed),
-    }
-    io::write_all(1, b"\n");
-}
-
-// Document 01's number and values of an answer of reading back.
-fn put_read(answer: ReadBack) {
-    io::write_all(1, b"read back");
-    match answer {
-        ReadBack::File(length) => put_value(0, length),
-        ReadBack::Unusable => put_value(8, 0),
-        ReadBack::Short(needed) => put_value(10, needed),
-        ReadBack::TooMany => put_number(12),
-    }
-    io::write_all(1, b"\n");
-}
+use crate::print::put_outcome;
 
 fn run_case(name: &[u8], file: &[u8], map: &mut [u16], section: &mut [u16]) {
     io::write_all(1, name);
-    put_answer(merge::merge(file, map, section));
+    let answer = merge::merge(file, map, section);
+    put_outcome(b"answer", merge::outcome(answer));
     put_buffer(b"map", map);
     put_buffer(b"section", section);
 }
@@ -53,7 +16,8 @@ fn run_case(name: &[u8], file: &[u8], map: &mut [u16], section: &mut [u16]) {
 // Merges into a section buffer that the section is to fill, and reads it back.
 fn read_again(file: &[u8], map: &mut [u16], section: &mut [u16], again: &mut [u8]) {
     merge::merge(file, map, section);
-    put_read(read_back::read_back(section, again));
+    let answer = read_back::read_back(section, again);
+    put_outcome(b"read back", read_back::outcome(answer));
     put_bytes(b"file", again);
 }
 
@@ -117,8 +81,11 @@ fn case_6() {
 
 // The rate 2/3 section of document 004.
 fn case_9() {
-    let file =
-        b"\x02\x03\x04\x10\x00\x00\x00\x00\x03\x00\x02\x00\x01\x01\x00\x01\x03\x01\x02\x01\x01\x02\x01\x02\x02\x02\x03\x02\x00\x03\x01\x03\x02\x03\x03\x03\x00\x00\x00\x05\x00\x11\x00\x14\x00\x01\x00\x04\x00\x10\x00\x15\x00\x01\x00\x04\x00\x10\x00\x15\x00\x00\x00\x05\x00\x11\x00\x14\x00";
+    let file = b"\x02\x03\x04\x10\x00\
+        \x00\x00\x00\x03\x00\x02\x00\x01\x01\x00\x01\x03\x01\x02\x01\x01\
+        \x02\x01\x02\x02\x02\x03\x02\x00\x03\x01\x03\x02\x03\x03\x03\x00\
+        \x00\x00\x05\x00\x11\x00\x14\x00\x01\x00\x04\x00\x10\x00\x15\x00\
+        \x01\x00\x04\x00\x10\x00\x15\x00\x00\x00\x05\x00\x11\x00\x14\x00";
     let mut map = [9u16; 65];
     let mut section = [9u16; 115];
     run_case(b"case 9\n", file, &mut map, &mut section);
@@ -131,7 +98,8 @@ fn run_bound(name: &[u8], file: &[u8]) {
     let mut map = [0u16; 9216];
     let mut section = [0u16; 128];
     io::write_all(1, name);
-    put_answer(merge::merge(file, &mut map, &mut section));
+    let answer = merge::merge(file, &mut map, &mut section);
+    put_outcome(b"answer", merge::outcome(answer));
 }
 
 fn low(x: usize) -> u8 {

@@ -1,13 +1,29 @@
-// Numbers printed one behind another, each after a space: a number with its value, and whole buffers, each on its line.
+// Numbers printed one behind another, each after a space: an outcome, and whole buffers, each on its line.
+ghost use Prim.Native.Nat.{_≤_};
+use outcomes::Returned;
 
-pub fn put_number(x: u64) {
+fn put_number(x: u64) {
     io::write_all(1, b" ");
     io::print_decimal(1, x);
 }
 
-pub fn put_value(number: u64, value: usize) {
-    put_number(number);
-    put_number(value as u64);
+fn put_value(x: usize) {
+    put_number(x as u64);
+}
+
+// The outcome's number, and the numbers returned with it.
+pub fn put_outcome(name: &[u8], outcome: Returned)
+    requires { ⌜ outcome .count ≤ 4 ⌝ }
+{
+    io::write_all(1, name);
+    put_number(outcome.number as u64);
+    let values = outcome.values;
+    let mut i: usize = 0;
+    while i < outcome.count {
+        put_value(values[i]);
+        i += 1;
+    }
+    io::write_all(1, b"\n");
 }
 
 fn put_place(x: u16) {

@@ -6,12 +6,16 @@ ghost use Prim.Native.Nat.{_+_, _*_, _<_, _≤_};
 ghost use lib.ListN.{length};
 ghost use Rattle.trellis.specs.Bounds.{mostWords};
 ghost use Rattle.trellis.specs.Witness.{witness};
+ghost use Rattle.outcomes.specs.inner.Holds.{Holds};
 ghost use Rattle.table.specs.File.{accepted, tableFile, fileWords};
 ghost use Rattle.depths.specs.inner.Words.{words};
 ghost use Rattle.merge.specs.Answer.{outcomeOf, Ends};
 ghost use Rattle.merge.specs.Merging.{refusalOf, merging, mergedTable, merged, written};
 ghost use Rattle.merge.specs.inner.Stages.{cleared, WordsHeld, Inside, RefusedAt, Copied};
 use numbers::wide;
+use outcomes::Returned;
+use outcomes::four_values;
+use outcomes::one_value;
 use trellis::MOST_SYMBOLS;
 use trellis::MOST_WORDS;
 
@@ -24,6 +28,22 @@ pub enum Merged {
     ShortMap(usize),
     NotRectangular(usize, usize, usize, usize),
     ShortSection(usize),
+}
+
+// Document 01's number and values of an answer.
+pub fn outcome(answer: Merged) -> Returned
+    ensures { λ r. ⌜ Holds (outcomeOf answer) (r .number) (r .count) (r .values) ⌝ }
+{
+    match answer {
+        Merged::Section(length) => one_value(0, length),
+        Merged::Length(length) => one_value(1, length),
+        Merged::Size(place) => one_value(2, place),
+        Merged::Word(index) => one_value(3, index),
+        Merged::Order(index) => one_value(4, index),
+        Merged::ShortMap(needed) => one_value(5, needed),
+        Merged::NotRectangular(depth, i, j, k) => four_values(6, depth, i, j, k),
+        Merged::ShortSection(needed) => one_value(7, needed),
+    }
 }
 
 // The first `count` places of the map become 0.

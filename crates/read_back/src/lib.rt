@@ -10,6 +10,7 @@ ghost use Rattle.trellis.specs.Lists.{run};
 ghost use Rattle.trellis.specs.inner.Write.{Wrote};
 ghost use Rattle.trellis.specs.Own.{edge};
 ghost use Rattle.trellis.specs.Layout.{nOf, pairsPlace, symbolsPlace, sectionLength};
+ghost use Rattle.outcomes.specs.inner.Holds.{Holds};
 ghost use Rattle.section_file.specs.inner.Answer.{edgeAt};
 ghost use Rattle.section_file.specs.inner.Sound.{Sound};
 ghost use Rattle.read_back.specs.ReadingBack.{readBackOutcome, left, isSection, readingBack};
@@ -19,6 +20,9 @@ ghost use Rattle.read_back.specs.inner.Growing.{byteOf, pairOfCode, labe
 use label::append;
 use numbers::number;
 use numbers::wide;
+use outcomes::Returned;
+use outcomes::no_value;
+use outcomes::one_value;
 use section_file::Part;
 use section_file::usable_at;
 use trellis::MOST_WORDS;
@@ -31,6 +35,18 @@ pub enum ReadBack {
     Unusable,
     TooMany,
     Short(usize),
+}
+
+// Document 01's number and values of an answer.
+pub fn outcome(answer: ReadBack) -> Returned
+    ensures { λ r. ⌜ Holds (readBackOutcome answer) (r .number) (r .count) (r .values) ⌝ }
+{
+    match answer {
+        ReadBack::File(length) => one_value(0, length),
+        ReadBack::Unusable => one_value(8, 0),
+        ReadBack::TooMany => no_value(12),
+        ReadBack::Short(needed) => one_value(10, needed),
+    }
 }
 
 struct Places {
@@ -285,6 +301,7 @@ fn is_section(s: &[u16]) -> bool
     }
 }
 
+// Writes the table file of the words of `section` to the front of `file`.
 pub fn read_back(section: &[u16], file: &mut [u8]) -> ReadBack
     ensures { λ r. ⌜ left (readBackOutcome r) (now (file .exit)) ≡ readingBack (now (section .entry)) (now (file .entry)) ⌝ }
 {

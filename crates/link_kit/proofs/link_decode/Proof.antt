@@ -7,8 +7,11 @@ use Rattle.link_kit.proofs.link_decode.Tie as tie
 decode-requires : tie.Need-decode-requires
 decode-requires c κs = search needs
 
-decoded-requires : tie.Need-decoded-requires
-decoded-requires c κs = search needs
+outcome-requires : tie.Need-outcome-requires
+outcome-requires c κs = search needs
+
+store-requires : tie.Need-store-requires
+store-requires c κs = search needs
 
 same-length : tie.Need-same-length
 same-length c = search needs
@@ -20,9 +23,18 @@ same-length-3 : tie.Need-same-length-3
 same-length-3 c = search needs
 
 returns : tie.Need-returns
-returns c = decode-left (c .before .before .before .before .before .before .before .before .decode .ensures .0) (c .before .decoded .ensures)
+returns c =
+    let o = c .before .before in
+    decode-left (o .before .before .before .before .before .before .before .decode .ensures .0) (c .store .ensures _ (o .outcome .ensures))
 
 pub link-decode-spec : {M : Type 1} → statement M
 link-decode-spec =
     tie.close
-    (tie.spec decode-requires decoded-requires same-length same-length-2 same-length-3 returns)
+    (tie.spec
+    decode-requires
+    outcome-requires
+    store-requires
+    same-length
+    same-length-2
+    same-length-3
+    returns)

@@ -4,6 +4,9 @@ use borrow.Author.Needs.{needs}
 use Rattle.listing.proofs.put_text.Statement.{statement}
 use Rattle.listing.proofs.put_text.Tie as tie
 
+outcome-requires : tie.Need-outcome-requires
+outcome-requires c κs = search needs
+
 put-refusal-requires : tie.Need-put-refusal-requires
 put-refusal-requires c κs = search needs
 
@@ -13,8 +16,9 @@ same-length c = search needs
 returns : tie.Need-returns
 returns c =
     let p = c .before .before in
-    let t = p .before .before in
-    made-long (t .before .before .before .args .file .now) (t .if1 .taken) (p .put-refusal .ensures)
+    let o = p .before in
+    let t = o .before .before in
+    made-long (t .before .before .before .args .file .now) (t .if1 .taken) (p .put-refusal .ensures _ (o .outcome .ensures))
 
 slice-aggregate-merge : tie.Need-slice-aggregate-merge
 slice-aggregate-merge c = search needs
@@ -52,6 +56,7 @@ pub put-text-spec : {M : Type 1} → statement M
 put-text-spec =
     tie.close
     (tie.spec
+    outcome-requires
     put-refusal-requires
     same-length
     returns

@@ -1,10 +1,10 @@
--- `answers::decoded` has each case of decoding as its outcome.
+-- `chain::outcome` has each case of the answer as its outcome.
 use mathlib.Core.Path.{ap}
 use Rattle.chain.specs.Answer.{decodedOutcome}
-use Rattle.link_kit.proofs.Numbering.{numbered-by}
+use Rattle.outcomes.proofs.Held.{holds-by}
 use borrow.Author.Needs.{needs}
-use Rattle.link_kit.proofs.answers.decoded.Statement.{statement}
-use Rattle.link_kit.proofs.answers.decoded.Tie as tie
+use Rattle.chain.proofs.outcome.Statement.{statement}
+use Rattle.chain.proofs.outcome.Tie as tie
 
 enum-known-answer : tie.Need-enum-known-answer
 enum-known-answer c = search needs
@@ -40,22 +40,22 @@ no-value-requires : tie.Need-no-value-requires
 no-value-requires c κs = search needs
 
 returns : tie.Need-returns
-returns c = numbered-by (ap decodedOutcome (c .before .before .answer .given .1)) (c .one-value .ensures)
+returns c = holds-by (ap decodedOutcome (c .before .before .answer .given .1)) (c .one-value .ensures)
 
 returns-2 : tie.Need-returns-2
-returns-2 c = numbered-by (ap decodedOutcome (c .before .before .answer2 .given .1)) (c .one-value2 .ensures)
+returns-2 c = holds-by (ap decodedOutcome (c .before .before .answer2 .given .1)) (c .one-value2 .ensures)
 
 returns-3 : tie.Need-returns-3
-returns-3 c = numbered-by (ap decodedOutcome (c .before .before .answer3 .given .1)) (c .one-value3 .ensures)
+returns-3 c = holds-by (ap decodedOutcome (c .before .before .answer3 .given .1)) (c .one-value3 .ensures)
 
 returns-4 : tie.Need-returns-4
-returns-4 c = numbered-by (ap decodedOutcome (c .before .before .answer4 .given .1)) (c .one-value4 .ensures)
+returns-4 c = holds-by (ap decodedOutcome (c .before .before .answer4 .given .1)) (c .one-value4 .ensures)
 
 returns-5 : tie.Need-returns-5
-returns-5 c = numbered-by (ap decodedOutcome (c .before .enum-told .given .1)) (c .no-value .ensures)
+returns-5 c = holds-by (ap decodedOutcome (c .before .enum-told .given .1)) (c .no-value .ensures)
 
-pub decoded-spec : {M : Type 1} → statement M
-decoded-spec =
+pub outcome-spec : {M : Type 1} → statement M
+outcome-spec =
     tie.close
     (tie.spec
     enum-known-answer

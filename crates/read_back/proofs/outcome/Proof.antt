@@ -1,10 +1,10 @@
--- `answers::read` has each case of reading back as its outcome.
+-- `read_back::outcome` has each case of the answer as its outcome.
 use mathlib.Core.Path.{ap}
 use Rattle.read_back.specs.ReadingBack.{readBackOutcome}
-use Rattle.link_kit.proofs.Numbering.{numbered-by}
+use Rattle.outcomes.proofs.Held.{holds-by}
 use borrow.Author.Needs.{needs}
-use Rattle.link_kit.proofs.answers.read.Statement.{statement}
-use Rattle.link_kit.proofs.answers.read.Tie as tie
+use Rattle.read_back.proofs.outcome.Statement.{statement}
+use Rattle.read_back.proofs.outcome.Tie as tie
 
 enum-known-answer : tie.Need-enum-known-answer
 enum-known-answer c = search needs
@@ -31,19 +31,19 @@ one-value-requires-3 : tie.Need-one-value-requires-3
 one-value-requires-3 c κs = search needs
 
 returns : tie.Need-returns
-returns c = numbered-by (ap readBackOutcome (c .before .before .answer .given .1)) (c .one-value .ensures)
+returns c = holds-by (ap readBackOutcome (c .before .before .answer .given .1)) (c .one-value .ensures)
 
 returns-2 : tie.Need-returns-2
-returns-2 c = numbered-by (ap readBackOutcome (c .before .enum-told .given .1)) (c .one-value2 .ensures)
+returns-2 c = holds-by (ap readBackOutcome (c .before .enum-told .given .1)) (c .one-value2 .ensures)
 
 returns-3 : tie.Need-returns-3
-returns-3 c = numbered-by (ap readBackOutcome (c .before .enum-told2 .given .1)) (c .no-value .ensures)
+returns-3 c = holds-by (ap readBackOutcome (c .before .enum-told2 .given .1)) (c .no-value .ensures)
 
 returns-4 : tie.Need-returns-4
-returns-4 c = numbered-by (ap readBackOutcome (c .before .before .answer2 .given .1)) (c .one-value3 .ensures)
+returns-4 c = holds-by (ap readBackOutcome (c .before .before .answer2 .given .1)) (c .one-value3 .ensures)
 
-pub read-spec : {M : Type 1} → statement M
-read-spec =
+pub outcome-spec : {M : Type 1} → statement M
+outcome-spec =
     tie.close
     (tie.spec
     enum-known-answer
