@@ -11,8 +11,8 @@ use Rattle.trellis.specs.Demand.{allVertices, additions, selections}
 use Rattle.trellis.specs.Witness.{refutes, firstOf, overK, overJ, witnessAt, witness}
 use Rattle.table.specs.File.{wordCount, fileWord, fileWords, lengthBad, outside, sizeOutside, wordOutside, wordBad, orderBad, tableFile}
 use Rattle.merge.specs.Merging.{mapOf, written, merged, mergedTable, mergedFile, merging}
-use Rattle.section_file.specs.Usable.{higher, rising, inside, above, covered, apart, noTwins, noForwardTwins, noBackwardTwins, stepGood}
-use Rattle.section_file.specs.Usable.{stepEdge, sizesRight, countsRight, whole, statesRight, stepRight, usable}
+use Rattle.section_file.specs.Usable.{stepEdge, whole, sizesRight, edgesInside, countsRight, rising, statesRight, edgesAscend}
+use Rattle.section_file.specs.Usable.{onward, inward, noTwinsReached, noTwinsLeading, usable}
 use Rattle.read_back.specs.TableBytes.{tableBytes}
 use Rattle.read_back.specs.ReadingBack.{isSection, readingBack}
 use Rattle.paths.specs.Choice.{choose, chooseAll, best}
@@ -26,18 +26,13 @@ use Rattle.chain.specs.Decoding.{neededOf, bestOf, tableOf, found, fitted, fram
 use Rattle.cases.specs.Marked.{left, shown, AllShown}
 
 pub all-shown : AllShown
-unfolding run sum first isIn keep rank insert ascending lower alike symbol front back spliced symbolsBelow isLabel shares firstSharing key
-    keys vertexOf
-    vertexCount edgesAt edgeCount leaving pathsFrom packOnto wordOf wordsOf vertexCountOf edgeCountOf edgesBefore rootsPlace goalsPlace
-    pairsPlace
-    symbolsPlace rootState goalState edgeNumber stepEdges sectionWords joinedUp sectionOf allVertices additions selections refutes firstOf
-    overK overJ
-    witnessAt witness wordCount fileWord fileWords lengthBad outside sizeOutside wordOutside wordBad orderBad tableFile mapOf written merged
-    mergedTable mergedFile merging sectionLength all any within higher rising inside above covered apart noTwins noForwardTwins
-    noBackwardTwins
-    stepGood stepEdge sizesRight countsRight whole statesRight stepRight usable tableBytes isSection readingBack choose chooseAll best paths
-    capped
-    rootedAt chainPaths pathDistance bestPath costTable erasedAt symbolCost blockDistance stray fitsBlock sectionStart sectionAt unusable
-    sectionsBad
-    badSectionOf frameBad blockWords wordDistance blockBad neededOf bestOf tableOf found fitted framed decoding left shown flatMap
+unfolding run sum first isIn keep rank insert ascending lower alike symbol front back spliced symbolsBelow isLabel shares firstSharing
+    key keys vertexOf vertexCount edgesAt edgeCount leaving pathsFrom packOnto wordOf wordsOf vertexCountOf edgeCountOf edgesBefore
+    rootsPlace goalsPlace pairsPlace symbolsPlace rootState goalState edgeNumber stepEdges sectionWords joinedUp sectionOf allVertices
+    additions selections refutes firstOf overK overJ witnessAt witness wordCount fileWord fileWords lengthBad outside sizeOutside
+    wordOutside wordBad orderBad tableFile mapOf written merged mergedTable mergedFile merging sectionLength all any within stepEdge
+    whole sizesRight edgesInside countsRight rising statesRight edgesAscend onward inward noTwinsReached noTwinsLeading usable
+    tableBytes isSection readingBack choose chooseAll best paths capped rootedAt chainPaths pathDistance bestPath costTable erasedAt
+    symbolCost blockDistance stray fitsBlock sectionStart sectionAt unusable sectionsBad badSectionOf frameBad blockWords wordDistance
+    blockBad neededOf bestOf tableOf found fitted framed decoding left shown flatMap
 all-shown = refl

@@ -91,4 +91,3 @@ sizes-put l words {old} {one} {two} {new} {a} {b} {end} {x} {y} {z} {q} {n} {sta
   where
     same : q ∷ n ∷ states ∷ words ∷ [] ≡ qOf l ∷ nOf l ∷ statesOf l ∷ words ∷ []
     same = ap₂ (λ i r. i ∷ r) (q-is ∙ x-is) (ap₂ (λ i j. i ∷ j ∷ words ∷ []) (n-is ∙ y-is) (s-is ∙ z-is))
-

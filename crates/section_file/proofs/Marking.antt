@@ -1,5 +1,5 @@
--- Marks in a fixed array. One mark for each vertex that was met tells which vertices are met; for each vertex and symbol the vertex last met at the
--- other end tells whether two edges make twins: as long as none did, all edges of one vertex and symbol have that one vertex at the other end.
+-- Marks in a fixed array. A mark for each vertex that was met tells which vertices are met. For each vertex and symbol the vertex last met
+-- at the other end tells whether two edges make twins: as long as none did, all edges of that vertex and symbol end there.
 use mathlib.Core.Path.{_≡_, refl, sym, ap, ap₂, subst, _∙_}
 use mathlib.Core.Bool.{Bool, true, false, not, _&&_, _||_}
 use mathlib.Core.Logic.{_⊎_, inl, inr}
@@ -13,9 +13,9 @@ use lib.ListN.{length, getD, set, replicate, length-set, length-replicate, getD-
 use lib.Seq.{getD-set-same, getD-set-other}
 use lib.Dec.{eqb}
 use borrow.Author.Tests.{eq-eqb, ne-eqb, eqb-true, eqb-false}
-use Rattle.trellis.specs.Bounds.{mostWords}
+use Rattle.trellis.specs.Bounds.{mostQ, mostWords}
 use Rattle.trellis.specs.Lists.{one-if, all, any}
-use Rattle.section_file.specs.Usable.{covered, apart, noTwins}
+use Rattle.section_file.specs.inner.Steps.{covered, apart, noTwins}
 use Rattle.section_file.specs.inner.Places.{Vertices, Symbols, Marks}
 use Rattle.section_file.proofs.Tests.{all-of, all-fails, Passed, passed-start, passed-by, passed-all}
 use Rattle.trellis.proofs.Bools.{clash}
@@ -26,7 +26,7 @@ module _ {l : List ℕ} {at count : ℕ} where
   pub vertex-small : {k x v : ℕ} → Vertices l at count → k < count → x ≡ getD l (at + 2 * k) 0 → (v ≡ x) × (v < 65536) → v < mostWords
   vertex-small {k} s h e g = omega (arith, s .small k h, g .0)
 
-pub slot-of : {x v y w a b : ℕ} → x ≡ a → (v ≡ x) × (v < 65536) → y ≡ b → (w ≡ y) × (w < 65536) → 4 * v + w ≡ 4 * a + b
+pub slot-of : {x v y w a b : ℕ} → x ≡ a → (v ≡ x) × (v < 65536) → y ≡ b → (w ≡ y) × (w < 65536) → mostQ * v + w ≡ mostQ * a + b
 slot-of e f g h = omega (arith, f .0, h .0)
 
 -- ---- met or not
@@ -39,11 +39,14 @@ pub marking-start : (f : ℕ → ℕ) (count : ℕ) {marks : List ℕ} → marks
 unfolding any
 marking-start f count e = record {
   inside = omega arith;
-  so-far = record { long = ap length e ∙ length-replicate {A = ℕ} mostWords 0; marked = λ v h. ap (λ m. getD m v 0) e ∙ getD-replicate {A = ℕ} mostWords v 0 0 h };
+  so-far = record {
+    long = ap length e ∙ length-replicate {A = ℕ} mostWords 0;
+    marked = λ v h. ap (λ m. getD m v 0) e ∙ getD-replicate {A = ℕ} mostWords v 0 0 h;
+  };
 }
 
-pub marking-next : {f : ℕ → ℕ} {count : ℕ} {marks : List ℕ} {k x v : ℕ} → Marking f count marks k → k < count → x ≡ f k → (v ≡ x) × (v < 65536) → f k < mostWords
-    → Marking f count (set marks v 1) (k + 1)
+pub marking-next : {f : ℕ → ℕ} {count : ℕ} {marks : List ℕ} {k x v : ℕ} → Marking f count marks k → k < count → x ≡ f k
+    → (v ≡ x) × (v < 65536) → f k < mostWords → Marking f count (set marks v 1) (k + 1)
 unfolding any
 marking-next {f} {count} {marks} {k} {x} {v} m h e g small = record {
   inside = omega arith;
@@ -67,7 +70,8 @@ marking-next {f} {count} {marks} {k} {x} {v} m h e g small = record {
         let n : u < length marks = omega (arith, m .so-far .long) in
         ap (λ w. getD (set marks w 1) u 0) d ∙ getD-set-same marks u 1 0 n ∙ rw (eq-eqb (f k) u q) (met (any (λ j. eqb (f j) u) k))
     go u (no q) l =
-        getD-set-other marks v u 1 0 (λ d. q (sym v-is ∙ sym d)) ∙ m .so-far .marked u l ∙ rw (ne-eqb (f k) u q) (other (any (λ j. eqb (f j) u) k))
+        getD-set-other marks v u 1 0 (λ d. q (sym v-is ∙ sym d)) ∙ m .so-far .marked u l
+        ∙ rw (ne-eqb (f k) u q) (other (any (λ j. eqb (f j) u) k))
 
 pub marking-all : {f : ℕ → ℕ} {count : ℕ} {marks : List ℕ} {k : ℕ} → Marking f count marks k → count ≤ k → Marks f count marks
 marking-all {f} {count} {marks} {k} m h = let e : k ≡ count = omega (arith, m .inside) in subst (λ j. Marks f j marks) e (m .so-far)
@@ -91,13 +95,16 @@ module _ {f : ℕ → ℕ} {count : ℕ} {marks : List ℕ} (m : Marks f count m
 pub covered-fails : {f : ℕ → ℕ} {count vertices : ℕ} {marks : List ℕ} {v : ℕ} → Marks f count marks → vertices ≤ mostWords
     → Passed (λ v. any (λ k. eqb (f k) v) count) vertices v → v < vertices → getD marks v 0 ≡ 0 → false ≡ covered f count vertices
 unfolding covered
-covered-fails {f} {count} {vertices} {marks} {v} m few p h e = sym (all-fails (λ v. any (λ k. eqb (f k) v) count) vertices v h (unmet m v (omega arith) e))
+covered-fails {f} {count} {vertices} {marks} {v} m few p h e =
+    sym (all-fails (λ v. any (λ k. eqb (f k) v) count) vertices v h (unmet m v (omega arith) e))
 
 pub covered-next : {f : ℕ → ℕ} {count vertices : ℕ} {marks : List ℕ} {v : ℕ} → Marks f count marks → vertices ≤ mostWords
-    → Passed (λ v. any (λ k. eqb (f k) v) count) vertices v → v < vertices → (getD marks v 0 ≡ 0 → ⊥) → Passed (λ v. any (λ k. eqb (f k) v) count) vertices (v + 1)
+    → Passed (λ v. any (λ k. eqb (f k) v) count) vertices v → v < vertices → (getD marks v 0 ≡ 0 → ⊥)
+    → Passed (λ v. any (λ k. eqb (f k) v) count) vertices (v + 1)
 covered-next {f} {count} {vertices} {marks} {v} m few p h e = passed-by p h (met m v (omega arith) e)
 
-pub covered-all : {f : ℕ → ℕ} {count vertices : ℕ} {marks : List ℕ} {v : ℕ} → Marks f count marks → Passed (λ v. any (λ k. eqb (f k) v) count) vertices v → vertices ≤ v → true ≡ covered f count vertices
+pub covered-all : {f : ℕ → ℕ} {count vertices : ℕ} {marks : List ℕ} {v : ℕ} → Marks f count marks
+    → Passed (λ v. any (λ k. eqb (f k) v) count) vertices v → vertices ≤ v → true ≡ covered f count vertices
 unfolding covered
 covered-all m p h = passed-all p h
 
@@ -113,20 +120,21 @@ pub record Last (slot other : ℕ → ℕ) (k x seen : ℕ) : Type 0 where
 -- no two edges below k make twins, and seen has the other end for each slot that they have
 pub record Apart (one symbol other : ℕ → ℕ) (count : ℕ) (seen : List ℕ) (k : ℕ) : Type 0 where
   pub so-far : Passed (λ k. all (λ j. apart one symbol other j k) k) count k
-  pub long : length seen ≡ 4096
-  pub known : (j : ℕ) → j < k → getD seen (4 * one j + symbol j) 0 ≡ other j + 1
-  pub blank : (x : ℕ) → x < 4096 → (getD seen x 0 ≡ 0) ⊎ Last (λ j. 4 * one j + symbol j) other k x (getD seen x 0)
+  pub long : length seen ≡ mostQ * mostWords
+  pub known : (j : ℕ) → j < k → getD seen (mostQ * one j + symbol j) 0 ≡ other j + 1
+  pub blank : (x : ℕ) → x < mostQ * mostWords → (getD seen x 0 ≡ 0) ⊎ Last (λ j. mostQ * one j + symbol j) other k x (getD seen x 0)
 
 pub record Small (one symbol other : ℕ → ℕ) (count : ℕ) : Type 0 where
   pub ones : (k : ℕ) → k < count → one k < mostWords
-  pub symbols : (k : ℕ) → k < count → symbol k < 4
+  pub symbols : (k : ℕ) → k < count → symbol k < mostQ
   pub others : (k : ℕ) → k < count → other k < mostWords
 
 pub small-of : {l : List ℕ} {one symbols other count : ℕ} → Vertices l one count × Vertices l other count × Symbols l symbols count
     → Small (λ k. getD l (one + 2 * k) 0) (λ k. getD l (symbols + k) 0) (λ k. getD l (other + 2 * k) 0) count
 small-of s = record { ones = s .0 .small; symbols = s .2 .small; others = s .1 .small }
 
-pub slot-small : {one symbol other : ℕ → ℕ} {count k slot : ℕ} → Small one symbol other count → k < count → slot ≡ 4 * one k + symbol k → slot < 4096
+pub slot-small : {one symbol other : ℕ → ℕ} {count k slot : ℕ} → Small one symbol other count → k < count → slot ≡ mostQ * one k + symbol k
+    → slot < mostQ * mostWords
 slot-small {k = k} s h e = omega (arith, s .ones k h, s .symbols k h)
 
 module _ (one symbol other : ℕ → ℕ) where
@@ -134,13 +142,10 @@ module _ (one symbol other : ℕ → ℕ) where
   unfolding apart
   apart-of j k f = go (ℕ-discrete (one j) (one k)) (ℕ-discrete (symbol j) (symbol k))
     where
-      both : (b : Bool) → (not (b && false) || eqb (other j) (other k)) ≡ true
-      both true = refl
-      both false = refl
-
-      go : Dec (one j ≡ one k) → Dec (symbol j ≡ symbol k) → (not (eqb (one j) (one k) && eqb (symbol j) (symbol k)) || eqb (other j) (other k)) ≡ true
+      go : Dec (one j ≡ one k) → Dec (symbol j ≡ symbol k)
+          → not (eqb (one j) (one k) && (eqb (symbol j) (symbol k) && not (eqb (other j) (other k)))) ≡ true
       go (yes p) (yes q) = rw (eq-eqb (one j) (one k) p, eq-eqb (symbol j) (symbol k) q, eq-eqb (other j) (other k) (f p q))
-      go (yes p) (no q) = rw (ne-eqb (symbol j) (symbol k) q) (both (eqb (one j) (one k)))
+      go (yes p) (no q) = rw (eq-eqb (one j) (one k) p, ne-eqb (symbol j) (symbol k) q)
       go (no p) d = rw (ne-eqb (one j) (one k) p)
 
   apart-false : (j k : ℕ) → one j ≡ one k → symbol j ≡ symbol k → (other j ≡ other k → ⊥) → apart one symbol other j k ≡ false
@@ -157,30 +162,31 @@ module _ (one symbol other : ℕ → ℕ) where
       go (no r) = absurd (clash (sym e ∙ apart-false j k p q r))
 
 module _ {one symbol other : ℕ → ℕ} {count : ℕ} where
-  pub apart-start : {seen : List ℕ} → seen ≡ replicate 4096 0 → Apart one symbol other count seen 0
+  pub apart-start : {seen : List ℕ} → seen ≡ replicate (mostQ * mostWords) 0 → Apart one symbol other count seen 0
   apart-start e = record {
     so-far = passed-start;
-    long = ap length e ∙ length-replicate {A = ℕ} 4096 0;
+    long = ap length e ∙ length-replicate {A = ℕ} (mostQ * mostWords) 0;
     known = λ j h. absurd (not-suc-le-zero h);
-    blank = λ x h. inl (ap (λ s. getD s x 0) e ∙ getD-replicate {A = ℕ} 4096 x 0 0 h);
+    blank = λ x h. inl (ap (λ s. getD s x 0) e ∙ getD-replicate {A = ℕ} (mostQ * mostWords) x 0 0 h);
   }
 
-  module _ {seen : List ℕ} {k slot vertex : ℕ} (small : Small one symbol other count) (a : Apart one symbol other count seen k) (h : k < count)
-      (slot-is : slot ≡ 4 * one k + symbol k) (vertex-is : vertex ≡ other k) where
-    slot-low : slot < 4096
+  module _ {seen : List ℕ} {k slot vertex : ℕ} (small : Small one symbol other count) (a : Apart one symbol other count seen k)
+      (h : k < count) (slot-is : slot ≡ mostQ * one k + symbol k) (vertex-is : vertex ≡ other k) where
+    slot-low : slot < mostQ * mostWords
     slot-low = slot-small small h slot-is
 
     slot-inside : slot < length seen
     slot-inside = omega (arith, slot-low, a .long)
 
     -- the edges below k with the slot of k
-    same-slot : (j : ℕ) → j < k → 4 * one j + symbol j ≡ slot → (one j ≡ one k) × (symbol j ≡ symbol k)
+    same-slot : (j : ℕ) → j < k → mostQ * one j + symbol j ≡ slot → (one j ≡ one k) × (symbol j ≡ symbol k)
     same-slot j l e =
-        let s : symbol j < 4 = small .symbols j (omega arith) in
-        let r : symbol k < 4 = small .symbols k h in
+        let s : symbol j < mostQ = small .symbols j (omega arith) in
+        let r : symbol k < mostQ = small .symbols k h in
         (omega (arith, slot-is), omega (arith, slot-is))
 
-    pub twins-found : {b : Bool} → b ≡ (not (eqb (getD seen slot 0) 0) && not (eqb (getD seen slot 0) (vertex + 1))) → b ≡ true → false ≡ noTwins one symbol other count
+    pub twins-found : {b : Bool} → b ≡ (not (eqb (getD seen slot 0) 0) && not (eqb (getD seen slot 0) (vertex + 1))) → b ≡ true
+        → false ≡ noTwins one symbol other count
     unfolding noTwins
     twins-found {b} d t = go (a .blank slot slot-low)
       where
@@ -192,12 +198,13 @@ module _ {one symbol other : ℕ → ℕ} {count : ℕ} where
         facts : (eqb (getD seen slot 0) 0 ≡ false) × (eqb (getD seen slot 0) (vertex + 1) ≡ false)
         facts = seen-some _ _ (sym d ∙ t)
 
-        go : (getD seen slot 0 ≡ 0) ⊎ Last (λ j. 4 * one j + symbol j) other k slot (getD seen slot 0)
+        go : (getD seen slot 0 ≡ 0) ⊎ Last (λ j. mostQ * one j + symbol j) other k slot (getD seen slot 0)
             → false ≡ all (λ k. all (λ j. apart one symbol other j k) k) count
         go (inl e) = absurd (eqb-false (getD seen slot 0) 0 (facts .0) e)
         go (inr w) =
             let p = same-slot (w .at) (w .below) (w .here) in
-            let r : other (w .at) ≡ other k → ⊥ = λ e. eqb-false (getD seen slot 0) (vertex + 1) (facts .1) (w .is ∙ ap (λ v. v + 1) (e ∙ sym vertex-is)) in
+            let r : other (w .at) ≡ other k → ⊥ =
+            λ e. eqb-false (getD seen slot 0) (vertex + 1) (facts .1) (w .is ∙ ap (λ v. v + 1) (e ∙ sym vertex-is)) in
             sym (all-fails (λ k. all (λ j. apart one symbol other j k) k) count k h
             (all-fails (λ j. apart one symbol other j k) k (w .at) (w .below) (apart-false one symbol other (w .at) k (p .0) (p .1) r)))
 
@@ -206,7 +213,7 @@ module _ {one symbol other : ℕ → ℕ} {count : ℕ} where
     twins-not {b} d t = record {
       so-far = passed-by (a .so-far) h (all-of (λ j. apart one symbol other j k) k (λ j l. apart-of one symbol other j k (agree j l)));
       long = length-set seen slot (vertex + 1) ∙ a .long;
-      known = λ j l. after j (ℕ-discrete (4 * one j + symbol j) slot) l (ℕ-discrete j k);
+      known = λ j l. after j (ℕ-discrete (mostQ * one j + symbol j) slot) l (ℕ-discrete j k);
       blank = λ x l. blanks x l (ℕ-discrete x slot);
     }
       where
@@ -219,7 +226,7 @@ module _ {one symbol other : ℕ → ℕ} {count : ℕ} where
         agree j l p q = go (fine _ _ (sym d ∙ t))
           where
             here : getD seen slot 0 ≡ other j + 1
-            here = ap (λ x. getD seen x 0) (slot-is ∙ ap₂ (λ u v. 4 * u + v) (sym p) (sym q)) ∙ a .known j l
+            here = ap (λ x. getD seen x 0) (slot-is ∙ ap₂ (λ u v. mostQ * u + v) (sym p) (sym q)) ∙ a .known j l
 
             go : (eqb (getD seen slot 0) 0 ≡ true) ⊎ (eqb (getD seen slot 0) (vertex + 1) ≡ true) → other j ≡ other k
             go (inl e) = let z = eqb-true (getD seen slot 0) 0 e in absurd (omega (arith, here))
@@ -228,17 +235,19 @@ module _ {one symbol other : ℕ → ℕ} {count : ℕ} where
         put : getD (set seen slot (vertex + 1)) slot 0 ≡ vertex + 1
         put = getD-set-same seen slot (vertex + 1) 0 slot-inside
 
-        after : (j : ℕ) → Dec (4 * one j + symbol j ≡ slot) → j < k + 1 → Dec (j ≡ k) → getD (set seen slot (vertex + 1)) (4 * one j + symbol j) 0 ≡ other j + 1
+        after : (j : ℕ) → Dec (mostQ * one j + symbol j ≡ slot) → j < k + 1 → Dec (j ≡ k)
+            → getD (set seen slot (vertex + 1)) (mostQ * one j + symbol j) 0 ≡ other j + 1
         after j (yes e) l (yes q) = ap (λ x. getD (set seen slot (vertex + 1)) x 0) e ∙ put ∙ ap (λ v. v + 1) (vertex-is ∙ ap other (sym q))
         after j (yes e) l (no q) =
             let m : j < k = omega arith in
             let p = same-slot j m e in
             ap (λ x. getD (set seen slot (vertex + 1)) x 0) e ∙ put ∙ ap (λ v. v + 1) (vertex-is ∙ sym (agree j m (p .0) (p .1)))
-        after j (no e) l (yes q) = absurd (e (ap₂ (λ u v. 4 * u + v) (ap one q) (ap symbol q) ∙ sym slot-is))
-        after j (no e) l (no q) = getD-set-other seen slot (4 * one j + symbol j) (vertex + 1) 0 e ∙ a .known j (omega arith)
+        after j (no e) l (yes q) = absurd (e (ap₂ (λ u v. mostQ * u + v) (ap one q) (ap symbol q) ∙ sym slot-is))
+        after j (no e) l (no q) = getD-set-other seen slot (mostQ * one j + symbol j) (vertex + 1) 0 e ∙ a .known j (omega arith)
 
-        blanks : (x : ℕ) → x < 4096 → Dec (x ≡ slot)
-            → (getD (set seen slot (vertex + 1)) x 0 ≡ 0) ⊎ Last (λ j. 4 * one j + symbol j) other (k + 1) x (getD (set seen slot (vertex + 1)) x 0)
+        blanks : (x : ℕ) → x < mostQ * mostWords → Dec (x ≡ slot)
+            → (getD (set seen slot (vertex + 1)) x 0 ≡ 0)
+            ⊎ Last (λ j. mostQ * one j + symbol j) other (k + 1) x (getD (set seen slot (vertex + 1)) x 0)
         blanks x l (yes e) = inr (record {
           at = k;
           below = omega arith;
@@ -250,8 +259,9 @@ module _ {one symbol other : ℕ → ℕ} {count : ℕ} where
             same : getD (set seen slot (vertex + 1)) x 0 ≡ getD seen x 0
             same = getD-set-other seen slot x (vertex + 1) 0 e
 
-            old : (getD seen x 0 ≡ 0) ⊎ Last (λ j. 4 * one j + symbol j) other k x (getD seen x 0)
-                → (getD (set seen slot (vertex + 1)) x 0 ≡ 0) ⊎ Last (λ j. 4 * one j + symbol j) other (k + 1) x (getD (set seen slot (vertex + 1)) x 0)
+            old : (getD seen x 0 ≡ 0) ⊎ Last (λ j. mostQ * one j + symbol j) other k x (getD seen x 0)
+                → (getD (set seen slot (vertex + 1)) x 0 ≡ 0)
+                ⊎ Last (λ j. mostQ * one j + symbol j) other (k + 1) x (getD (set seen slot (vertex + 1)) x 0)
             old (inl z) = inl (same ∙ z)
             old (inr w) = inr (record { at = w .at; below = omega (arith, w .below); here = w .here; is = same ∙ w .is })
 

@@ -1,5 +1,5 @@
--- What merging writes is usable: our section of a rectangular table within bounds is sound. Its counts are no greater than the number of words, its
--- states are the words' states in order, each of its edges is some word's and each vertex is on some word's path; and it has no twins.
+-- What merging writes is usable: our section of a rectangular table within bounds is sound. Its counts are no greater than the number of
+-- words, its states are the words' states in order, each edge is some word's, each vertex is on some word's path, and it has no twins.
 use mathlib.Core.Path.{_≡_, refl, sym, ap, subst, _∙_}
 use mathlib.Core.Bool.{Bool, true}
 use mathlib.Core.List.{List, [], _∷_}
@@ -45,7 +45,8 @@ pub record Fitting (q n S : ℕ) (words : List Word) : Type 0 where
   pub rectangular : Rectangular n words
 
 -- places of an ascending list ascend
-ascends-at : {A : Type 0} (less : A → A → Bool) (d : A) (l : List A) → Ascends less l → (i j : ℕ) → i < j → j < length l → T (less (getD l i d) (getD l j d))
+ascends-at : {A : Type 0} (less : A → A → Bool) (d : A) (l : List A) → Ascends less l → (i j : ℕ) → i < j → j < length l
+    → T (less (getD l i d) (getD l j d))
 ascends-at less d [] a i j h b = absurd (not-suc-le-zero b)
 ascends-at less d (x ∷ l) a i zero h b = absurd (not-suc-le-zero h)
 ascends-at less d (x ∷ l) a zero (suc j) h b = a .0 (getD l j d) (in-place d l j (omega arith))
@@ -62,15 +63,19 @@ module _ (q n S : ℕ) (table : List Word) (A : Fitting q n S table) where
 
   edges-some : (t : ℕ) → 1 ≤ edgeCount n table t
   unfolding ours edgeCount
-  edges-some t = let p = place-of (edge 0 0 0) (edgesAt n table t) (edgeOf n table t 0) (edge-in n table t 0 (A .some)) in omega (arith, p .below)
+  edges-some t =
+      let p = place-of (edge 0 0 0) (edgesAt n table t) (edgeOf n table t 0) (edge-in n table t 0 (A .some)) in
+      omega (arith, p .below)
 
   -- ---- states
 
-  state-at : (t v : ℕ) (state : Word → ℕ) → ((i : ℕ) → key n table t i ≡ state (wordAt table i)) → ((w : Word) → w ∈ table → state w < S) → v < vertexCount n table t
-      → getD (keys n table t) v 0 < S
+  state-at : (t v : ℕ) (state : Word → ℕ) → ((i : ℕ) → key n table t i ≡ state (wordAt table i)) → ((w : Word) → w ∈ table → state w < S)
+      → v < vertexCount n table t → getD (keys n table t) v 0 < S
   unfolding keys vertexCount
   state-at t v state is low h =
-      let F = of-each (key n table t) (length table) (getD (keys n table t) v 0) (of-ascending ltb numbers _ _ (in-place 0 (keys n table t) v h)) in
+      let F =
+      of-each (key n table t) (length table) (getD (keys n table t) v 0)
+      (of-ascending ltb numbers _ _ (in-place 0 (keys n table t) v h)) in
       omega (arith, F .is, is (F .at), low (wordAt table (F .at)) (word-in table (F .at) (F .below)))
 
   keys-rise : (t u v : ℕ) → u < v → v < vertexCount n table t → getD (keys n table t) u 0 < getD (keys n table t) v 0
@@ -89,7 +94,9 @@ module _ (q n S : ℕ) (table : List Word) (A : Fitting q n S table) where
       let F = edge-of n table t (getD (edgesAt n table t) k (edge 0 0 0)) (in-place (edge 0 0 0) (edgesAt n table t) k b) in
       record { at = F .at; below = F .below; is = edge-is t k h b ∙ F .is }
 
-  edge-place : (t i : ℕ) → t < n → i < length table → Hit (λ k. stepEdge l t k .from) (edgeCount n table t) (vertexOf n table t i) × Hit (λ k. stepEdge l t k .to) (edgeCount n table t) (vertexOf n table (suc t) i)
+  edge-place : (t i : ℕ) → t < n → i < length table
+      → Hit (λ k. stepEdge l t k .from) (edgeCount n table t) (vertexOf n table t i)
+      × Hit (λ k. stepEdge l t k .to) (edgeCount n table t) (vertexOf n table (suc t) i)
   unfolding ours edgeCount
   edge-place t i h b =
       let p = place-of (edge 0 0 0) (edgesAt n table t) (edgeOf n table t i) (edge-in n table t i b) in
@@ -102,9 +109,11 @@ module _ (q n S : ℕ) (table : List Word) (A : Fitting q n S table) where
   unfolding ours
   vertex-word t v h = vertex-of n table t v (in-each (λ v. v) (vertexCount n table t) v v h refl)
 
-  edges-rise : (t j k : ℕ) → j < k → k < edgeCount n table t → T (edgeLess (getD (edgesAt n table t) j (edge 0 0 0)) (getD (edgesAt n table t) k (edge 0 0 0)))
+  edges-rise : (t j k : ℕ) → j < k → k < edgeCount n table t
+      → T (edgeLess (getD (edgesAt n table t) j (edge 0 0 0)) (getD (edgesAt n table t) k (edge 0 0 0)))
   unfolding edgesAt edgeCount
-  edges-rise t j k h b = ascends-at edgeLess (edge 0 0 0) (edgesAt n table t) (ascends edgeLess edges-order (each (edgeOf n table t) (length table))) j k h b
+  edges-rise t j k h b =
+      ascends-at edgeLess (edge 0 0 0) (edgesAt n table t) (ascends edgeLess edges-order (each (edgeOf n table t) (length table))) j k h b
 
   -- ---- the section
 
@@ -141,21 +150,33 @@ module _ (q n S : ℕ) (table : List Word) (A : Fitting q n S table) where
     edgesFrom = λ t h. omega (arith, ec t (deep h), edges-some t);
     edgesTo = λ t h. omega (arith, ec t (deep h), edges-few n table t, A .few);
     whole = omega (arith, own-length q n S table);
-    rootsBelow = λ v h. let b : v < vertexCount n table 0 = omega (arith, vc 0 (omega arith)) in omega (arith, own-root q n S table v b, state-at 0 v (λ w. w .root) (key-root n table) (A .rootsBelow) b);
+    rootsBelow = λ v h.
+        let b : v < vertexCount n table 0 = omega (arith, vc 0 (omega arith)) in
+        omega (arith, own-root q n S table v b, state-at 0 v (λ w. w .root) (key-root n table) (A .rootsBelow) b);
     rootsAscend = λ u v h k.
         let b : v < vertexCount n table 0 = omega (arith, vc 0 (omega arith)) in
         omega (arith, own-root q n S table u (omega arith), own-root q n S table v b, keys-rise 0 u v h b);
-    goalsBelow = λ v h. let b : v < vertexCount n table n = omega (arith, last) in omega (arith, own-goal q n S table v b, state-at n v (λ w. w .goal) (λ i. key-goal n table i (A .table .some)) (A .goalsBelow) b);
+    goalsBelow = λ v h.
+        let b : v < vertexCount n table n = omega (arith, last) in
+        omega (arith, own-goal q n S table v b, state-at n v (λ w. w .goal) (λ i. key-goal n table i (A .table .some)) (A .goalsBelow) b);
     goalsAscend = λ u v h k.
         let b : v < vertexCount n table n = omega (arith, last) in
         omega (arith, own-goal q n S table u (omega arith), own-goal q n S table v b, keys-rise n u v h b);
-    fromBelow = λ t k h b. let F = edge-at t k h b in omega (arith, ap (λ (e : Edge). e .from) (F .is), vertex-below n table t (F .at) (F .below), vc t (omega (arith, deep h)));
-    symbolBelow = λ t k h b. let F = edge-at t k h b in omega (arith, ap (λ (e : Edge). e .symbol) (F .is), A .symbolsBelow (wordAt table (F .at)) (word-in table (F .at) (F .below)) t (deep h));
-    toBelow = λ t k h b. let F = edge-at t k h b in omega (arith, ap (λ (e : Edge). e .to) (F .is), vertex-below n table (suc t) (F .at) (F .below), vc (suc t) (deep h));
+    fromBelow = λ t k h b.
+        let F = edge-at t k h b in
+        omega (arith, ap (λ (e : Edge). e .from) (F .is), vertex-below n table t (F .at) (F .below), vc t (omega (arith, deep h)));
+    symbolBelow = λ t k h b.
+        let F = edge-at t k h b in
+        let s = A .symbolsBelow (wordAt table (F .at)) (word-in table (F .at) (F .below)) t (deep h) in
+        omega (arith, ap (λ (e : Edge). e .symbol) (F .is));
+    toBelow = λ t k h b.
+        let F = edge-at t k h b in
+        omega (arith, ap (λ (e : Edge). e .to) (F .is), vertex-below n table (suc t) (F .at) (F .below), vc (suc t) (deep h));
     edgesAscend = λ t j k h a b.
         let m : k < edgeCount n table t = omega (arith, ec t (deep h)) in
         subst (λ (e : Edge). EdgeBefore e (stepEdge l t k)) (sym (edge-is t j (deep h) (omega arith)))
-        (subst (λ (e : Edge). EdgeBefore (getD (edgesAt n table t) j (edge 0 0 0)) e) (sym (edge-is t k (deep h) m)) (lower-yes _ _ _ _ _ _ (edges-rise t j k a m)));
+        (subst (λ (e : Edge). EdgeBefore (getD (edgesAt n table t) j (edge 0 0 0)) e) (sym (edge-is t k (deep h) m))
+        (lower-yes _ _ _ _ _ _ (edges-rise t j k a m)));
     onward = λ t v h b.
         let F = vertex-word t v (omega (arith, vc t (omega (arith, deep h)))) in
         let w = edge-place t (F .at) (deep h) (F .below) .0 in
@@ -170,14 +191,16 @@ module _ (q n S : ℕ) (table : List Word) (A : Fitting q n S table) where
         let E = edge-at t k i b in
         ap (λ (x : Edge). x .to) (F .is)
         ∙ forward-one n table (A .table) (vertexOf n table) O t (F .at) (E .at) (deep h) (F .below) (E .below)
-        (sym (ap (λ (x : Edge). x .from) (F .is)) ∙ d ∙ ap (λ (x : Edge). x .from) (E .is)) (sym (ap (λ (x : Edge). x .symbol) (F .is)) ∙ e ∙ ap (λ (x : Edge). x .symbol) (E .is))
+        (sym (ap (λ (x : Edge). x .from) (F .is)) ∙ d ∙ ap (λ (x : Edge). x .from) (E .is))
+        (sym (ap (λ (x : Edge). x .symbol) (F .is)) ∙ e ∙ ap (λ (x : Edge). x .symbol) (E .is))
         ∙ sym (ap (λ (x : Edge). x .to) (E .is));
     backward = λ t j k p h a b d e.
         let F = edge-at t j h a in
         let E = edge-at t k h b in
         ap (λ (x : Edge). x .from) (F .is)
         ∙ backward-one n table (A .table) (vertexOf n table) O t (F .at) (E .at) p (deep h) (F .below) (E .below)
-        (sym (ap (λ (x : Edge). x .to) (F .is)) ∙ d ∙ ap (λ (x : Edge). x .to) (E .is)) (sym (ap (λ (x : Edge). x .symbol) (F .is)) ∙ e ∙ ap (λ (x : Edge). x .symbol) (E .is))
+        (sym (ap (λ (x : Edge). x .to) (F .is)) ∙ d ∙ ap (λ (x : Edge). x .to) (E .is))
+        (sym (ap (λ (x : Edge). x .symbol) (F .is)) ∙ e ∙ ap (λ (x : Edge). x .symbol) (E .is))
         ∙ sym (ap (λ (x : Edge). x .from) (E .is));
   }
 

@@ -1,9 +1,11 @@
--- The words of our section are the table's: read off its paths they are the same list, so reading back gives the table that was merged. A path in a
--- list of paths is a path step by step and the other way round, our section's paths carry just the table's words, and both lists ascend strictly.
+-- The words of our section are the table's: read off its paths they are the same list, so reading back gives the table that was merged.
+-- A path in a list of paths is a path step by step and the other way round, our section's paths carry just the table's words, and both
+-- lists ascend strictly.
 use mathlib.Core.Path.{_≡_, refl, sym, ap, ap₂, subst, _∙_}
 use mathlib.Core.Bool.{cond}
 use mathlib.Core.Logic.{_⊎_, inl, inr}
-use mathlib.Core.List.{List, [], _∷_, _++_, map, List·Memᴰ·head, List·Memᴰ·tail, List·Memᴰ·not-nil, List·Memᴰ·cases-cons, List·Memᴰ·eq-of-singleton, Memᴰ·cast, Memᴰ·map, Memᴰ·of-map}
+use mathlib.Core.List.{List, [], _∷_, _++_, map, List·Memᴰ·head, List·Memᴰ·tail, List·Memᴰ·not-nil, List·Memᴰ·cases-cons}
+use mathlib.Core.List.{List·Memᴰ·eq-of-singleton, Memᴰ·cast, Memᴰ·map, Memᴰ·of-map}
 use Prim.Native.Nat.{ℕ, zero, suc, _+_, _-_, _*_, _/_, _%_, _^_, _≤_, _<_}
 use native.Mathlib.Omega.{arith}
 use native.Mathlib.Nat.{add-zero, zero-add, not-suc-le-zero, pow-suc}
@@ -40,7 +42,8 @@ pack-snoc x [] a = refl
 pack-snoc x (u ∷ us) a = pack-snoc (x * 4 + u) us a
 
 pack-more : (a : ℕ → ℕ) (n : ℕ) → packOnto 0 (run a 0 (suc n)) ≡ packOnto 0 (run a 0 n) * 4 + a n
-pack-more a n = ap (packOnto 0) (run-snoc a 0 n) ∙ pack-snoc 0 (run a 0 n) (a (0 + n)) ∙ ap (λ k. packOnto 0 (run a 0 n) * 4 + a k) (zero-add n)
+pack-more a n =
+    ap (packOnto 0) (run-snoc a 0 n) ∙ pack-snoc 0 (run a 0 n) (a (0 + n)) ∙ ap (λ k. packOnto 0 (run a 0 n) * 4 + a k) (zero-add n)
 
 pack-short : (a : ℕ → ℕ) (n : ℕ) → ((u : ℕ) → u < n → a u < 4) → packOnto 0 (run a 0 n) < 4 ^ n
 unfolding packOnto run
@@ -58,7 +61,8 @@ pack-symbol a (suc n) h u b = ap (symbol (suc n) u) (pack-more a n) ∙ go (ℕ-
     go (yes e) r =
         let k = h n (omega arith) in
         let q : (packOnto 0 (run a 0 n) * 4 + a n) % 4 ≡ a n = omega arith in
-        ap (λ v. symbol (suc n) v (packOnto 0 (run a 0 n) * 4 + a n)) e ∙ symbol-last n (packOnto 0 (run a 0 n) * 4 + a n) ∙ q ∙ ap a (sym e)
+        ap (λ v. symbol (suc n) v (packOnto 0 (run a 0 n) * 4 + a n)) e ∙ symbol-last n (packOnto 0 (run a 0 n) * 4 + a n) ∙ q
+        ∙ ap a (sym e)
     go (no e) r =
         let k = h n (omega arith) in
         let q : (packOnto 0 (run a 0 n) * 4 + a n) / 4 ≡ packOnto 0 (run a 0 n) = omega arith in
@@ -105,15 +109,20 @@ module _ (edges : ℕ → List Edge) where
     a = upTo t (e .symbol) (w .a);
     start = up-here t v (w .x);
     stops = let s : t + suc k ≡ suc t + k = omega arith in up-behind t v (w .x) (t + suc k) (omega arith) ∙ ap (w .x) s ∙ w .stops;
-    spells = ap₂ (λ b l. b ∷ l) (up-here t (e .symbol) (w .a)) (run-same (upTo t (e .symbol) (w .a)) (w .a) (suc t) k (λ j h. up-behind t (e .symbol) (w .a) (suc t + j) (omega arith)) ∙ w .spells);
+    spells =
+        let r = run-same (upTo t (e .symbol) (w .a)) (w .a) (suc t) k (λ j h. up-behind t (e .symbol) (w .a) (suc t + j) (omega arith)) in
+        ap₂ (λ b l. b ∷ l) (up-here t (e .symbol) (w .a)) (r ∙ w .spells);
     takes = λ u b c. step u b c (ℕ-discrete u t);
   }
     where
-      step : (u : ℕ) → t ≤ u → u < t + suc k → Dec (u ≡ t) → edge (upTo t v (w .x) u) (upTo t (e .symbol) (w .a) u) (upTo t v (w .x) (suc u)) ∈ edges u
+      step : (u : ℕ) → t ≤ u → u < t + suc k → Dec (u ≡ t)
+          → edge (upTo t v (w .x) u) (upTo t (e .symbol) (w .a) u) (upTo t v (w .x) (suc u)) ∈ edges u
       step u b c (yes d) = subst (λ i. edge (upTo t v (w .x) i) (upTo t (e .symbol) (w .a) i) (upTo t v (w .x) (suc i)) ∈ edges i) (sym d)
-          (Memᴰ·cast (λ i. edge ((up-here t v (w .x) ∙ sym f) i) (up-here t (e .symbol) (w .a) i) ((up-behind t v (w .x) (suc t) (omega arith) ∙ w .start) i)) m)
+          (Memᴰ·cast (λ i. edge ((up-here t v (w .x) ∙ sym f) i) (up-here t (e .symbol) (w .a) i)
+          ((up-behind t v (w .x) (suc t) (omega arith) ∙ w .start) i)) m)
       step u b c (no d) = Memᴰ·cast
-          (λ i. edge (up-behind t v (w .x) u (omega arith) i) (up-behind t (e .symbol) (w .a) u (omega arith) i) (up-behind t v (w .x) (suc u) (omega arith) i)) (w .takes u (omega arith) (omega arith))
+          (λ i. edge (up-behind t v (w .x) u (omega arith) i) (up-behind t (e .symbol) (w .a) u (omega arith) i)
+          (up-behind t v (w .x) (suc u) (omega arith) i)) (w .takes u (omega arith) (omega arith))
 
   pub walk-of : (k t v : ℕ) (p : Path) → p ∈ pathsFrom edges k t v → Walk k t v p
   unfolding pathsFrom run
@@ -131,11 +140,13 @@ module _ (edges : ℕ → List Edge) where
       let z = of-flatMap (λ e. map (along e) (pathsFrom edges k (suc t) (e .to))) (leaving v (edges t)) p m in
       let y = Memᴰ·of-map (along (z .source)) (pathsFrom edges k (suc t) (z .source .to)) (z .holds) in
       subst (Walk (suc k) t v) (y .2)
-      (walk-on k t v (z .source) (y .0) (listed-of v (edges t) (z .source) (z .listed)) (from-of v (edges t) (z .source) (z .listed)) (walk-of k (suc t) (z .source .to) (y .0) (y .1)))
+      (walk-on k t v (z .source) (y .0) (listed-of v (edges t) (z .source) (z .listed)) (from-of v (edges t) (z .source) (z .listed))
+      (walk-of k (suc t) (z .source .to) (y .0) (y .1)))
 
 -- ---- strictly ascending lists of words with the same words are the same
 
-pub ordered-same : (l k : List Word) → Ordered Before l → Ordered Before k → ((w : Word) → w ∈ l → w ∈ k) → ((w : Word) → w ∈ k → w ∈ l) → l ≡ k
+pub ordered-same : (l k : List Word) → Ordered Before l → Ordered Before k → ((w : Word) → w ∈ l → w ∈ k) → ((w : Word) → w ∈ k → w ∈ l)
+    → l ≡ k
 ordered-same [] [] a b f g = refl
 ordered-same [] (y ∷ k) a b f g = absurd (List·Memᴰ·not-nil (g y (List·Memᴰ·head refl)))
 ordered-same (x ∷ l) [] a b f g = absurd (List·Memᴰ·not-nil (f x (List·Memᴰ·head refl)))
@@ -157,7 +168,9 @@ ordered-same (x ∷ l) (y ∷ k) (leads p a) (leads q b) f g =
 
 ordered-table : (l : List Word) → ((i j : ℕ) → i < j → j < length l → Before (wordAt l i) (wordAt l j)) → Ordered Before l
 ordered-table [] h = ended
-ordered-table (x ∷ l) h = leads (λ y m. let p = place-of (word 0 0 0) l y m in subst (Before x) (p .is) (h 0 (suc (p .at)) (omega arith) (omega (arith, p .below))))
+ordered-table (x ∷ l) h =
+    leads
+    (λ y m. let p = place-of (word 0 0 0) l y m in subst (Before x) (p .is) (h 0 (suc (p .at)) (omega arith) (omega (arith, p .below))))
     (ordered-table l (λ i j a b. h (suc i) (suc j) (omega arith) (omega arith)))
 
 -- ---- our section
@@ -197,7 +210,8 @@ module _ (q n S : ℕ) (table : List Word) (A : Fitting q n S table) where
     end-low =
         let h : n - 1 < n = omega (arith, A .table .some) in
         let e : suc (n - 1) ≡ n = omega (arith, A .table .some) in
-        subst (λ u. x u < vertexCount n table u) e (vertex-low (suc (n - 1)) (x (suc (n - 1))) (D .joins (n - 1) h _ (P .takes (n - 1) h) .1))
+        subst (λ u. x u < vertexCount n table u) e
+        (vertex-low (suc (n - 1)) (x (suc (n - 1))) (D .joins (n - 1) h _ (P .takes (n - 1) h) .1))
 
   -- a word of the table is read off its path
   word-in : (w : Word) → w ∈ table → w ∈ sectionWords l
@@ -207,16 +221,22 @@ module _ (q n S : ℕ) (table : List Word) (A : Fitting q n S table) where
       let x = P .x in
       let a = P .a in
       let small : (u : ℕ) → u < n → a u < 4 = λ u h. omega (arith, P .carries .symbols u h, A .symbolsBelow w m u h, A .qTo) in
-      let p = in-paths (stepEdges l) x a n 0 (λ u b c. steps-are u (omega (arith, zero-add n)) _ (P .path .takes u (omega (arith, zero-add n)))) in
+      let p =
+      in-paths (stepEdges l) x a n 0
+      (λ u b c. steps-are u (omega (arith, zero-add n)) _ (P .path .takes u (omega (arith, zero-add n)))) in
       let label : packOnto 0 (run a 0 n) ≡ w .label =
-      by-symbols n (packOnto 0 (run a 0 n)) (w .label) (pack-short a n small) (A .table .fits w m) (λ t h. pack-symbol a n small t h ∙ P .carries .symbols t h) in
+      by-symbols n (packOnto 0 (run a 0 n)) (w .label) (pack-short a n small) (A .table .fits w m)
+      (λ t h. pack-symbol a n small t h ∙ P .carries .symbols t h) in
       let low = start-low x a (P .path) in
       let root : rootState l (x 0) ≡ w .root = root-is (x 0) low ∙ P .carries .root in
-      let goal : goalState l (x (0 + n)) ≡ w .goal = ap (λ k. goalState l (x k)) (zero-add n) ∙ goal-is (x n) (end-low x a (P .path)) ∙ P .carries .goal in
+      let goal : goalState l (x (0 + n)) ≡ w .goal =
+      ap (λ k. goalState l (x k)) (zero-add n) ∙ goal-is (x n) (end-low x a (P .path)) ∙ P .carries .goal in
       let e : w ≡ word (rootState l (x 0)) (packOnto 0 (run a 0 n)) (goalState l (x (0 + n))) = sym (word-eq root label goal) in
-      in-flatMap (λ v. map (wordOf (rootState l) (goalState l) v) (pathsFrom (stepEdges l) (nOf l) 0 v)) (each (λ v. v) (vertexCountOf l 0)) w (x 0)
+      in-flatMap (λ v. map (wordOf (rootState l) (goalState l) v) (pathsFrom (stepEdges l) (nOf l) 0 v))
+      (each (λ v. v) (vertexCountOf l 0)) w (x 0)
       (in-each (λ v. v) (vertexCountOf l 0) (x 0) (x 0) (omega (arith, own-vertex-count q n S table 0 (omega arith))) refl)
-      (Memᴰ·cast e (Memᴰ·map (wordOf (rootState l) (goalState l) (x 0)) (subst (λ k. record { symbols = run a 0 n; end = x (0 + n) } ∈ pathsFrom (stepEdges l) k 0 (x 0)) (sym (own-n q n S table)) p)))
+      (Memᴰ·cast e (Memᴰ·map (wordOf (rootState l) (goalState l) (x 0))
+      (subst (λ k. record { symbols = run a 0 n; end = x (0 + n) } ∈ pathsFrom (stepEdges l) k 0 (x 0)) (sym (own-n q n S table)) p)))
 
   -- a word that is read off a path is one of the table
   word-of : (w : Word) → w ∈ sectionWords l → w ∈ table
@@ -224,20 +244,28 @@ module _ (q n S : ℕ) (table : List Word) (A : Fitting q n S table) where
       let s = own-sound q n S table A in
       let R = read-of s w m in
       let e = own-n q n S table in
-      let listed : R .path ∈ pathsFrom (stepEdges l) n 0 (R .vertex) = subst (λ k. R .path ∈ pathsFrom (stepEdges l) k 0 (R .vertex)) e (R .listed) in
+      let listed : R .path ∈ pathsFrom (stepEdges l) n 0 (R .vertex) =
+      subst (λ k. R .path ∈ pathsFrom (stepEdges l) k 0 (R .vertex)) e (R .listed) in
       let W = walk-of (stepEdges l) n 0 (R .vertex) (R .path) listed in
       let x = W .x in
       let a = W .a in
-      let P : IsPath n (ours n table) x a = record { takes = λ t h. steps-of t h _ (W .takes t (omega arith) (omega (arith, zero-add n))) } in
+      let P : IsPath n (ours n table) x a =
+      record { takes = λ t h. steps-of t h _ (W .takes t (omega arith) (omega (arith, zero-add n))) } in
       let K = D .noMore x a P in
-      let small : (u : ℕ) → u < n → a u < 4 = λ u h. omega (arith, K .carried .symbols u h, A .symbolsBelow (K .word) (K .listed) u h, A .qTo) in
+      let small : (u : ℕ) → u < n → a u < 4 =
+      λ u h. omega (arith, K .carried .symbols u h, A .symbolsBelow (K .word) (K .listed) u h, A .qTo) in
       let label : w .label ≡ packOnto 0 (run a 0 n) = ap (λ (v : Word). v .label) (R .is) ∙ ap (packOnto 0) (sym (W .spells)) in
       let same : packOnto 0 (run a 0 n) ≡ K .word .label =
-      by-symbols n (packOnto 0 (run a 0 n)) (K .word .label) (pack-short a n small) (A .table .fits (K .word) (K .listed)) (λ t h. pack-symbol a n small t h ∙ K .carried .symbols t h) in
-      let root : w .root ≡ K .word .root = ap (λ (v : Word). v .root) (R .is) ∙ ap (rootState l) (sym (W .start)) ∙ root-is (x 0) (start-low x a P) ∙ K .carried .root in
-      let goal : w .goal ≡ K .word .goal = ap (λ (v : Word). v .goal) (R .is) ∙ ap (goalState l) (sym (W .stops) ∙ ap x (zero-add n)) ∙ goal-is (x n) (end-low x a P) ∙ K .carried .goal in
+      by-symbols n (packOnto 0 (run a 0 n)) (K .word .label) (pack-short a n small) (A .table .fits (K .word) (K .listed))
+      (λ t h. pack-symbol a n small t h ∙ K .carried .symbols t h) in
+      let root : w .root ≡ K .word .root =
+      ap (λ (v : Word). v .root) (R .is) ∙ ap (rootState l) (sym (W .start)) ∙ root-is (x 0) (start-low x a P) ∙ K .carried .root in
+      let goal : w .goal ≡ K .word .goal =
+      ap (λ (v : Word). v .goal) (R .is) ∙ ap (goalState l) (sym (W .stops) ∙ ap x (zero-add n)) ∙ goal-is (x n) (end-low x a P)
+      ∙ K .carried .goal in
       Memᴰ·cast (word-eq root (label ∙ same) goal) (K .listed)
 
   -- the words of our section, in their order, are the table
   pub own-section-words : sectionWords (sectionOf q n S table) ≡ table
-  own-section-words = ordered-same (sectionWords l) table (words-ascend (own-sound q n S table A)) (ordered-table table (A .table .ascends)) word-of word-in
+  own-section-words =
+      ordered-same (sectionWords l) table (words-ascend (own-sound q n S table A)) (ordered-table table (A .table .ascends)) word-of word-in

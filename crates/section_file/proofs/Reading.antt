@@ -1,5 +1,5 @@
--- How the code reads a section's numbers and compares them: each law takes what the calls on the way ensure, over plain variables, and gives the
--- definition that is promised. They hold because the code goes to the places that the definitions name, in the same order.
+-- How the code reads a section's numbers and compares them: each law takes what the calls on the way ensure, over plain variables, and
+-- gives the definition that is promised. They hold because the code goes to the places that the definitions name, in the same order.
 use mathlib.Core.Path.{_≡_, refl, sym, ap, _∙_}
 use mathlib.Core.Bool.{Bool, true, false, not, _&&_}
 use mathlib.Core.List.{List}
@@ -7,15 +7,20 @@ use Prim.Native.Nat.{ℕ, zero, suc, _+_, _-_, _*_, _≤_, _<_}
 use native.Mathlib.Omega.{arith}
 use lib.ListN.{getD}
 use lib.Dec.{leb, ltb}
-use borrow.Author.Tests.{lt-ltb, le-ltb, lt-leb, le-leb, eq-eqb, ne-eqb, not-true, not-false}
+use borrow.Author.Tests.{ltb-true, lt-ltb, le-ltb, lt-leb, le-leb, eq-eqb, ne-eqb, not-true, not-false}
 use Rattle.trellis.specs.Bounds.{mostStates, mostWords, mostSymbols, leastQ, mostQ}
 use Rattle.trellis.specs.Lists.{sum, lower, all, within}
 use Rattle.trellis.specs.Own as own
-use Rattle.trellis.specs.Layout.{qOf, nOf, statesOf, vertexCountOf, edgeCountOf, edgesBefore, rootsPlace, goalsPlace, pairsPlace, symbolsPlace, sectionLength, rootState, goalState}
-use Rattle.section_file.specs.Usable.{higher, rising, inside, above, sizesRight, countsRight, statesRight}
+use Rattle.trellis.specs.Layout.{qOf, nOf, statesOf, vertexCountOf, edgeCountOf, edgesBefore, sectionLength, rootState, goalState}
+use Rattle.trellis.specs.Layout.{rootsPlace, goalsPlace, pairsPlace, symbolsPlace}
+use Rattle.section_file.specs.Usable.{stepEdge, sizesRight, countsRight, rising, statesRight, edgesAscend}
+use Rattle.section_file.specs.inner.Steps.{higher, stateRight, inside, above}
 use Rattle.section_file.specs.inner.Places.{PlacesOf, Counted}
 use Rattle.section_file.specs.inner.Answer.{edgeAt, heldEdge, meantEdge}
 use Rattle.section_file.specs.declared.Edge.{Edge}
+use Rattle.section_file.proofs.Tests.{all-both, all-next}
+use Rattle.trellis.proofs.Bools.{holds, is-true}
+use Rattle.trellis.proofs.ThreeNumbers.{lower-yes, lower-of, lower-chain}
 
 -- ---- bounds
 
@@ -32,15 +37,15 @@ module _ (low high : ℕ) {x : ℕ} where
 
 module _ (l : List ℕ) {q : ℕ} {a : Bool} (q-is : q ≡ qOf l) (a-is : a ≡ within leastQ mostQ q) where
   q-test : within leastQ mostQ (qOf l) ≡ a
-  q-test = sym (a-is ∙ ap (within 2 4) q-is)
+  q-test = sym (a-is ∙ ap (within leastQ mostQ) q-is)
 
   pub q-wrong : not a ≡ true → false ≡ sizesRight l
   unfolding sizesRight
   q-wrong t = let e = q-test ∙ not-true a t in rw e
 
-  module _ {n : ℕ} {b : Bool} (a-yes : not a ≡ false) (n-is : n ≡ nOf l) (b-is : b ≡ within 1 8 n) where
+  module _ {n : ℕ} {b : Bool} (a-yes : not a ≡ false) (n-is : n ≡ nOf l) (b-is : b ≡ within 1 mostSymbols n) where
     n-test : within 1 mostSymbols (nOf l) ≡ b
-    n-test = sym (b-is ∙ ap (within 1 8) n-is)
+    n-test = sym (b-is ∙ ap (within 1 mostSymbols) n-is)
 
     pub n-wrong : not b ≡ true → false ≡ sizesRight l
     unfolding sizesRight
@@ -67,7 +72,8 @@ module _ (l : List ℕ) {n : ℕ} {a : Bool} (n-is : n ≡ nOf l) (a-is : a ≡ 
 
 -- ---- places
 
-pub places-are : (l : List ℕ) {n edges x v y w : ℕ} → n ≡ nOf l → n ≤ mostSymbols → (edges ≡ sum (λ t. getD l (4 + n + t) 0) 0 n) × (edges ≤ 65535 * n)
+pub places-are : (l : List ℕ) {n edges x v y w : ℕ} → n ≡ nOf l → n ≤ mostSymbols
+    → (edges ≡ sum (λ t. getD l (4 + n + t) 0) 0 n) × (edges ≤ 65535 * n)
     → x ≡ getD l 3 0 → (v ≡ x) × (v < 65536) → y ≡ getD l (3 + n) 0 → (w ≡ y) × (w < 65536)
     → PlacesOf l (4 + 2 * n) (4 + 2 * n + v) (4 + 2 * n + v + w) (4 + 2 * n + v + w + 2 * edges) (4 + 2 * n + v + w + 2 * edges + edges)
 unfolding rootsPlace goalsPlace pairsPlace symbolsPlace sectionLength edgesBefore vertexCountOf edgeCountOf
@@ -91,7 +97,8 @@ pub counted-at : {l : List ℕ} {n : ℕ} (t : ℕ) {x v : ℕ} → Counted l n 
 unfolding vertexCountOf
 counted-at t c h e g = omega (arith, c .verticesTo t h, g .0)
 
-pub counted-edges : {l : List ℕ} {n : ℕ} (t : ℕ) {x v : ℕ} → Counted l n → t < n → x ≡ getD l (4 + n + t) 0 → (v ≡ x) × (v < 65536) → v ≤ mostWords
+pub counted-edges : {l : List ℕ} {n : ℕ} (t : ℕ) {x v : ℕ} → Counted l n → t < n → x ≡ getD l (4 + n + t) 0 → (v ≡ x) × (v < 65536)
+    → v ≤ mostWords
 unfolding edgeCountOf
 counted-edges {l} {n} t {x} {v} c h e g =
     let f : x ≡ getD l (4 + nOf l + t) 0 = e ∙ ap (λ m. getD l (4 + m + t) 0) (c .nIs) in
@@ -100,46 +107,64 @@ counted-edges {l} {n} t {x} {v} c h e g =
 -- ---- end states
 
 module _ (l : List ℕ) (at : ℕ) where
-  abbrev stateAt : ℕ → ℕ
-  stateAt v = getD l (at + v) 0
-
   pub no-vertex-before : {v : ℕ} → v ≡ 0 → true ≡ higher (λ u. getD l (at + u) 0) v
   unfolding higher
   no-vertex-before e = rw e
 
-  pub higher-is : (v : ℕ) {x y : ℕ} → (v ≡ 0 → ⊥) → x ≡ getD l (at + (v - 1)) 0 → y ≡ getD l (at + v) 0 → ltb x y ≡ higher (λ u. getD l (at + u) 0) v
+  pub higher-is : (v : ℕ) {x y : ℕ} → (v ≡ 0 → ⊥) → x ≡ getD l (at + (v - 1)) 0 → y ≡ getD l (at + v) 0
+      → ltb x y ≡ higher (λ u. getD l (at + u) 0) v
   unfolding higher
   higher-is zero h e f = absurd (h refl)
   higher-is (suc v) h e f = let q : suc v - 1 ≡ v = omega arith in rw (e, f, q)
 
-  pub state-wrong : (v bound : ℕ) {x : ℕ} → x ≡ getD l (at + v) 0 → bound ≤ x → false ≡ (ltb (getD l (at + v) 0) bound && higher (λ u. getD l (at + u) 0) v)
-  state-wrong v bound e h = rw (← e, le-ltb _ _ h)
+  module _ (v bound : ℕ) {b : Bool} (b-is : b ≡ higher (λ u. getD l (at + u) 0) v) where
+    pub not-higher : not b ≡ true → false ≡ stateRight (λ u. getD l (at + u) 0) bound v
+    unfolding stateRight
+    not-higher t = let e = sym b-is ∙ not-true b t in rw e
 
-  pub state-by-higher : (v bound : ℕ) {x : ℕ} {b : Bool} → x ≡ getD l (at + v) 0 → x < bound → b ≡ higher (λ u. getD l (at + u) 0) v
-      → b ≡ (ltb (getD l (at + v) 0) bound && higher (λ u. getD l (at + u) 0) v)
-  state-by-higher v bound e h f = f ∙ rw (← e, lt-ltb _ _ h)
+    pub state-by-bound : {x : ℕ} → not b ≡ false → x ≡ getD l (at + v) 0 → ltb x bound ≡ stateRight (λ u. getD l (at + u) 0) bound v
+    unfolding stateRight
+    state-by-bound t x-is = let e = sym b-is ∙ not-false b t in rw (e, x-is)
 
-module _ (l : List ℕ) {n roots goals s : ℕ} (c : Counted l n) (r-is : roots ≡ rootsPlace l) (g-is : goals ≡ goalsPlace l) (s-is : s ≡ statesOf l) where
-  module _ {x v : ℕ} {a : Bool} (x-is : x ≡ getD l 3 0) (v-is : (v ≡ x) × (v < 65536)) (a-is : a ≡ rising (λ u. getD l (roots + u) 0) v s) where
-    roots-are : a ≡ rising (rootState l) (vertexCountOf l 0) (statesOf l)
+-- each state above the one before it, so above all before it
+rising-is : (l : List ℕ) (f : ℕ → ℕ) (count : ℕ) → all (stateRight f (statesOf l)) count ≡ rising l f count
+unfolding stateRight rising higher
+rising-is l f count =
+    all-both (higher f) (λ v. ltb (f v) (statesOf l)) count
+    ∙ ap (λ b. b && all (λ v. ltb (f v) (statesOf l)) count) (all-next (higher f) (λ u v. ltb (f u) (f v)) refl (λ v. refl) chain count)
+    ∙ sym (all-both (λ v. all (λ u. ltb (f u) (f v)) v) (λ v. ltb (f v) (statesOf l)) count)
+  where
+    chain : (i j k : ℕ) → ltb (f i) (f j) ≡ true → ltb (f j) (f k) ≡ true → ltb (f i) (f k) ≡ true
+    chain i j k p q = lt-ltb (f i) (f k) (omega (arith, ltb-true (f i) (f j) p, ltb-true (f j) (f k) q))
+
+module _ (l : List ℕ) {n roots goals s : ℕ} (c : Counted l n) (r-is : roots ≡ rootsPlace l) (g-is : goals ≡ goalsPlace l)
+    (s-is : s ≡ statesOf l) where
+  module _ {x v : ℕ} {a : Bool} (x-is : x ≡ getD l 3 0) (v-is : (v ≡ x) × (v < 65536))
+      (a-is : a ≡ all (stateRight (λ u. getD l (roots + u) 0) s) v) where
+    roots-are : a ≡ rising l (rootState l) (vertexCountOf l 0)
     unfolding rootState vertexCountOf
-    roots-are = a-is ∙ rw (v-is .0 ∙ x-is, r-is, s-is)
+    roots-are =
+        let e : a ≡ all (stateRight (rootState l) (statesOf l)) (vertexCountOf l 0) = a-is ∙ rw (v-is .0 ∙ x-is, r-is, s-is) in
+        e ∙ rising-is l (rootState l) (vertexCountOf l 0)
 
     pub roots-wrong : not a ≡ true → false ≡ statesRight l
     unfolding statesRight
     roots-wrong t = let e = sym roots-are ∙ not-true a t in rw e
 
-    pub states-by-goals : {y w : ℕ} {b : Bool} → not a ≡ false → y ≡ getD l (3 + n) 0 → (w ≡ y) × (w < 65536) → b ≡ rising (λ u. getD l (goals + u) 0) w s → b ≡ statesRight l
+    pub states-by-goals : {y w : ℕ} {b : Bool} → not a ≡ false → y ≡ getD l (3 + n) 0 → (w ≡ y) × (w < 65536)
+        → b ≡ all (stateRight (λ u. getD l (goals + u) 0) s) w → b ≡ statesRight l
     unfolding statesRight goalState vertexCountOf
     states-by-goals {y} {w} {b} t y-is w-is b-is =
-        let e : rising (rootState l) (getD l 3 0) (statesOf l) ≡ true = sym roots-are ∙ not-false a t in
+        let e : rising l (rootState l) (getD l 3 0) ≡ true = sym roots-are ∙ not-false a t in
         let f : w ≡ getD l (3 + nOf l) 0 = w-is .0 ∙ y-is ∙ rw (c .nIs) in
-        b-is ∙ rw (e, f, g-is, s-is)
+        let g : b ≡ all (stateRight (goalState l) (statesOf l)) (vertexCountOf l (nOf l)) = b-is ∙ rw (f, g-is, s-is) in
+        let h : b ≡ rising l (goalState l) (vertexCountOf l (nOf l)) = g ∙ rising-is l (goalState l) (vertexCountOf l (nOf l)) in
+        h ∙ rw e
 
 -- ---- edges
 
-pub edge-is : (l : List ℕ) (pairs symbols k : ℕ) {x a y : ℕ} → x ≡ getD l (pairs + 2 * k) 0 → a ≡ getD l (symbols + k) 0 → y ≡ getD l (pairs + 1 + 2 * k) 0
-    → record { from = x; symbol = a; to = y } ≡ heldEdge (edgeAt l pairs symbols k)
+pub edge-is : (l : List ℕ) (pairs symbols k : ℕ) {x a y : ℕ} → x ≡ getD l (pairs + 2 * k) 0 → a ≡ getD l (symbols + k) 0
+    → y ≡ getD l (pairs + 1 + 2 * k) 0 → record { from = x; symbol = a; to = y } ≡ heldEdge (edgeAt l pairs symbols k)
 edge-is l pairs symbols k p q r = simp (p, q, r)
 
 module _ (l : List ℕ) (pairs symbols q froms tos k : ℕ) {e : Edge} (is : e ≡ heldEdge (edgeAt l pairs symbols k)) where
@@ -147,22 +172,23 @@ module _ (l : List ℕ) (pairs symbols q froms tos k : ℕ) {e : Edge} (is : e �
   unfolding inside
   from-outside h = rw is at (outside e h)
     where
-      outside : (e : Edge) → froms ≤ e .from → false ≡ (ltb (e .from) froms && (ltb (e .symbol) q && ltb (e .to) tos))
+      outside : (e : Edge) → froms ≤ e .from → false ≡ (ltb (e .from) froms && (ltb (e .to) tos && ltb (e .symbol) q))
       outside e h = simp (le-ltb _ _ h)
 
-  pub symbol-outside : e .from < froms → q ≤ e .symbol → false ≡ inside (edgeAt l pairs symbols) q froms tos k
+  pub to-outside : e .from < froms → tos ≤ e .to → false ≡ inside (edgeAt l pairs symbols) q froms tos k
   unfolding inside
-  symbol-outside h g = rw is at (outside e h g)
+  to-outside h g = rw is at (outside e h g)
     where
-      outside : (e : Edge) → e .from < froms → q ≤ e .symbol → false ≡ (ltb (e .from) froms && (ltb (e .symbol) q && ltb (e .to) tos))
+      outside : (e : Edge) → e .from < froms → tos ≤ e .to → false ≡ (ltb (e .from) froms && (ltb (e .to) tos && ltb (e .symbol) q))
       outside e h g = simp (lt-ltb _ _ h, le-ltb _ _ g)
 
-  pub inside-by-to : e .from < froms → e .symbol < q → ltb (e .to) tos ≡ inside (edgeAt l pairs symbols) q froms tos k
+  pub inside-by-symbol : e .from < froms → e .to < tos → ltb (e .symbol) q ≡ inside (edgeAt l pairs symbols) q froms tos k
   unfolding inside
-  inside-by-to h g = whole e h g ∙ rw is
+  inside-by-symbol h g = rest e h g ∙ rw is
     where
-      whole : (e : Edge) → e .from < froms → e .symbol < q → ltb (e .to) tos ≡ (ltb (e .from) froms && (ltb (e .symbol) q && ltb (e .to) tos))
-      whole e h g = simp (lt-ltb _ _ h, lt-ltb _ _ g)
+      rest : (e : Edge) → e .from < froms → e .to < tos
+          → ltb (e .symbol) q ≡ (ltb (e .from) froms && (ltb (e .to) tos && ltb (e .symbol) q))
+      rest e h g = simp (lt-ltb _ _ h, lt-ltb _ _ g)
 
 module _ (e f : Edge) where
   pub from-less : e .from < f .from → true ≡ own.edgeLess (meantEdge e) (meantEdge f)
@@ -193,8 +219,21 @@ module _ (l : List ℕ) (pairs symbols : ℕ) where
   unfolding above
   no-edge-before e = rw e
 
-  pub above-is : (k : ℕ) {e f : Edge} {b : Bool} → (k ≡ 0 → ⊥) → e ≡ heldEdge (edgeAt l pairs symbols (k - 1)) → f ≡ heldEdge (edgeAt l pairs symbols k) → b ≡ own.edgeLess (meantEdge e) (meantEdge f)
+  pub above-is : (k : ℕ) {e f : Edge} {b : Bool} → (k ≡ 0 → ⊥) → e ≡ heldEdge (edgeAt l pairs symbols (k - 1))
+      → f ≡ heldEdge (edgeAt l pairs symbols k) → b ≡ own.edgeLess (meantEdge e) (meantEdge f)
       → b ≡ above (edgeAt l pairs symbols) k
   unfolding above
   above-is zero h d g i = absurd (h refl)
   above-is (suc k) h d g i = let q : suc k - 1 ≡ k = omega arith in i ∙ rw (d, g, q)
+
+-- each edge above the one before it, so above all before it
+pub ascend-is : (l : List ℕ) (t : ℕ) → all (above (stepEdge l t)) (edgeCountOf l t) ≡ edgesAscend l t
+unfolding above edgesAscend
+ascend-is l t = all-next (above (stepEdge l t)) less refl (λ k. refl) chain (edgeCountOf l t)
+  where
+    less : ℕ → ℕ → Bool
+    less j k = own.edgeLess (stepEdge l t j) (stepEdge l t k)
+
+    chain : (i j k : ℕ) → less i j ≡ true → less j k ≡ true → less i k ≡ true
+    chain i j k p q =
+        is-true (less i k) (lower-of _ _ _ _ _ _ (lower-chain (lower-yes _ _ _ _ _ _ (holds p)) (lower-yes _ _ _ _ _ _ (holds q))))

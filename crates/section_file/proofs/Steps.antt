@@ -1,5 +1,6 @@
--- One step, all steps, the whole section, as the code checks them: the first condition that fails decides, and where none fails all hold. Each law
--- takes what the calls on the way ensure, over plain variables. That edges are within bounds comes first, since the arrays of marks rest on it.
+-- One step, all steps, the whole section, as the code checks them: the first condition that fails decides, and where none fails all hold.
+-- Each law takes what the calls on the way ensure, over plain variables. That edges are within bounds is checked first, since the arrays
+-- of marks rest on it.
 use mathlib.Core.Path.{_≡_, refl, sym, ap, _∙_}
 use mathlib.Core.Bool.{Bool, true, false, not, _||_}
 use mathlib.Core.List.{List, []}
@@ -10,25 +11,31 @@ use native.Mathlib.Numerals.{add-one}
 use lib.ListN.{length, getD, take, drop, length-drop, drop-of-length-le}
 use lib.Seq.{take-all}
 use lib.Dec.{ltb}
-use borrow.Author.Tests.{ltb-true, not-true, not-false, le-leb, lt-leb}
+use borrow.Author.Tests.{ltb-true, lt-ltb, leb-true, le-leb}
 use Rattle.trellis.specs.Bounds.{mostWords, mostSymbols, leastQ, mostQ}
 use Rattle.trellis.specs.Lists.{sum, all, within}
 use Rattle.trellis.specs.Own as own
 use Rattle.trellis.specs.Layout.{qOf, nOf, vertexCountOf, edgeCountOf, edgesBefore, pairsPlace, symbolsPlace, sectionLength, edgeNumber}
 use Rattle.trellis.proofs.Lists.{sum-last}
-use Rattle.section_file.specs.Usable.{inside, above, covered, noTwins, noForwardTwins, noBackwardTwins, stepGood, stepEdge, sizesRight, countsRight, whole, statesRight, stepRight, usable}
+use Rattle.section_file.specs.Usable.{stepEdge, whole, sizesRight, edgesInside, countsRight, statesRight, edgesAscend}
+use Rattle.section_file.specs.Usable.{onward, inward, noTwinsReached, noTwinsLeading, usable}
+use Rattle.section_file.specs.inner.Steps.{inside, above, covered, noTwins, noTwinsAt, stepRight}
 use Rattle.section_file.specs.inner.Places.{PlacesOf, Counted, StepAt, Vertices, Symbols}
 use Rattle.section_file.specs.inner.Answer.{partOf, edgeAt}
 use Rattle.section_file.specs.declared.Part.{Part}
 use Rattle.section_file.specs.declared.Part.the-variants.{Usable, Unusable}
-use Rattle.section_file.proofs.Tests.{to-high, all-at, Passed, passed-start, passed-next}
-use Rattle.trellis.proofs.Bools.{left-true, right-true}
-use Rattle.section_file.proofs.Reading.{counted-edges}
+use Rattle.section_file.proofs.Tests.{given, given-of, same-if, holds-by, fails-by, to-high, all-at, all-of}
+use Rattle.section_file.proofs.Tests.{Passed, passed-start, passed-next}
+use Rattle.trellis.proofs.Bools.{is-true, is-false, clash, left-true, right-true}
+use Rattle.section_file.proofs.Reading.{counted-edges, ascend-is}
+use Rattle.section_file.proofs.Usable.{Step, Conditions, Inside, usable-says, usable-by, step-says, step-by, inside-says}
+use Rattle.section_file.proofs.Usable.{inside-is, onward-is, inward-is, reached-is, leading-is}
 
 -- ---- one step
 
 -- the edges that the code reads are those of the step
-pub edges-at : (l : List ℕ) (t : ℕ) {pairs symbols : ℕ} → pairs ≡ pairsPlace l + 2 * edgesBefore l t → symbols ≡ symbolsPlace l + edgesBefore l t → edgeAt l pairs symbols ≡ stepEdge l t
+pub edges-at : (l : List ℕ) (t : ℕ) {pairs symbols : ℕ} → pairs ≡ pairsPlace l + 2 * edgesBefore l t
+    → symbols ≡ symbolsPlace l + edgesBefore l t → edgeAt l pairs symbols ≡ stepEdge l t
 unfolding stepEdge edgeNumber
 edges-at l t {pairs} {symbols} p q = λ i k. own.edge (getD l (first k i) 0) (getD l (second k i) 0) (getD l (third k i) 0)
   where
@@ -54,8 +61,9 @@ pub record StepRead (l : List ℕ) (n t pairs symbols count q froms tos : ℕ) :
   pub fromsIs : froms ≡ vertexCountOf l t
   pub tosIs : tos ≡ vertexCountOf l (t + 1)
 
-pub step-read : {l : List ℕ} {n t pairs symbols x count q froms tos : ℕ} → StepAt l n t pairs symbols → x ≡ getD l (4 + n + t) 0 → (count ≡ x) × (count < 65536)
-    → froms ≡ getD l (3 + t) 0 → tos ≡ getD l (3 + (t + 1)) 0 → q ≡ getD l 0 0 → StepRead l n t pairs symbols count q froms tos
+pub step-read : {l : List ℕ} {n t pairs symbols x count q froms tos : ℕ} → StepAt l n t pairs symbols → x ≡ getD l (4 + n + t) 0
+    → (count ≡ x) × (count < 65536) → froms ≡ getD l (3 + t) 0 → tos ≡ getD l (3 + (t + 1)) 0 → q ≡ getD l 0 0
+    → StepRead l n t pairs symbols count q froms tos
 unfolding edgeCountOf vertexCountOf
 step-read {l} {n} {t} {pairs} {symbols} {x} s e g f h q = record {
   at = s;
@@ -73,105 +81,103 @@ module _ {l : List ℕ} {n t pairs symbols count q froms tos : ℕ} (r : StepRea
   pub tos-few : tos ≤ mostWords
   tos-few = omega (arith, r .tosIs, r .at .counted .verticesTo (t + 1) (omega (arith, r .at .inside)))
 
-  abbrev good : Bool
-  good = stepGood (edgeAt l pairs symbols) count q froms tos (ltb (t + 1) n) (ltb 0 t)
+  edges-are : edgeAt l pairs symbols ≡ stepEdge l t
+  edges-are = edges-at l t (r .at .pairsIs) (r .at .symbolsIs)
 
-  right-is : good ≡ stepRight l t
-  unfolding stepRight
-  right-is = simp (edges-at l t (r .at .pairsIs) (r .at .symbolsIs), r .countIs, r .qIs, r .fromsIs, r .tosIs, r .at .counted .nIs)
+  -- what the code tests is what usable asks
+  inside-test : all (inside (edgeAt l pairs symbols) q froms tos) count ≡ edgesInside l t
+  inside-test = simp (edges-are, r .countIs, r .qIs, r .fromsIs, r .tosIs) (sym (inside-is l t))
 
-  module _ {a : Bool} (a-is : a ≡ all (inside (edgeAt l pairs symbols) q froms tos) count) where
-    pub inside-wrong : not a ≡ true → false ≡ stepRight l t
-    unfolding stepGood
-    inside-wrong x = let e = sym a-is ∙ not-true a x in let w : false ≡ good = rw e in w ∙ right-is
+  above-test : all (above (edgeAt l pairs symbols)) count ≡ edgesAscend l t
+  above-test = simp (edges-are, r .countIs) (ascend-is l t)
 
-    module _ (a-yes : not a ≡ false) where
-      all-inside : all (inside (edgeAt l pairs symbols) q froms tos) count ≡ true
-      all-inside = sym a-is ∙ not-false a a-yes
+  onward-test : {v : ℕ} → (v ≡ froms) × (v < 65536) → covered (λ k. getD l (pairs + 2 * k) 0) count v ≡ onward l t
+  onward-test {v} h =
+      ap (λ (e : ℕ → own.Edge). covered (λ k. e k .from) count v) edges-are ∙ simp (h .0, r .fromsIs, r .countIs, onward-is l t)
 
-      inside-at : (k : ℕ) → k < count → inside (edgeAt l pairs symbols) q froms tos k ≡ true
-      inside-at k h = all-at (inside (edgeAt l pairs symbols) q froms tos) count k all-inside h
+  inward-test : {v : ℕ} → (v ≡ tos) × (v < 65536) → covered (λ k. getD l (pairs + 1 + 2 * k) 0) count v ≡ inward l t
+  inward-test {v} h =
+      ap (λ (e : ℕ → own.Edge). covered (λ k. e k .to) count v) edges-are ∙ simp (h .0, r .tosIs, r .countIs, inward-is l t)
 
-      from-at : (k : ℕ) → k < count → getD l (pairs + 2 * k) 0 < mostWords
-      unfolding inside
-      from-at k h = omega (arith, froms-few, ltb-true (getD l (pairs + 2 * k) 0) froms (left-true _ _ (inside-at k h)))
+  abbrev forward : Bool
+  forward = not (ltb (t + 1) n) || noTwinsAt l pairs symbols (pairs + 1) count
 
-      symbol-at : (k : ℕ) → k < count → getD l (symbols + k) 0 < 4
-      unfolding inside
-      symbol-at k h = omega (arith, r .at .counted .qTo, r .qIs, ltb-true (getD l (symbols + k) 0) q (left-true _ _ (right-true (ltb (getD l (pairs + 2 * k) 0) froms) _ (inside-at k h))))
+  abbrev backward : Bool
+  backward = not (ltb 0 t) || noTwinsAt l (pairs + 1) symbols pairs count
 
-      to-at : (k : ℕ) → k < count → getD l (pairs + 1 + 2 * k) 0 < mostWords
-      unfolding inside
-      to-at k h =
-          omega (arith, tos-few, ltb-true (getD l (pairs + 1 + 2 * k) 0) tos (right-true (ltb (getD l (symbols + k) 0) q) _ (right-true (ltb (getD l (pairs + 2 * k) 0) froms) _ (inside-at k h))))
+  forward-test : forward ≡ (not (ltb (t + 1) (nOf l)) || noTwinsReached l t)
+  forward-test =
+      ap (λ (e : ℕ → own.Edge). not (ltb (t + 1) n) || noTwins (λ k. e k .from) (λ k. e k .symbol) (λ k. e k .to) count) edges-are
+      ∙ simp (r .at .counted .nIs, r .countIs, reached-is l t)
 
-      pub from-vertices : Vertices l pairs count
-      from-vertices = record { near = omega (arith, r .at .pairsTo); few = r .few; small = from-at }
+  backward-test : backward ≡ (not (ltb 0 t) || noTwinsLeading l t)
+  backward-test =
+      ap (λ (e : ℕ → own.Edge). not (ltb 0 t) || noTwins (λ k. e k .to) (λ k. e k .symbol) (λ k. e k .from) count) edges-are
+      ∙ simp (r .countIs, leading-is l t)
 
-      pub to-vertices : Vertices l (pairs + 1) count
-      to-vertices = record { near = omega (arith, r .at .pairsTo); few = r .few; small = to-at }
+  -- edges within bounds are what the arrays of marks rest on
+  module _ {a : Bool} (a-is : a ≡ all (inside (edgeAt l pairs symbols) q froms tos) count) (a-yes : not a ≡ false) where
+    inside-at : (k : ℕ) → k < count → Inside (edgeAt l pairs symbols k) q froms tos
+    inside-at k h = inside-says (edgeAt l pairs symbols) q froms tos k (all-at _ count k (holds-by a-is a-yes) h)
 
-      pub the-symbols : Symbols l symbols count
-      the-symbols = record { near = omega (arith, r .at .symbolsTo); small = symbol-at }
+    pub from-vertices : Vertices l pairs count
+    from-vertices = record {
+      near = omega (arith, r .at .pairsTo);
+      few = r .few;
+      small = λ k h. omega (arith, froms-few, inside-at k h .fromBelow);
+    }
 
-      module _ {b : Bool} (b-is : b ≡ all (above (edgeAt l pairs symbols)) count) where
-        pub above-wrong : not b ≡ true → false ≡ stepRight l t
-        unfolding stepGood
-        above-wrong x = let e = sym b-is ∙ not-true b x in let f = all-inside in let w : false ≡ good = rw (f, e) in w ∙ right-is
+    pub to-vertices : Vertices l (pairs + 1) count
+    to-vertices = record {
+      near = omega (arith, r .at .pairsTo);
+      few = r .few;
+      small = λ k h. omega (arith, tos-few, inside-at k h .toBelow);
+    }
 
-        module _ (b-yes : not b ≡ false) {v : ℕ} {d : Bool} (v-is : (v ≡ froms) × (v < 65536)) (d-is : d ≡ covered (λ k. getD l (pairs + 2 * k) 0) count v) where
-          all-above : all (above (edgeAt l pairs symbols)) count ≡ true
-          all-above = sym b-is ∙ not-false b b-yes
+    pub the-symbols : Symbols l symbols count
+    the-symbols = record {
+      near = omega (arith, r .at .symbolsTo);
+      small = λ k h. omega (arith, r .at .counted .qTo, r .qIs, inside-at k h .symbolBelow);
+    }
 
-          from-test : covered (λ k. getD l (pairs + 2 * k) 0) count froms ≡ d
-          from-test = sym (d-is ∙ ap (covered (λ k. getD l (pairs + 2 * k) 0) count) (v-is .0))
+  -- a condition that fails
+  wrong : (Step l t → ⊥) → false ≡ stepRight l t
+  wrong f = sym (is-false (stepRight l t) (λ x. f (step-says l t (is-true (stepRight l t) x))))
 
-          pub onward-wrong : not d ≡ true → false ≡ stepRight l t
-          unfolding stepGood
-          onward-wrong x = let e = from-test ∙ not-true d x in let f = all-inside in let g = all-above in let w : false ≡ good = rw (f, g, e) in w ∙ right-is
+  pub inside-wrong : {a : Bool} → a ≡ all (inside (edgeAt l pairs symbols) q froms tos) count → not a ≡ true → false ≡ stepRight l t
+  inside-wrong e x = wrong (λ s. fails-by (e ∙ inside-test) x (s .inside))
 
-          module _ (d-yes : not d ≡ false) {w : ℕ} {m : Bool} (w-is : (w ≡ tos) × (w < 65536)) (m-is : m ≡ covered (λ k. getD l (pairs + 1 + 2 * k) 0) count w) where
-            all-onward : covered (λ k. getD l (pairs + 2 * k) 0) count froms ≡ true
-            all-onward = from-test ∙ not-false d d-yes
+  pub above-wrong : {a : Bool} → a ≡ all (above (edgeAt l pairs symbols)) count → not a ≡ true → false ≡ stepRight l t
+  above-wrong e x = wrong (λ s. fails-by (e ∙ above-test) x (s .ascend))
 
-            to-test : covered (λ k. getD l (pairs + 1 + 2 * k) 0) count tos ≡ m
-            to-test = sym (m-is ∙ ap (covered (λ k. getD l (pairs + 1 + 2 * k) 0) count) (w-is .0))
+  pub onward-wrong : {v : ℕ} {a : Bool} → (v ≡ froms) × (v < 65536) → a ≡ covered (λ k. getD l (pairs + 2 * k) 0) count v → not a ≡ true
+      → false ≡ stepRight l t
+  onward-wrong h e x = wrong (λ s. fails-by (e ∙ onward-test h) x (s .outward))
 
-            pub inward-wrong : not m ≡ true → false ≡ stepRight l t
-            unfolding stepGood
-            inward-wrong x = let e = to-test ∙ not-true m x in let f = all-inside in let g = all-above in let h = all-onward in let w : false ≡ good = rw (f, g, h, e) in w ∙ right-is
+  pub inward-wrong : {v : ℕ} {a : Bool} → (v ≡ tos) × (v < 65536) → a ≡ covered (λ k. getD l (pairs + 1 + 2 * k) 0) count v → not a ≡ true
+      → false ≡ stepRight l t
+  inward-wrong h e x = wrong (λ s. fails-by (e ∙ inward-test h) x (s .entered))
 
-            module _ (m-yes : not m ≡ false) {u : Bool}
-                (u-is : u ≡ (not (ltb (t + 1) n) || noTwins (λ k. getD l (pairs + 2 * k) 0) (λ k. getD l (symbols + k) 0) (λ k. getD l (pairs + 1 + 2 * k) 0) count)) where
-              all-inward : covered (λ k. getD l (pairs + 1 + 2 * k) 0) count tos ≡ true
-              all-inward = to-test ∙ not-false m m-yes
+  pub forward-wrong : {a : Bool} → a ≡ forward → not a ≡ true → false ≡ stepRight l t
+  forward-wrong e x =
+      wrong (λ s. fails-by (e ∙ forward-test) x (given-of (ltb (t + 1) (nOf l)) _ (λ i. s .reached (ltb-true (t + 1) (nOf l) i))))
 
-              forward-test : (not (ltb (t + 1) n) || noForwardTwins (edgeAt l pairs symbols) count) ≡ u
-              unfolding noForwardTwins
-              forward-test = sym u-is
-
-              pub forward-wrong : not u ≡ true → false ≡ stepRight l t
-              unfolding stepGood
-              forward-wrong x =
-                  let e = forward-test ∙ not-true u x in
-                  let f = all-inside in
-                  let g = all-above in
-                  let h = all-onward in
-                  let i = all-inward in
-                  let w : false ≡ good = rw (f, g, h, i, e) in
-                  w ∙ right-is
-
-              pub by-backward : {z : Bool} → not u ≡ false
-                  → z ≡ (not (ltb 0 t) || noTwins (λ k. getD l (pairs + 1 + 2 * k) 0) (λ k. getD l (symbols + k) 0) (λ k. getD l (pairs + 2 * k) 0) count) → z ≡ stepRight l t
-              unfolding stepGood noBackwardTwins
-              by-backward {z} x z-is =
-                  let e = forward-test ∙ not-false u x in
-                  let f = all-inside in
-                  let g = all-above in
-                  let h = all-onward in
-                  let i = all-inward in
-                  let w : z ≡ good = rw (f, g, h, i, e) z-is in
-                  w ∙ right-is
+  -- none fails but, it may be, the last
+  pub by-backward : {v w : ℕ} {a b d m u z : Bool} → a ≡ all (inside (edgeAt l pairs symbols) q froms tos) count → not a ≡ false
+      → b ≡ all (above (edgeAt l pairs symbols)) count → not b ≡ false
+      → (v ≡ froms) × (v < 65536) → d ≡ covered (λ k. getD l (pairs + 2 * k) 0) count v → not d ≡ false
+      → (w ≡ tos) × (w < 65536) → m ≡ covered (λ k. getD l (pairs + 1 + 2 * k) 0) count w → not m ≡ false
+      → u ≡ forward → not u ≡ false → z ≡ backward → z ≡ stepRight l t
+  by-backward {z = z} a-is a-yes b-is b-yes v-is d-is d-yes w-is m-is m-yes u-is u-yes z-is = same-if
+      (λ y. step-by l t (record {
+        inside = holds-by (a-is ∙ inside-test) a-yes;
+        ascend = holds-by (b-is ∙ above-test) b-yes;
+        outward = holds-by (d-is ∙ onward-test v-is) d-yes;
+        entered = holds-by (m-is ∙ inward-test w-is) m-yes;
+        reached = λ i. given (ltb (t + 1) (nOf l)) _ (holds-by (u-is ∙ forward-test) u-yes) (lt-ltb (t + 1) (nOf l) i);
+        leading = λ i. given (ltb 0 t) _ (sym (z-is ∙ backward-test) ∙ y) (lt-ltb 0 t i);
+      }))
+      (λ y. z-is ∙ backward-test ∙ given-of (ltb 0 t) _ (λ i. step-says l t y .leading (ltb-true 0 t i)))
 
 -- ---- all steps
 
@@ -184,8 +190,8 @@ pub steps-start : (l : List ℕ) (n : ℕ) → InSteps l n 0 0
 unfolding edgesBefore sum
 steps-start l n = record { passed = passed-start; beforeIs = refl; small = omega arith }
 
-pub step-at : {l : List ℕ} {n before t pairs symbols : ℕ} → Counted l n → pairs ≡ pairsPlace l → symbols ≡ symbolsPlace l → pairs ≤ 2000000 → symbols ≤ 2000000
-    → InSteps l n before t → t < n → StepAt l n t (pairs + 2 * before) (symbols + before)
+pub step-at : {l : List ℕ} {n before t pairs symbols : ℕ} → Counted l n → pairs ≡ pairsPlace l → symbols ≡ symbolsPlace l
+    → pairs ≤ 2000000 → symbols ≤ 2000000 → InSteps l n before t → t < n → StepAt l n t (pairs + 2 * before) (symbols + before)
 step-at {l} {n} {before} {t} c p q h k s i = record {
   counted = c;
   inside = i;
@@ -195,14 +201,15 @@ step-at {l} {n} {before} {t} c p q h k s i = record {
   symbolsTo = omega (arith, s .small, c .nTo);
 }
 
-pub steps-next : {l : List ℕ} {n before t x v : ℕ} {b : Bool} → Counted l n → InSteps l n before t → t < n → b ≡ stepRight l t → not b ≡ false → x ≡ getD l (4 + n + t) 0
-    → (v ≡ x) × (v < 65536) → InSteps l n (before + v) (t + 1)
+pub steps-next : {l : List ℕ} {n before t x v : ℕ} {b : Bool} → Counted l n → InSteps l n before t → t < n → b ≡ stepRight l t
+    → not b ≡ false → x ≡ getD l (4 + n + t) 0 → (v ≡ x) × (v < 65536) → InSteps l n (before + v) (t + 1)
 unfolding edgesBefore
 steps-next {l} {n} {before} {t} {x} {v} c s h e f g k = record {
   passed = passed-next (s .passed) h e f;
   beforeIs =
       let d : v ≡ edgeCountOf l t = k .0 ∙ edges-read t c g in
-      let r : sum (edgeCountOf l) 0 (t + 1) ≡ sum (edgeCountOf l) 0 t + edgeCountOf l t = rw (add-one t) (sum-last (edgeCountOf l) 0 t ∙ rw (zero-add t)) in
+      let r : sum (edgeCountOf l) 0 (t + 1) ≡ sum (edgeCountOf l) 0 t + edgeCountOf l t =
+      rw (add-one t) (sum-last (edgeCountOf l) 0 t ∙ rw (zero-add t)) in
       omega (arith, s .beforeIs);
   small = omega (arith, s .small, k .1);
 }
@@ -211,88 +218,65 @@ steps-next {l} {n} {before} {t} {x} {v} c s h e f g k = record {
 
 pub n-few : (l : List ℕ) {n : ℕ} {a : Bool} → a ≡ sizesRight l → not a ≡ false → n ≡ nOf l → n ≤ mostSymbols
 unfolding sizesRight
-n-few l {n} {a} e f g = omega (arith, to-high 1 mostSymbols (nOf l) (left-true _ _ (right-true (within leastQ mostQ (qOf l)) _ (sym e ∙ not-false a f))))
+n-few l e f g =
+    omega (arith, to-high 1 mostSymbols (nOf l) (left-true _ _ (right-true (within leastQ mostQ (qOf l)) _ (holds-by e f))))
 
-module _ (l : List ℕ) {a : Bool} (a-is : a ≡ sizesRight l) where
-  pub part-sizes : not a ≡ true → Unusable ≡ partOf l
-  unfolding partOf usable
-  part-sizes x = let e = sym a-is ∙ not-true a x in rw e
+module _ (l : List ℕ) where
+  pub counted : {n : ℕ} {a b : Bool} → a ≡ sizesRight l → not a ≡ false → n ≡ nOf l → b ≡ countsRight l → not b ≡ false → Counted l n
+  unfolding sizesRight countsRight
+  counted a-is a-yes n-is b-is b-yes = record {
+    nIs = n-is;
+    nTo = n-few l a-is a-yes n-is;
+    qTo = to-high leastQ mostQ (qOf l) (left-true _ _ (holds-by a-is a-yes));
+    verticesTo = λ t h. to-high 1 mostWords (vertexCountOf l t) (all-at _ (nOf l + 1) t (left-true _ _ counts) (omega arith));
+    edgesTo = λ t h. to-high 1 mostWords (edgeCountOf l t)
+        (all-at _ (nOf l) t (right-true (all (λ t. within 1 mostWords (vertexCountOf l t)) (nOf l + 1)) _ counts) (omega arith));
+  }
+    where
+      counts : countsRight l ≡ true
+      counts = holds-by b-is b-yes
 
-  module _ (a-yes : not a ≡ false) {n : ℕ} {b : Bool} (n-is : n ≡ nOf l) (b-is : b ≡ countsRight l) where
-    sizes-yes : sizesRight l ≡ true
-    sizes-yes = sym a-is ∙ not-false a a-yes
+  -- a condition that fails
+  unusable : (Conditions l → ⊥) → Unusable ≡ partOf l
+  unfolding partOf
+  unusable f = let e : usable l ≡ false = is-false (usable l) (λ t. f (usable-says l (is-true (usable l) t))) in rw e
 
-    pub part-counts : not b ≡ true → Unusable ≡ partOf l
-    unfolding partOf usable
-    part-counts x = let e = sizes-yes in let f = sym b-is ∙ not-true b x in rw (e, f)
+  pub part-sizes : {a : Bool} → a ≡ sizesRight l → not a ≡ true → Unusable ≡ partOf l
+  part-sizes e t = unusable (λ c. fails-by e t (c .sizes))
 
-    module _ (b-yes : not b ≡ false) where
-      counts-yes : countsRight l ≡ true
-      counts-yes = sym b-is ∙ not-false b b-yes
+  pub part-counts : {a : Bool} → a ≡ countsRight l → not a ≡ true → Unusable ≡ partOf l
+  part-counts e t = unusable (λ c. fails-by e t (c .counts))
 
-      pub counted : Counted l n
-      unfolding sizesRight countsRight
-      counted = record {
-        nIs = n-is;
-        nTo = n-few l a-is a-yes n-is;
-        qTo = to-high leastQ mostQ (qOf l) (left-true _ _ sizes-yes);
-        verticesTo = λ t h. to-high 1 mostWords (vertexCountOf l t) (all-at _ (nOf l + 1) t (left-true _ _ counts-yes) (omega arith));
-        edgesTo = λ t h. to-high 1 mostWords (edgeCountOf l t) (all-at _ (nOf l) t (right-true (all (λ t. within 1 mostWords (vertexCountOf l t)) (nOf l + 1)) _ counts-yes) (omega arith));
-      }
+  pub part-states : {a : Bool} → a ≡ statesRight l → not a ≡ true → Unusable ≡ partOf l
+  part-states e t = unusable (λ c. fails-by e t (c .states))
 
-      module _ {roots goals pairs symbols end : ℕ} (at : PlacesOf l roots goals pairs symbols end) where
-        pub part-cut : length l < end → Unusable ≡ partOf l
-        unfolding partOf usable whole
-        part-cut h =
-            let e = sizes-yes in
-            let f = counts-yes in
-            let g = lt-leb (sectionLength l) (length l) (omega (arith, at .endIs)) in
-            rw (e, f, g)
+  pub part-steps : {n : ℕ} {a : Bool} → n ≡ nOf l → a ≡ all (stepRight l) n → not a ≡ true → Unusable ≡ partOf l
+  part-steps n-is e t = unusable (λ c.
+      fails-by (e ∙ ap (all (stepRight l)) n-is) t (all-of (stepRight l) (nOf l) (λ t h. step-by l t (c .steps t h))))
 
-        module _ (fits : end ≤ length l) {d : Bool} (d-is : d ≡ statesRight l) where
-          is-whole : whole l ≡ true
-          unfolding whole
-          is-whole = le-leb (sectionLength l) (length l) (omega (arith, at .endIs))
+  module _ {roots goals pairs symbols end : ℕ} (at : PlacesOf l roots goals pairs symbols end) where
+    pub part-cut : length l < end → Unusable ≡ partOf l
+    unfolding whole
+    part-cut h = unusable (λ c. let e = leb-true (sectionLength l) (length l) (c .is-whole) in omega (arith, at .endIs))
 
-          pub part-states : not d ≡ true → Unusable ≡ partOf l
-          unfolding partOf usable
-          part-states x =
-              let e = sizes-yes in
-              let f = counts-yes in
-              let g = is-whole in
-              let h = sym d-is ∙ not-true d x in
-              rw (e, f, g, h)
-
-          module _ (d-yes : not d ≡ false) {m : Bool} (m-is : m ≡ all (stepRight l) n) where
-            states-yes : statesRight l ≡ true
-            states-yes = sym d-is ∙ not-false d d-yes
-
-            steps-test : all (stepRight l) (nOf l) ≡ m
-            steps-test = sym (m-is ∙ ap (all (stepRight l)) n-is)
-
-            pub part-steps : not m ≡ true → Unusable ≡ partOf l
-            unfolding partOf usable
-            part-steps x =
-                let e = sizes-yes in
-                let f = counts-yes in
-                let g = is-whole in
-                let h = states-yes in
-                let i = steps-test ∙ not-true m x in
-                rw (e, f, g, h, i)
-
-            pub part-usable : not m ≡ false → Usable end ≡ partOf l
-            unfolding partOf usable
-            part-usable x =
-                let e = sizes-yes in
-                let f = counts-yes in
-                let g = is-whole in
-                let h = states-yes in
-                let i = steps-test ∙ not-false m x in
-                rw (e, f, g, h, i) (ap Usable (at .endIs))
+    -- none fails
+    pub part-usable : {n : ℕ} {a b d m : Bool} → end ≤ length l → a ≡ sizesRight l → not a ≡ false → b ≡ countsRight l → not b ≡ false
+        → d ≡ statesRight l → not d ≡ false → n ≡ nOf l → m ≡ all (stepRight l) n → not m ≡ false → Usable end ≡ partOf l
+    unfolding partOf whole
+    part-usable h e a-yes f b-yes g d-yes n-is i m-yes =
+        let steps : all (stepRight l) (nOf l) ≡ true = holds-by (i ∙ ap (all (stepRight l)) n-is) m-yes in
+        let u : usable l ≡ true = usable-by l (record {
+          is-whole = le-leb (sectionLength l) (length l) (omega (arith, at .endIs));
+          sizes = holds-by e a-yes;
+          counts = holds-by f b-yes;
+          states = holds-by g d-yes;
+          steps = λ t h. step-says l t (all-at (stepRight l) (nOf l) t steps h);
+        }) in
+        rw u (ap Usable (at .endIs))
 
 pub part-past : (s : List ℕ) (at : ℕ) → length s < at → Unusable ≡ partOf (drop at s)
-unfolding partOf usable sizesRight within
-part-past s at h = let e : drop at s ≡ [] = drop-of-length-le s {i = at} (omega arith) in rw e
+unfolding sizesRight within
+part-past s at h = let e : drop at s ≡ [] = drop-of-length-le s {i = at} (omega arith) in rw e (unusable [] (λ c. clash (sym (c .sizes))))
 
 pub part-from : (s : List ℕ) (at : ℕ) {r : Part} → r ≡ partOf (take (length s - at) (drop at s)) → r ≡ partOf (drop at s)
 part-from s at e = e ∙ ap partOf (take-all (length s - at) (drop at s) (le-of-eq (length-drop at s)))

@@ -1,5 +1,5 @@
--- Tests over all numbers below a count, and over some of them: what they say, and how a loop makes them. A loop that leaves at the first number that
--- fails has shown of every number passed that the test holds there; one failure decides the whole test.
+-- Tests over all numbers below a count, and over some of them: what they say, and how a loop makes them. A loop that leaves at the first
+-- number that fails has shown of every number passed that the test holds there; one failure decides the whole test.
 use mathlib.Core.Path.{_≡_, refl, sym, ap, ap₂, _∙_}
 use mathlib.Core.Bool.{Bool, true, false, not, _&&_, _||_}
 use Prim.Native.Nat.{ℕ, zero, suc, _+_, _≤_, _<_}
@@ -10,7 +10,7 @@ use native.Mathlib.Decide.{ℕ-discrete}
 use lib.Dec.{leb}
 use borrow.Author.Tests.{leb-true, le-leb, not-true, not-false}
 use Rattle.trellis.specs.Lists.{all, any, within}
-use Rattle.trellis.proofs.Bools.{clash, left-true, right-true, both-true, and-false}
+use Rattle.trellis.proofs.Bools.{holds, is-true, same-test, clash, left-true, right-true, both-true, and-false}
 
 -- ---- two tests
 
@@ -25,6 +25,16 @@ given-of false b f = refl
 
 pub if-so : (a b : Bool) {d : Bool} → not a ≡ false → d ≡ b → d ≡ (not a || b)
 if-so a b e f = f ∙ rw e
+
+pub same-if : {a b : Bool} → (a ≡ true → b ≡ true) → (b ≡ true → a ≡ true) → a ≡ b
+same-if {a} {b} f g = same-test a b (λ t. holds (f (is-true a t))) (λ t. holds (g (is-true b t)))
+
+-- a call answered that a condition holds, or that it does not
+pub holds-by : {a b : Bool} → a ≡ b → not a ≡ false → b ≡ true
+holds-by {a} e t = sym e ∙ not-false a t
+
+pub fails-by : {a b : Bool} → a ≡ b → not a ≡ true → b ≡ true → ⊥
+fails-by {a} e t q = clash (sym q ∙ sym e ∙ not-true a t)
 
 -- ---- a number within bounds
 
@@ -98,6 +108,39 @@ pub all-same : (f g : ℕ → Bool) (count : ℕ) → ((k : ℕ) → k < count �
 unfolding all
 all-same f g zero h = refl
 all-same f g (suc count) h = ap₂ (λ a b. a && b) (all-same f g count (λ k l. h k (omega arith))) (h count (omega arith))
+
+pub all-both : (f g : ℕ → Bool) (count : ℕ) → all (λ k. f k && g k) count ≡ (all f count && all g count)
+all-both f g count = same-if
+    (λ e. both-true
+    (all-of f count (λ k h. left-true _ _ (all-at (λ k. f k && g k) count k e h)))
+    (all-of g count (λ k h. right-true (f k) _ (all-at (λ k. f k && g k) count k e h))))
+    (λ e. all-of (λ k. f k && g k) count
+    (λ k h. both-true (all-at f count k (left-true _ _ e) h) (all-at g count k (right-true (all f count) _ e) h)))
+
+-- ---- in order: where each number is above the one before it, each is above all before it, because the order is transitive
+
+module _ (next : ℕ → Bool) (less : ℕ → ℕ → Bool) (at-first : next 0 ≡ true) (at-next : (k : ℕ) → next (suc k) ≡ less k (suc k))
+    (chain : (i j k : ℕ) → less i j ≡ true → less j k ≡ true → less i k ≡ true) where
+  later : (count : ℕ) → all next count ≡ true → (j k : ℕ) → j < k → k < count → less j k ≡ true
+  later count e j zero a b = absurd (not-suc-le-zero a)
+  later count e j (suc k) a b = go (ℕ-discrete j k) (later count e j k)
+    where
+      here : less k (suc k) ≡ true
+      here = sym (at-next k) ∙ all-at next count (suc k) e b
+
+      go : Dec (j ≡ k) → (j < k → k < count → less j k ≡ true) → less j (suc k) ≡ true
+      go (yes q) r = ap (λ i. less i (suc k)) q ∙ here
+      go (no q) r = chain j k (suc k) (r (omega arith) (omega arith)) here
+
+  each-next : (count : ℕ) → all (λ k. all (λ j. less j k) k) count ≡ true → (k : ℕ) → k < count → next k ≡ true
+  each-next count e zero h = at-first
+  each-next count e (suc k) h =
+      at-next k ∙ all-at (λ j. less j (suc k)) (suc k) k (all-at (λ k. all (λ j. less j k) k) count (suc k) e h) (omega arith)
+
+  pub all-next : (count : ℕ) → all next count ≡ all (λ k. all (λ j. less j k) k) count
+  all-next count = same-if
+      (λ e. all-of (λ k. all (λ j. less j k) k) count (λ k h. all-of (λ j. less j k) k (λ j i. later count e j k i h)))
+      (λ e. all-of next count (each-next count e))
 
 -- ---- a loop that leaves at the first number that fails
 

@@ -1,4 +1,5 @@
 -- What only the contracts of inner functions cite.
+pub mod Steps
 pub mod Sound
 pub mod Places
 pub mod Answer

@@ -1,12 +1,13 @@
-// Which sections are usable, by document 01: `usable_at` answers for the section that starts at any place of a slice, whatever numbers the slice has.
-// It looks at each number a few times, and promises an equation with the definition of usable.
+// Which sections are usable, by document 01: `usable_at` answers for the section that starts at any place of a slice, whatever numbers the
+// slice has. It looks at each number a few times, and promises an equation with document 01's definition.
 ghost use mathlib.Core.Path.{_≡_};
 ghost use Prim.Native.Nat.{_+_, _≤_};
 ghost use lib.ListN.{getD, drop};
 ghost use Rattle.trellis.specs.Bounds.{mostWords, mostSymbols};
 ghost use Rattle.trellis.specs.Own.{edgeLess};
 ghost use Rattle.trellis.specs.Layout.{nOf, pairsPlace, symbolsPlace};
-ghost use Rattle.section_file.specs.Usable.{inside, above, sizesRight, countsRight, stepRight};
+ghost use Rattle.section_file.specs.Usable.{sizesRight, countsRight};
+ghost use Rattle.section_file.specs.inner.Steps.{inside, above, stepRight};
 ghost use Rattle.trellis.specs.Lists.{all, within};
 ghost use Rattle.section_file.specs.inner.Places.{PlacesOf, Counted, StepAt};
 ghost use Rattle.section_file.specs.inner.Answer.{partOf, edgeAt, heldEdge, meantEdge};
@@ -32,7 +33,7 @@ const MOST_STATES: u16 = trellis::MOST_STATES as u16;
 
 const MOST_WORDS: u16 = trellis::MOST_WORDS as u16;
 
-// The part of a slice that a usable section takes up is as long as its counts say.
+// What stands at a place of a slice: a usable section, with the length of its part, or none.
 pub enum Part {
     Usable(usize),
     Unusable,
@@ -44,6 +45,7 @@ struct Edge {
     to: u16,
 }
 
+// Where the root states, the goal states, the pairs (from, to) and the symbols begin, and where the section ends.
 struct Places {
     roots: usize,
     goals: usize,
@@ -114,6 +116,7 @@ fn places_of(l: &[u16], n: usize) -> Places
     }
 }
 
+// Edge k of those whose pairs and symbols begin at these places.
 fn edge_at(l: &[u16], pairs: usize, symbols: usize, k: usize) -> Edge
     requires { ⌜ (pairs ≤ 4000000) × (symbols ≤ 4000000) × (k ≤ mostWords) ⌝ }
     ensures { λ r. ⌜ r ≡ heldEdge (edgeAt (now (l .entry)) pairs symbols k) ⌝ }
@@ -141,10 +144,10 @@ fn is_inside(
     if e.from >= froms {
         return false;
     }
-    if e.symbol >= q {
+    if e.to >= tos {
         return false;
     }
-    e.to < tos
+    e.symbol < q
 }
 
 fn all_inside(
@@ -215,6 +218,8 @@ fn all_above(l: &[u16], pairs: usize, symbols: usize, count: usize) -> bool
     true
 }
 
+// One step, whose edges' pairs and symbols begin at these places. That edges are within bounds is checked first: their vertices and symbols
+// are places in the arrays of marks.
 fn step_right(l: &[u16], n: usize, t: usize, pairs: usize, symbols: usize) -> bool
     requires { ⌜ StepAt (now l) n t pairs symbols ⌝ }
     ensures { λ r. ⌜ r ≡ stepRight (now (l .entry)) t ⌝ }
@@ -240,8 +245,10 @@ fn step_right(l: &[u16], n: usize, t: usize, pairs: usize, symbols: usize) -> bo
     twins_right(0 < t, l, pairs + 1, symbols, pairs, count)
 }
 
+// All steps; the edges of a step stand behind those of the steps before it.
 fn steps_right(l: &[u16], n: usize, pairs: usize, symbols: usize) -> bool
-    requires { ⌜ Counted (now l) n × (pairs ≡ pairsPlace (now l)) × (symbols ≡ symbolsPlace (now l)) × (pairs ≤ 2000000) × (symbols ≤ 2000000) ⌝ }
+    requires { ⌜ Counted (now l) n × (pairs ≡ pairsPlace (now l)) × (symbols ≡ symbolsPlace (now l))
+        × (pairs ≤ 2000000) × (symbols ≤ 2000000) ⌝ }
     ensures { λ r. ⌜ r ≡ all (stepRight (now (l .entry))) n ⌝ }
 {
     let mut before: usize = 0;
@@ -256,7 +263,7 @@ fn steps_right(l: &[u16], n: usize, pairs: usize, symbols: usize) -> bool
     true
 }
 
-// The section at the front of the slice.
+// The section at the front of the slice. Sizes and counts are checked first: where the other numbers stand follows from them.
 fn front_part(l: &[u16]) -> Part
     ensures { λ r. ⌜ r ≡ partOf (now (l .entry)) ⌝ }
 {
@@ -280,6 +287,10 @@ fn front_part(l: &[u16]) -> Part
     Part::Usable(at.end)
 }
 
+// Whether the section that starts at a place of the slice is usable, and if so how long its part is. For every slice and every place the
+// answer is the definition's: usable exactly if document 01's conditions hold of the numbers from that place on, with the length that the
+// section's own counts give. A section that is cut short is unusable, and so is one that would start past the end of the slice. Nothing is
+// written.
 pub fn usable_at(s: &[u16], at: usize) -> Part
     ensures { λ r. ⌜ r ≡ partOf (drop at (now (s .entry))) ⌝ }
 {

@@ -1,12 +1,12 @@
 // End states: whether those of the roots and of the goals ascend strictly and are below S.
 ghost use mathlib.Core.Path.{_≡_};
-ghost use mathlib.Core.Bool.{_&&_};
 ghost use Prim.Native.Nat.{_+_, _≤_};
-ghost use lib.Dec.{ltb};
 ghost use lib.ListN.{getD};
 ghost use Rattle.trellis.specs.Bounds.{mostWords};
 ghost use Rattle.trellis.specs.Layout.{rootsPlace, goalsPlace};
-ghost use Rattle.section_file.specs.Usable.{higher, rising, statesRight};
+ghost use Rattle.trellis.specs.Lists.{all};
+ghost use Rattle.section_file.specs.Usable.{statesRight};
+ghost use Rattle.section_file.specs.inner.Steps.{higher, stateRight};
 ghost use Rattle.section_file.specs.inner.Places.{Counted};
 use numbers::number;
 use numbers::wide;
@@ -24,17 +24,17 @@ fn is_higher(l: &[u16], at: usize, v: usize) -> bool
 
 fn state_right(l: &[u16], at: usize, v: usize, bound: u16) -> bool
     requires { ⌜ (at ≤ 4000000) × (v ≤ mostWords) ⌝ }
-    ensures { λ r. ⌜ r ≡ (ltb (getD (now (l .entry)) (at + v) 0) bound && higher (λ u. getD (now (l .entry)) (at + u) 0) v) ⌝ }
+    ensures { λ r. ⌜ r ≡ stateRight (λ u. getD (now (l .entry)) (at + u) 0) bound v ⌝ }
 {
-    if number(l, at + v) >= bound {
+    if !is_higher(l, at, v) {
         return false;
     }
-    is_higher(l, at, v)
+    number(l, at + v) < bound
 }
 
 fn is_rising(l: &[u16], at: usize, count: usize, bound: u16) -> bool
     requires { ⌜ (at ≤ 4000000) × (count ≤ mostWords) ⌝ }
-    ensures { λ r. ⌜ r ≡ rising (λ v. getD (now (l .entry)) (at + v) 0) count bound ⌝ }
+    ensures { λ r. ⌜ r ≡ all (stateRight (λ u. getD (now (l .entry)) (at + u) 0) bound) count ⌝ }
 {
     let mut v: usize = 0;
     while v < count {

@@ -1,6 +1,7 @@
--- `section_file::all_above` meets its contract. The loop's invariant: each edge passed is above the one before it. The measure is what is left of them.
+-- `section_file::all_above` meets its contract. The loop's invariant: each edge passed is above the one before it.
+-- The measure is what is left of them.
 use Prim.Native.Nat.{_-_}
-use Rattle.section_file.specs.Usable.{above}
+use Rattle.section_file.specs.inner.Steps.{above}
 use Rattle.section_file.specs.inner.Answer.{edgeAt}
 use Rattle.section_file.proofs.Tests.{Passed, passed-start, passed-next, passed-fails, passed-all}
 use borrow.Author.Needs.{needs}

@@ -1,4 +1,5 @@
--- `section_file::all_counts` meets its contract. The loop's invariant: all counts passed are in bounds. The measure is what is left of them.
+-- `section_file::all_counts` meets its contract. The loop's invariant: all counts passed are in bounds.
+-- The measure is what is left of them.
 use mathlib.Core.Path.{_∙_, ap}
 use Prim.Native.Nat.{_+_, _-_}
 use lib.ListN.{getD}
@@ -28,7 +29,9 @@ is-within-requires : tie.Need-is-within-requires Inv-loop μ-loop
 is-within-requires c κs = search needs
 
 returns : tie.Need-returns Inv-loop μ-loop
-returns c = passed-fails (c .before .before .before .before .loop .inv) (search needs) (c .before .is-within .ensures ∙ ap (within 1 mostWords) (c .before .before .number .ensures)) (c .if1 .taken)
+returns c =
+    passed-fails (c .before .before .before .before .loop .inv) (search needs)
+    (c .before .is-within .ensures ∙ ap (within 1 mostWords) (c .before .before .number .ensures)) (c .if1 .taken)
 
 add-t : tie.Need-add-t Inv-loop μ-loop
 add-t c = search needs
@@ -37,7 +40,9 @@ loop-less : tie.Need-loop-less Inv-loop μ-loop
 loop-less c = search needs
 
 loop-again : tie.Need-loop-again Inv-loop μ-loop
-loop-again c = passed-next (c .before .before .before .before .loop .inv) (search needs) (c .before .is-within .ensures ∙ ap (within 1 mostWords) (c .before .before .number .ensures)) (c .if1 .left)
+loop-again c =
+    passed-next (c .before .before .before .before .loop .inv) (search needs)
+    (c .before .is-within .ensures ∙ ap (within 1 mostWords) (c .before .before .number .ensures)) (c .if1 .left)
 
 returns-2 : tie.Need-returns-2 Inv-loop μ-loop
 returns-2 c = passed-all (c .before .loop .inv) (search needs)

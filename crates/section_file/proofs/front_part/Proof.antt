@@ -1,17 +1,34 @@
--- `section_file::front_part` meets its contract: the first condition of usable that fails decides, and where none fails the section is usable.
-use mathlib.Core.Path.{_∙_}
+-- `section_file::front_part` meets its contract: the first condition that fails decides, and where none fails the section is usable.
+use mathlib.Core.Path.{_≡_, _∙_}
+use Prim.Native.Nat.{_≤_}
 use native.Mathlib.Omega.{arith}
+use Rattle.trellis.specs.Bounds.{mostSymbols}
+use Rattle.trellis.specs.Layout.{nOf}
+use Rattle.section_file.specs.inner.Places.{Counted}
 use Rattle.section_file.proofs.Steps.{n-few, counted, part-sizes, part-counts, part-cut, part-states, part-steps, part-usable}
 use borrow.Author.Needs.{needs}
 use Rattle.section_file.proofs.front_part.Statement.{statement}
 use Rattle.section_file.proofs.front_part.Tie as tie
 
+-- n, once it is read
+n-is : (w : tie.After-wide) → w .wide .result ≡ nOf (w .before .before .before .before .before .args .l .now)
+n-is w = w .wide .ensures .0 ∙ w .before .number .ensures
+
+n-small : (w : tie.After-wide) → w .wide .result ≤ mostSymbols
+n-small w = let e = w .before .before in n-few _ (e .before .sizes-right .ensures) (e .if1 .left) (n-is w)
+
+-- what the sizes and the counts say, once both are right
+counts : (e : tie.Else2) → let w = e .before .before in Counted (w .before .before .before .before .before .args .l .now) (w .wide .result)
+counts e =
+    let w = e .before .before in
+    let e1 = w .before .before in
+    counted _ (e1 .before .sizes-right .ensures) (e1 .if1 .left) (n-is w) (e .before .counts-right .ensures) (e .if2 .left)
+
 sizes-right-requires : tie.Need-sizes-right-requires
 sizes-right-requires c κs = search needs
 
 returns : tie.Need-returns
-returns c = let S = c .before in
-    part-sizes _ (S .sizes-right .ensures) (c .if1 .taken)
+returns c = part-sizes _ (c .before .sizes-right .ensures) (c .if1 .taken)
 
 number-requires : tie.Need-number-requires
 number-requires c κs = search needs
@@ -20,42 +37,48 @@ wide-requires : tie.Need-wide-requires
 wide-requires c κs = search needs
 
 counts-right-requires : tie.Need-counts-right-requires
-counts-right-requires c κs = let w = c in let n = w .before in let e1 = n .before in let S = e1 .before in let ni = w .wide .ensures .0 ∙ n .number .ensures in
-    (ni, n-few _ (S .sizes-right .ensures) (e1 .if1 .left) ni)
+counts-right-requires c κs = (n-is c, n-small c)
 
 returns-2 : tie.Need-returns-2
-returns-2 c = let K = c .before in let w = K .before in let n = w .before in let e1 = n .before in let S = e1 .before in let ni = w .wide .ensures .0 ∙ n .number .ensures in
-    part-counts _ (S .sizes-right .ensures) (e1 .if1 .left) ni (K .counts-right .ensures) (c .if2 .taken)
+returns-2 c = part-counts _ (c .before .counts-right .ensures) (c .if2 .taken)
 
 places-of-requires : tie.Need-places-of-requires
-places-of-requires c κs = let e2 = c in let K = e2 .before in let w = K .before in let n = w .before in let e1 = n .before in let S = e1 .before in let ni = w .wide .ensures .0 ∙ n .number .ensures in
-    (ni, n-few _ (S .sizes-right .ensures) (e1 .if1 .left) ni)
+places-of-requires c κs = let w = c .before .before in (n-is w, n-small w)
 
 returns-3 : tie.Need-returns-3
-returns-3 c = let P = c .before .before in let e2 = P .before in let K = e2 .before in let w = K .before in let n = w .before in let e1 = n .before in let S = e1 .before in let ni = w .wide .ensures .0 ∙ n .number .ensures in
-    part-cut _ (S .sizes-right .ensures) (e1 .if1 .left) ni (K .counts-right .ensures) (e2 .if2 .left) (P .places-of .ensures) (c .if3 .taken)
+returns-3 c = part-cut _ (c .before .before .places-of .ensures) (c .if3 .taken)
 
 states-right-requires : tie.Need-states-right-requires
-states-right-requires c κs = let e3 = c in let P = e3 .before .before in let e2 = P .before in let K = e2 .before in let w = K .before in let n = w .before in let e1 = n .before in let S = e1 .before in let ni = w .wide .ensures .0 ∙ n .number .ensures in
-    let q = P .places-of .ensures in
-    (counted _ (S .sizes-right .ensures) (e1 .if1 .left) ni (K .counts-right .ensures) (e2 .if2 .left), q .rootsIs, q .goalsIs, omega (arith, q .near, q .order .0, q .order .1, q .order .2, q .order .3), omega (arith, q .near, q .order .0, q .order .1, q .order .2, q .order .3))
+states-right-requires c κs =
+    let p = c .before .before in
+    let q = p .places-of .ensures in
+    let o = q .order in
+    (counts (p .before), q .rootsIs, q .goalsIs, omega (arith, q .near, o .1, o .2, o .3), omega (arith, q .near, o .0, o .1, o .2, o .3))
 
 returns-4 : tie.Need-returns-4
-returns-4 c = let A = c .before in let e3 = A .before in let P = e3 .before .before in let e2 = P .before in let K = e2 .before in let w = K .before in let n = w .before in let e1 = n .before in let S = e1 .before in let ni = w .wide .ensures .0 ∙ n .number .ensures in
-    part-states _ (S .sizes-right .ensures) (e1 .if1 .left) ni (K .counts-right .ensures) (e2 .if2 .left) (P .places-of .ensures) (e3 .if3 .left) (A .states-right .ensures) (c .if4 .taken)
+returns-4 c = part-states _ (c .before .states-right .ensures) (c .if4 .taken)
 
 steps-right-requires : tie.Need-steps-right-requires
-steps-right-requires c κs = let e4 = c in let A = e4 .before in let e3 = A .before in let P = e3 .before .before in let e2 = P .before in let K = e2 .before in let w = K .before in let n = w .before in let e1 = n .before in let S = e1 .before in let ni = w .wide .ensures .0 ∙ n .number .ensures in
-    let q = P .places-of .ensures in
-    (counted _ (S .sizes-right .ensures) (e1 .if1 .left) ni (K .counts-right .ensures) (e2 .if2 .left), q .pairsIs, q .symbolsIs, omega (arith, q .near, q .order .2, q .order .3), omega (arith, q .near, q .order .3))
+steps-right-requires c κs =
+    let p = c .before .before .before .before in
+    let q = p .places-of .ensures in
+    (counts (p .before), q .pairsIs, q .symbolsIs, omega (arith, q .near, q .order .2, q .order .3), omega (arith, q .near, q .order .3))
 
 returns-5 : tie.Need-returns-5
-returns-5 c = let B = c .before in let e4 = B .before in let A = e4 .before in let e3 = A .before in let P = e3 .before .before in let e2 = P .before in let K = e2 .before in let w = K .before in let n = w .before in let e1 = n .before in let S = e1 .before in let ni = w .wide .ensures .0 ∙ n .number .ensures in
-    part-steps _ (S .sizes-right .ensures) (e1 .if1 .left) ni (K .counts-right .ensures) (e2 .if2 .left) (P .places-of .ensures) (e3 .if3 .left) (A .states-right .ensures) (e4 .if4 .left) (B .steps-right .ensures) (c .if5 .taken)
+returns-5 c =
+    let w = c .before .before .before .before .before .before .before .before .before in
+    part-steps _ (n-is w) (c .before .steps-right .ensures) (c .if5 .taken)
 
 returns-6 : tie.Need-returns-6
-returns-6 c = let B = c .before in let e4 = B .before in let A = e4 .before in let e3 = A .before in let P = e3 .before .before in let e2 = P .before in let K = e2 .before in let w = K .before in let n = w .before in let e1 = n .before in let S = e1 .before in let ni = w .wide .ensures .0 ∙ n .number .ensures in
-    part-usable _ (S .sizes-right .ensures) (e1 .if1 .left) ni (K .counts-right .ensures) (e2 .if2 .left) (P .places-of .ensures) (e3 .if3 .left) (A .states-right .ensures) (e4 .if4 .left) (B .steps-right .ensures) (c .if5 .left)
+returns-6 c =
+    let e4 = c .before .before in
+    let e3 = e4 .before .before in
+    let e2 = e3 .before .before .before in
+    let w = e2 .before .before in
+    let e1 = w .before .before in
+    part-usable _ (e3 .before .before .places-of .ensures) (e3 .if3 .left) (e1 .before .sizes-right .ensures) (e1 .if1 .left)
+    (e2 .before .counts-right .ensures) (e2 .if2 .left) (e4 .before .states-right .ensures) (e4 .if4 .left)
+    (n-is w) (c .before .steps-right .ensures) (c .if5 .left)
 
 pub front-part-spec : {M : Type 1} → statement M
 front-part-spec =

@@ -1,4 +1,5 @@
--- `section_file::steps_right` meets its contract. The loop's invariant: all steps passed are right, and their edges are counted. The measure is what is left.
+-- `section_file::steps_right` meets its contract. The loop's invariant: all steps passed are right, and their edges are counted.
+-- The measure is what is left.
 use Prim.Native.Nat.{_-_}
 use Rattle.section_file.proofs.Tests.{passed-fails, passed-all}
 use Rattle.section_file.proofs.Steps.{InSteps, steps-start, step-at, steps-next}
@@ -25,10 +26,14 @@ add-step-right-2 : tie.Need-add-step-right-2 Inv-loop μ-loop
 add-step-right-2 c = search needs
 
 step-right-requires : tie.Need-step-right-requires Inv-loop μ-loop
-step-right-requires c κs = let p = c .before .before .before .pre in step-at (p .0) (p .1) (p .2) (p .3) (p .4) (c .before .loop .inv) (c .loop-test .taken)
+step-right-requires c κs =
+    let p = c .before .before .before .pre in
+    step-at (p .0) (p .1) (p .2) (p .3) (p .4) (c .before .loop .inv) (c .loop-test .taken)
 
 returns : tie.Need-returns Inv-loop μ-loop
-returns c = let h = c .before .before in passed-fails (h .before .loop .inv .passed) (h .loop-test .taken) (c .before .step-right .ensures) (c .if1 .taken)
+returns c =
+    let h = c .before .before in
+    passed-fails (h .before .loop .inv .passed) (h .loop-test .taken) (c .before .step-right .ensures) (c .if1 .taken)
 
 add-number : tie.Need-add-number Inv-loop μ-loop
 add-number c = search needs
@@ -53,7 +58,8 @@ loop-less c = search needs
 
 loop-again : tie.Need-loop-again Inv-loop μ-loop
 loop-again c = let e = c .before .before in let h = e .before .before in
-    steps-next (h .before .before .before .pre .0) (h .before .loop .inv) (h .loop-test .taken) (e .before .step-right .ensures) (e .if1 .left) (c .before .number .ensures) (c .wide .ensures)
+    steps-next (h .before .before .before .pre .0) (h .before .loop .inv) (h .loop-test .taken) (e .before .step-right .ensures)
+    (e .if1 .left) (c .before .number .ensures) (c .wide .ensures)
 
 returns-2 : tie.Need-returns-2 Inv-loop μ-loop
 returns-2 c = passed-all (c .before .loop .inv .passed) (search needs)

@@ -1,4 +1,5 @@
--- `section_file::usable_at` meets its contract: behind the end of the slice there is no section, and else the part from there on is the rest of the list.
+-- `section_file::usable_at` meets its contract: past the end of the slice there is no section, and else the section is at the front of
+-- what is left of the list.
 use Rattle.section_file.proofs.Steps.{part-past, part-from}
 use borrow.Author.Needs.{needs}
 use Rattle.section_file.proofs.usable_at.Statement.{statement}

@@ -6,7 +6,8 @@ use lib.Dec.{eqb}
 use lib.ListN.{length, getD}
 use Rattle.trellis.specs.Bounds.{mostWords, mostSymbols, mostQ}
 use Rattle.trellis.specs.Lists.{one-if, any}
-use Rattle.trellis.specs.Layout.{qOf, nOf, vertexCountOf, edgeCountOf, edgesBefore, rootsPlace, goalsPlace, pairsPlace, symbolsPlace, sectionLength}
+use Rattle.trellis.specs.Layout.{qOf, nOf, vertexCountOf, edgeCountOf, edgesBefore, sectionLength}
+use Rattle.trellis.specs.Layout.{rootsPlace, goalsPlace, pairsPlace, symbolsPlace}
 
 pub record PlacesOf (l : List ℕ) (roots goals pairs symbols end : ℕ) : Type 0 where
   pub rootsIs : roots ≡ rootsPlace l
@@ -43,7 +44,7 @@ pub record Vertices (l : List ℕ) (at count : ℕ) : Type 0 where
 -- count symbols
 pub record Symbols (l : List ℕ) (at count : ℕ) : Type 0 where
   pub near : at ≤ 4000000
-  pub small : (k : ℕ) → k < count → getD l (at + k) 0 < 4
+  pub small : (k : ℕ) → k < count → getD l (at + k) 0 < mostQ
 
 -- a mark for each vertex that f takes below count
 pub record Marks (f : ℕ → ℕ) (count : ℕ) (marks : List ℕ) : Type 0 where

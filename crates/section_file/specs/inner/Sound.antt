@@ -1,4 +1,4 @@
--- What usable says of a section, as statements: one field for each condition of document 01. Step t + 1 of document 01 is written as step t.
+-- What usable says of a section, as statements: a field or two for each condition of document 01, whose step t + 1 is step t here.
 use mathlib.Core.Path.{_≡_}
 use mathlib.Core.List.{List}
 use Prim.Native.Nat.{ℕ, suc, _≤_, _<_}

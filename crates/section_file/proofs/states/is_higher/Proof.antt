@@ -23,7 +23,9 @@ number-requires-2 : tie.Need-number-requires-2
 number-requires-2 c κs = search needs
 
 returns-2 : tie.Need-returns-2
-returns-2 c = let a = c .before .before .before .before .args in higher-is (a .l .now) (a .at) _ (c .before .before .if1 .left) (c .before .number .ensures) (c .number2 .ensures)
+returns-2 c =
+    let a = c .before .before .before .before .args in
+    higher-is (a .l .now) (a .at) _ (c .before .before .if1 .left) (c .before .number .ensures) (c .number2 .ensures)
 
 pub is-higher-spec : {M : Type 1} → statement M
 is-higher-spec =

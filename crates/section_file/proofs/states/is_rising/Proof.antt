@@ -1,16 +1,15 @@
--- `section_file::states::is_rising` meets its contract. The loop's invariant: all states passed are below the bound and ascend. The measure is what is left of them.
-use mathlib.Core.Bool.{_&&_}
+-- `section_file::states::is_rising` meets its contract. The loop's invariant: all states passed are below the bound and ascend.
+-- The measure is what is left of them.
 use Prim.Native.Nat.{_+_, _-_}
-use lib.Dec.{ltb}
 use lib.ListN.{getD}
-use Rattle.section_file.specs.Usable.{higher, rising}
+use Rattle.section_file.specs.inner.Steps.{stateRight}
 use Rattle.section_file.proofs.Tests.{Passed, passed-start, passed-next, passed-fails, passed-all}
 use borrow.Author.Needs.{needs}
 use Rattle.section_file.proofs.states.is_rising.Statement.{statement}
 use Rattle.section_file.proofs.states.is_rising.Tie as tie
 
 abbrev Inv-loop : tie.InvT-loop
-Inv-loop l at count bound v₀ v = Passed (λ v. ltb (getD l (at + v) 0) bound && higher (λ u. getD l (at + u) 0) v) count v
+Inv-loop l at count bound v₀ v = Passed (stateRight (λ u. getD l (at + u) 0) bound) count v
 
 abbrev μ-loop : tie.MeasureT-loop
 μ-loop l at count bound v₀ v = count - v
@@ -22,7 +21,6 @@ state-right-requires : tie.Need-state-right-requires Inv-loop μ-loop
 state-right-requires c κs = search needs
 
 returns : tie.Need-returns Inv-loop μ-loop
-unfolding rising
 returns c = passed-fails (c .before .before .before .loop .inv) (search needs) (c .before .state-right .ensures) (c .if1 .taken)
 
 add-v : tie.Need-add-v Inv-loop μ-loop
@@ -35,7 +33,6 @@ loop-again : tie.Need-loop-again Inv-loop μ-loop
 loop-again c = passed-next (c .before .before .before .loop .inv) (search needs) (c .before .state-right .ensures) (c .if1 .left)
 
 returns-2 : tie.Need-returns-2 Inv-loop μ-loop
-unfolding rising
 returns-2 c = passed-all (c .before .loop .inv) (search needs)
 
 pub is-rising-spec : {M : Type 1} → statement M

@@ -14,11 +14,14 @@ wide-requires : tie.Need-wide-requires
 wide-requires c κs = search needs
 
 is-rising-requires : tie.Need-is-rising-requires
-is-rising-requires c κs = let p = c .before .before .before .before .pre in (search needs, counted-at 0 (p .0) (search needs) (c .before .number2 .ensures) (c .wide .ensures))
+is-rising-requires c κs =
+    let p = c .before .before .before .before .pre in
+    (search needs, counted-at 0 (p .0) (search needs) (c .before .number2 .ensures) (c .wide .ensures))
 
 returns : tie.Need-returns
 returns c = let w = c .before .before in let n = w .before .before in let p = n .before .before .pre in
-    roots-wrong _ (p .0) (p .1) (p .2) (n .number .ensures) (w .before .number2 .ensures) (w .wide .ensures) (c .before .is-rising .ensures) (c .if1 .taken)
+    roots-wrong _ (p .0) (p .1) (p .2) (n .number .ensures) (w .before .number2 .ensures) (w .wide .ensures)
+    (c .before .is-rising .ensures) (c .if1 .taken)
 
 add-number : tie.Need-add-number
 add-number c = search needs
@@ -30,11 +33,21 @@ wide-requires-2 : tie.Need-wide-requires-2
 wide-requires-2 c κs = search needs
 
 is-rising-requires-2 : tie.Need-is-rising-requires-2
-is-rising-requires-2 c κs = let e = c .before .before in let w = e .before .before in let p = w .before .before .before .before .pre in (search needs, counted-at _ (p .0) (search needs) (c .before .number3 .ensures) (c .wide2 .ensures))
+is-rising-requires-2 c κs =
+    let e = c .before .before in
+    let w = e .before .before in
+    let p = w .before .before .before .before .pre in
+    (search needs, counted-at _ (p .0) (search needs) (c .before .number3 .ensures) (c .wide2 .ensures))
 
 returns-2 : tie.Need-returns-2
-returns-2 c = let v = c .before in let e = v .before .before in let w = e .before .before in let n = w .before .before in let p = n .before .before .pre in
-    states-by-goals _ (p .0) (p .1) (p .2) (n .number .ensures) (w .before .number2 .ensures) (w .wide .ensures) (e .before .is-rising .ensures) (e .if1 .left) (v .before .number3 .ensures) (v .wide2 .ensures) (c .is-rising2 .ensures)
+returns-2 c =
+    let v = c .before in
+    let e = v .before .before in
+    let w = e .before .before in
+    let n = w .before .before in
+    let p = n .before .before .pre in
+    states-by-goals _ (p .0) (p .1) (p .2) (n .number .ensures) (w .before .number2 .ensures) (w .wide .ensures)
+    (e .before .is-rising .ensures) (e .if1 .left) (v .before .number3 .ensures) (v .wide2 .ensures) (c .is-rising2 .ensures)
 
 pub states-right-spec : {M : Type 1} → statement M
 states-right-spec =

@@ -25,7 +25,9 @@ array-read-if1 : tie.Need-array-read-if1 Inv-loop μ-loop
 array-read-if1 c = search needs
 
 returns : tie.Need-returns Inv-loop μ-loop
-returns c = let h = c .before in covered-fails (h .before .before .marks .ensures) (search needs) (h .before .loop .inv) (h .loop-test .taken) (c .if1 .taken)
+returns c =
+    let h = c .before in
+    covered-fails (h .before .before .marks .ensures) (search needs) (h .before .loop .inv) (h .loop-test .taken) (c .if1 .taken)
 
 add-v : tie.Need-add-v Inv-loop μ-loop
 add-v c = search needs
@@ -34,7 +36,9 @@ loop-less : tie.Need-loop-less Inv-loop μ-loop
 loop-less c = search needs
 
 loop-again : tie.Need-loop-again Inv-loop μ-loop
-loop-again c = let h = c .before in covered-next (h .before .before .marks .ensures) (search needs) (h .before .loop .inv) (h .loop-test .taken) (c .if1 .left)
+loop-again c =
+    let h = c .before in
+    covered-next (h .before .before .marks .ensures) (search needs) (h .before .loop .inv) (h .loop-test .taken) (c .if1 .left)
 
 returns-2 : tie.Need-returns-2 Inv-loop μ-loop
 returns-2 c = covered-all (c .before .before .marks .ensures) (c .before .loop .inv) (search needs)

@@ -1,4 +1,5 @@
--- `section_file::twins::marks` meets its contract. The loop's invariant: just the vertices passed are marked. The measure is what is left of them.
+-- `section_file::twins::marks` meets its contract. The loop's invariant: just the vertices passed are marked.
+-- The measure is what is left of them.
 use mathlib.Core.Path.{refl}
 use native.Mathlib.Omega.{arith}
 use Prim.Native.Nat.{_+_, _-_, _*_}
@@ -30,7 +31,10 @@ wide-requires : tie.Need-wide-requires Inv-loop μ-loop
 wide-requires c κs = search needs
 
 array-write-marks : tie.Need-array-write-marks Inv-loop μ-loop
-array-write-marks c = let h = c .before .before in omega (arith, vertex-small (h .before .before .before .pre) (h .loop-test .taken) (c .before .number .ensures) (c .wide .ensures), h .before .loop .inv .so-far .long)
+array-write-marks c =
+    let h = c .before .before in
+    let v = vertex-small (h .before .before .before .pre) (h .loop-test .taken) (c .before .number .ensures) (c .wide .ensures) in
+    omega (arith, h .before .loop .inv .so-far .long)
 
 add-k : tie.Need-add-k Inv-loop μ-loop
 add-k c = search needs
@@ -39,7 +43,10 @@ loop-less : tie.Need-loop-less Inv-loop μ-loop
 loop-less c = search needs
 
 loop-again : tie.Need-loop-again Inv-loop μ-loop
-loop-again c = let h = c .before .before in marking-next (h .before .loop .inv) (h .loop-test .taken) (c .before .number .ensures) (c .wide .ensures) (h .before .before .before .pre .small _ (h .loop-test .taken))
+loop-again c =
+    let h = c .before .before in
+    marking-next (h .before .loop .inv) (h .loop-test .taken) (c .before .number .ensures) (c .wide .ensures)
+    (h .before .before .before .pre .small _ (h .loop-test .taken))
 
 returns : tie.Need-returns Inv-loop μ-loop
 returns c = marking-all (c .before .loop .inv) (search needs)

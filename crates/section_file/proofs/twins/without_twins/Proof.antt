@@ -1,5 +1,5 @@
--- `section_file::twins::without_twins` meets its contract. The loop's invariant: no two edges passed make twins, and for each vertex and symbol that they have the
--- array has their one vertex at the other end. The measure is what is left of them.
+-- `section_file::twins::without_twins` meets its contract. The loop's invariant: no two edges passed make twins, and for each vertex and
+-- symbol that they have the array has their one vertex at the other end. The measure is what is left of them.
 use mathlib.Core.Path.{refl}
 use native.Mathlib.Omega.{arith}
 use Prim.Native.Nat.{_+_, _-_, _*_}
@@ -10,7 +10,8 @@ use Rattle.section_file.proofs.twins.without_twins.Statement.{statement
 use Rattle.section_file.proofs.twins.without_twins.Tie as tie
 
 abbrev Inv-loop : tie.InvT-loop
-Inv-loop l one symbols other count seen₀ k₀ seen k = Apart (λ k. getD l (one + 2 * k) 0) (λ k. getD l (symbols + k) 0) (λ k. getD l (other + 2 * k) 0) count seen k
+Inv-loop l one symbols other count seen₀ k₀ seen k =
+    Apart (λ k. getD l (one + 2 * k) 0) (λ k. getD l (symbols + k) 0) (λ k. getD l (other + 2 * k) 0) count seen k
 
 abbrev μ-loop : tie.MeasureT-loop
 μ-loop l one symbols other count seen₀ k₀ seen k = count - k
@@ -59,24 +60,45 @@ mul-differs c = search needs
 
 array-read-differs : tie.Need-array-read-differs Inv-loop μ-loop
 array-read-differs c = let w2 = c .before in let n2 = w2 .before in let w = n2 .before in let n = w .before in let h = n .before in
-    slot-small (small-of (h .before .before .before .pre)) (h .loop-test .taken) (slot-of (n .number .ensures) (w .wide .ensures) (n2 .number2 .ensures) (w2 .wide2 .ensures))
+    slot-small (small-of (h .before .before .before .pre)) (h .loop-test .taken)
+    (slot-of (n .number .ensures) (w .wide .ensures) (n2 .number2 .ensures) (w2 .wide2 .ensures))
 
 differs-requires : tie.Need-differs-requires Inv-loop μ-loop
-differs-requires c κs = let h = c .before .before .before .before .before in omega (arith, small-of (h .before .before .before .pre) .others _ (h .loop-test .taken), c .number3 .ensures)
+differs-requires c κs =
+    let h = c .before .before .before .before .before in
+    omega (arith, small-of (h .before .before .before .pre) .others _ (h .loop-test .taken), c .number3 .ensures)
 
 returns : tie.Need-returns Inv-loop μ-loop
-returns c = let d = c .before in let n3 = d .before in let w2 = n3 .before in let n2 = w2 .before in let w = n2 .before in let n = w .before in let h = n .before in
-    twins-found (small-of (h .before .before .before .pre)) (h .before .loop .inv) (h .loop-test .taken) (slot-of (n .number .ensures) (w .wide .ensures) (n2 .number2 .ensures) (w2 .wide2 .ensures)) (n3 .number3 .ensures) (d .differs .ensures) (c .if1 .taken)
+returns c =
+    let d = c .before in
+    let n3 = d .before in
+    let w2 = n3 .before in
+    let n2 = w2 .before in
+    let w = n2 .before in
+    let n = w .before in
+    let h = n .before in
+    twins-found (small-of (h .before .before .before .pre)) (h .before .loop .inv) (h .loop-test .taken)
+    (slot-of (n .number .ensures) (w .wide .ensures) (n2 .number2 .ensures) (w2 .wide2 .ensures)) (n3 .number3 .ensures)
+    (d .differs .ensures) (c .if1 .taken)
 
 add-seen : tie.Need-add-seen Inv-loop μ-loop
-add-seen c = let n3 = c .before .before in let h = n3 .before .before .before .before .before in record { fits = omega (arith, small-of (h .before .before .before .pre) .others _ (h .loop-test .taken), n3 .number3 .ensures) }
+add-seen c =
+    let n3 = c .before .before in
+    let h = n3 .before .before .before .before .before in
+    record { fits = omega (arith, small-of (h .before .before .before .pre) .others _ (h .loop-test .taken), n3 .number3 .ensures) }
 
 mul-seen : tie.Need-mul-seen Inv-loop μ-loop
 mul-seen c = search needs
 
 array-write-seen : tie.Need-array-write-seen Inv-loop μ-loop
-array-write-seen c = let w2 = c .before .before .before in let n2 = w2 .before in let w = n2 .before in let n = w .before in let h = n .before in
-    slot-small (small-of (h .before .before .before .pre)) (h .loop-test .taken) (slot-of (n .number .ensures) (w .wide .ensures) (n2 .number2 .ensures) (w2 .wide2 .ensures))
+array-write-seen c =
+    let w2 = c .before .before .before in
+    let n2 = w2 .before in
+    let w = n2 .before in
+    let n = w .before in
+    let h = n .before in
+    slot-small (small-of (h .before .before .before .pre)) (h .loop-test .taken)
+    (slot-of (n .number .ensures) (w .wide .ensures) (n2 .number2 .ensures) (w2 .wide2 .ensures))
 
 add-k : tie.Need-add-k Inv-loop μ-loop
 add-k c = search needs
@@ -85,8 +107,17 @@ loop-less : tie.Need-loop-less Inv-loop μ-loop
 loop-less c = search needs
 
 loop-again : tie.Need-loop-again Inv-loop μ-loop
-loop-again c = let d = c .before in let n3 = d .before in let w2 = n3 .before in let n2 = w2 .before in let w = n2 .before in let n = w .before in let h = n .before in
-    twins-not (small-of (h .before .before .before .pre)) (h .before .loop .inv) (h .loop-test .taken) (slot-of (n .number .ensures) (w .wide .ensures) (n2 .number2 .ensures) (w2 .wide2 .ensures)) (n3 .number3 .ensures) (d .differs .ensures) (c .if1 .left)
+loop-again c =
+    let d = c .before in
+    let n3 = d .before in
+    let w2 = n3 .before in
+    let n2 = w2 .before in
+    let w = n2 .before in
+    let n = w .before in
+    let h = n .before in
+    twins-not (small-of (h .before .before .before .pre)) (h .before .loop .inv) (h .loop-test .taken)
+    (slot-of (n .number .ensures) (w .wide .ensures) (n2 .number2 .ensures) (w2 .wide2 .ensures)) (n3 .number3 .ensures)
+    (d .differs .ensures) (c .if1 .left)
 
 returns-2 : tie.Need-returns-2 Inv-loop μ-loop
 returns-2 c = twins-none (c .before .loop .inv) (search needs)
