@@ -50,7 +50,7 @@ extern "C" {
 /* Lengths that are enough for every table. */
 #define LINK_ANY_FILE LINK_FILE_LEN(LINK_MOST_WORDS)                  /* 4,101 bytes */
 #define LINK_ANY_MAP LINK_MAP_LEN(LINK_MOST_WORDS, LINK_MOST_SYMBOLS) /* 9,216 numbers */
-#define LINK_ANY_SECTION 26644u                                       /* numbers */
+#define LINK_ANY_SECTION 24724u                                       /* numbers */
 #define LINK_ANY_TEXT 1024u                                           /* bytes */
 
 /* Merges a table file. Success returns the section's length; the map's place t W + i is then the vertex of word i at depth t.

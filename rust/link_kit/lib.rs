@@ -30,7 +30,7 @@ pub const ANY_FILE: usize = 5 + 4 * 1024;
 /// A map long enough for every table: 1,024 words at nine depths.
 pub const ANY_MAP: usize = 9 * 1024;
 /// A section buffer long enough for every table.
-pub const ANY_SECTION: usize = 26_644;
+pub const ANY_SECTION: usize = 24_724;
 /// A text buffer long enough for every listing.
 pub const ANY_TEXT: usize = 1024;
 /// The most sections of a chain.
