@@ -19,6 +19,7 @@ use outcomes::one_value;
 use trellis::MOST_SYMBOLS;
 use trellis::MOST_WORDS;
 
+// The section's length, or why there is none. A variant for a refusal has the numbers that document 01 returns with it.
 pub enum Merged {
     Section(usize),
     Length(usize),

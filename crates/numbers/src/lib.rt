@@ -4,6 +4,7 @@ ghost use Prim.Native.Nat.{_+_, _*_, _≤_, _<_};
 ghost use lib.ListN.{getD};
 ghost use Rattle.trellis.specs.Lists.{sum};
 
+// A cast and its bound in one promise, so that callers need no proof of it.
 pub fn wide(x: u16) -> usize
     ensures { λ r. ⌜ (r ≡ x) × (r < 65536) ⌝ }
 {
@@ -16,6 +17,7 @@ pub fn widened(x: u8) -> usize
     x as usize
 }
 
+// The number at place i.
 pub fn number(l: &[u16], i: usize) -> u16
     ensures { λ r. ⌜ r ≡ getD (now (l .entry)) i 0 ⌝ }
 {

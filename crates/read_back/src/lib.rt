@@ -30,6 +30,7 @@ use trellis::MOST_WORDS;
 // One word more than a table has.
 const TOO_MANY: usize = MOST_WORDS + 1;
 
+// The file's length, or why there is none.
 pub enum ReadBack {
     File(usize),
     Unusable,

@@ -39,6 +39,7 @@ pub struct Places {
     pub edges: usize,
 }
 
+// Worked out from the section's own counts.
 pub fn places_of(l: &[u16]) -> Places
     requires { ⌜ Fits (now l) ⌝ }
     ensures { λ r. ⌜ Placed (now (l .entry)) (r .n) (r .roots) (r .goals) (r .pairs) (r .symbols) (r .edges) ⌝ }

@@ -36,12 +36,14 @@ pub enum Checked {
     Order(usize),
 }
 
+// A word as the file has it.
 pub struct Word {
     pub root: u8,
     pub label: u16,
     pub goal: u8,
 }
 
+// What a reader finds: a word, or nothing past the last one.
 pub enum Found {
     Word(Word),
     Nothing,
@@ -60,6 +62,7 @@ fn two_bytes(low: u8, high: u8) -> u16
     (low as u16) + 256 * (high as u16)
 }
 
+// W as the file states it.
 pub fn word_count(file: &[u8]) -> u16
     ensures { λ r. ⌜ r ≡ wordCount (now (file .entry)) ⌝ }
 {

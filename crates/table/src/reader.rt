@@ -11,6 +11,7 @@ use crate::word_at;
 use crate::word_count;
 use crate::word_of;
 
+// The lent bytes and the index of the next word.
 pub struct Reader<'a> {
     pub file: &'a [u8],
     pub at: u16,
@@ -23,12 +24,14 @@ pub fn start<'a>(file: &'a [u8]) -> Reader<'a>
     Reader { file, at: 0 }
 }
 
+// A reader at any word.
 pub fn placed<'a>(file: &'a [u8], at: u16) -> Reader<'a>
     ensures { λ r. ⌜ (r .file ≡ file .entry) × (r .at ≡ at) ⌝ }
 {
     Reader { file, at }
 }
 
+// The index of the word that comes next.
 pub fn position<'a>(r: Reader<'a>) -> u16
     ensures { λ i. ⌜ i ≡ r .entry .at ⌝ }
 {

@@ -14,6 +14,7 @@ ghost use Rattle.witness.specs.inner.Rows.{InnerDepth, SearchRows, inRun
 use numbers::wide;
 use trellis::MOST_WORDS;
 
+// Words i, j and k, or that there are none.
 pub enum Witness {
     At(usize, usize, usize),
     Nothing,
