@@ -13,9 +13,7 @@ use Rattle.merge.specs.Merging.{mapOf, written, merged, mergedTable, mergedFile
 use Rattle.section_file.specs.Usable.{higher, rising, inside, above, covered, apart, noTwins, noForwardTwins, noBackwardTwins, stepGood, stepEdge, sizesRight, countsRight, whole, statesRight, stepRight, usable}
 use Rattle.read_back.specs.TableBytes.{tableBytes}
 use Rattle.read_back.specs.ReadingBack.{isSection, readingBack}
-use Rattle.paths.specs.Choice.{choose, chooseAll, best}
-use Rattle.paths.specs.inner.Graph.{paths}
-use Rattle.paths.specs.inner.Costs.{capped}
+use Rattle.paths.specs.Choice.{choose, best, paidOr}
 use Rattle.paths.specs.Chain.{rootedAt, chainPaths, pathDistance, bestPath, costTable}
 use Rattle.block.specs.Received.{erasedAt, symbolCost, blockDistance, stray, fitsBlock}
 use Rattle.chain.specs.Sections.{sectionStart, sectionAt, unusable, sectionsBad, badSectionOf}
@@ -29,7 +27,7 @@ unfolding run sum first isIn keep rank insert ascending lower alike symbol front
     symbolsPlace rootState goalState edgeNumber stepEdges sectionWords joinedUp sectionOf allVertices additions selections refutes firstOf overK overJ
     witnessAt witness wordCount fileWord fileWords lengthBad outside sizeOutside wordOutside wordBad orderBad tableFile mapOf written merged
     mergedTable mergedFile merging sectionLength all any within higher rising inside above covered apart noTwins noForwardTwins noBackwardTwins
-    stepGood stepEdge sizesRight countsRight whole statesRight stepRight usable tableBytes isSection readingBack choose chooseAll best paths capped
+    stepGood stepEdge sizesRight countsRight whole statesRight stepRight usable tableBytes isSection readingBack choose best paidOr
     rootedAt chainPaths pathDistance bestPath costTable erasedAt symbolCost blockDistance stray fitsBlock sectionStart sectionAt unusable sectionsBad
     badSectionOf frameBad blockWords wordDistance blockBad neededOf bestOf tableOf found fitted framed decoding left shown flatMap
 all-shown = refl

@@ -1,3 +1,4 @@
--- Why merging does what demands 2 and 3 ask of it.
+-- Why merging and decoding do what the demands ask of them.
 pub mod SameDrawing
 pub mod Demanded
+pub mod Decoded

@@ -1,2 +1,3 @@
--- What the three demands say of merging.
+-- What the demands say of merging and of decoding.
 pub mod Merged
+pub mod Decoded

@@ -20,7 +20,7 @@ same-length-3 : tie.Need-same-length-3
 same-length-3 c = search needs
 
 returns : tie.Need-returns
-returns c = decode-left (c .before .before .before .before .before .before .before .before .decode .ensures .0) (c .before .decoded .ensures)
+returns c = decode-left (c .before .before .before .before .before .before .before .before .decode .ensures) (c .before .decoded .ensures)
 
 pub link-decode-spec : {M : Type 1} → statement M
 link-decode-spec =
