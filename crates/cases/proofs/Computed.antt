@@ -15,9 +15,7 @@ use Rattle.section_file.specs.Usable.{stepEdge, whole, sizesRight, edgesInside,
 use Rattle.section_file.specs.Usable.{onward, inward, noTwinsReached, noTwinsLeading, usable}
 use Rattle.read_back.specs.TableBytes.{tableBytes}
 use Rattle.read_back.specs.ReadingBack.{isSection, readingBack}
-use Rattle.paths.specs.Choice.{choose, chooseAll, best}
-use Rattle.paths.specs.inner.Graph.{paths}
-use Rattle.paths.specs.inner.Costs.{capped}
+use Rattle.paths.specs.Choice.{choose, best, paidOr}
 use Rattle.paths.specs.Chain.{rootedAt, chainPaths, pathDistance, bestPath, costTable}
 use Rattle.block.specs.Received.{erasedAt, symbolCost, blockDistance, stray, fitsBlock}
 use Rattle.chain.specs.Sections.{sectionStart, sectionAt, unusable, sectionsBad, badSectionOf}
@@ -32,7 +30,7 @@ unfolding run sum first isIn keep rank insert ascending lower alike symbol front
     additions selections refutes firstOf overK overJ witnessAt witness wordCount fileWord fileWords lengthBad outside sizeOutside
     wordOutside wordBad orderBad tableFile mapOf written merged mergedTable mergedFile merging sectionLength all any within stepEdge
     whole sizesRight edgesInside countsRight rising statesRight edgesAscend onward inward noTwinsReached noTwinsLeading usable
-    tableBytes isSection readingBack choose chooseAll best paths capped rootedAt chainPaths pathDistance bestPath costTable erasedAt
+    tableBytes isSection readingBack choose best paidOr rootedAt chainPaths pathDistance bestPath costTable erasedAt
     symbolCost blockDistance stray fitsBlock sectionStart sectionAt unusable sectionsBad badSectionOf frameBad blockWords wordDistance
     blockBad neededOf bestOf tableOf found fitted framed decoding left shown flatMap
 all-shown = refl

@@ -6,8 +6,8 @@ use native.Mathlib.Decide.{decLt}
 use native.Mathlib.Omega.{arith}
 use lib.Dec.{ltb, leb}
 use borrow.Author.Tests.{lt-ltb, le-ltb, le-leb, lt-leb, not-false, leb-true}
-use Rattle.trellis.proofs.Bools.{holds, is-true, both}
 use Rattle.trellis.specs.Lists.{within}
+use Rattle.trellis.proofs.Bools.{holds, is-true, both}
 
 pub within-under : (low high x : ℕ) → x < low → false ≡ within low high x
 unfolding within

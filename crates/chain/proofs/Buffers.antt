@@ -1,5 +1,5 @@
--- The buffers: one of which each place is known is the old one with a list in front. The length that the first short one needs is found by the tests of
--- the definition in their order, and where none is short there is room.
+-- The length that the first short buffer needs is found by the tests of the definition in their order, and where none is short there is
+-- room.
 use mathlib.Core.Path.{_≡_, sym, _∙_}
 use mathlib.Core.List.{List}
 use Prim.Native.Nat.{ℕ, _*_, _≤_, _<_}
@@ -9,10 +9,6 @@ use lib.ListN.{length}
 use borrow.Author.Tests.{lt-ltb, le-ltb}
 use Rattle.trellis.specs.Bounds.{costsABlock}
 use Rattle.chain.specs.Decoding.{neededOf}
-
--- ---- a list in front
-
--- ---- what is needed
 
 module _ (blocks costs labels goals : ℕ) where
   pub needed-costs : costs < costsABlock * blocks → costsABlock * blocks ≡ neededOf blocks costs labels goals
@@ -41,7 +37,8 @@ pub record Room (indices costs labels goals : List ℕ) : Type 0 where
 pub room-of : {indices costs labels goals : List ℕ} {n : ℕ} → 0 < length indices
     → n ≡ neededOf (length indices) (length costs) (length labels) (length goals) → n ≤ 0 → Room indices costs labels goals
 room-of {indices} {costs} {labels} {goals} {n} pos e h =
-    go (decLt (length costs) (costsABlock * length indices)) (decLt (length labels) (length indices)) (decLt (length goals) (length indices))
+    go (decLt (length costs) (costsABlock * length indices)) (decLt (length labels) (length indices))
+    (decLt (length goals) (length indices))
   where
     go : Dec (length costs < costsABlock * length indices) → Dec (length labels < length indices) → Dec (length goals < length indices)
         → Room indices costs labels goals

@@ -1,5 +1,5 @@
--- The checks of the frame come out as the definition's: each test of the code is the next test of `frameBad`. A block's test reads the section where its
--- index says, which is the block's section; the blocks are tested in their order, so the first bad one is found.
+-- The checks of the frame come out as the definition's: each test of the code is the next test of `frameBad`. A block's test reads the
+-- section where its index says, which is the block's section; the blocks are tested in their order, so the first bad one is found.
 use mathlib.Core.Path.{_≡_, refl, sym, ap, subst, _∙_}
 use mathlib.Core.Bool.{Bool, true, false, not, _&&_}
 use mathlib.Core.List.{List}
@@ -19,7 +19,6 @@ use Rattle.block.specs.Received.{fitsBlock}
 use Rattle.block.proofs.Masks.{clean-of}
 use Rattle.chain.specs.Sections.{sectionAt}
 use Rattle.chain.specs.Frame.{frameBad, blockSection, blockBad}
-use Rattle.chain.specs.inner.Loops.{InBlocks}
 use Rattle.chain.specs.inner.Checked.{AllFound, Framed, BlockGood, FrameChecked}
 use Rattle.chain.proofs.Bounds.{within-of, at-least}
 use Rattle.chain.proofs.Starts.{Taken}
@@ -45,15 +44,28 @@ module _ (indices received erased : List ℕ) (start end : ℕ) where
         pub frame-start : mostStates ≤ start → true ≡ frameBad indices received erased start end
         unfolding frameBad
         frame-start n =
-            simp (sym e, not-false w h, eq-eqb (length received) (length indices) p, eq-eqb (length erased) (length indices) q, le-ltb start mostStates n)
+            simp (
+              sym e,
+              not-false w h,
+              eq-eqb (length received) (length indices) p,
+              eq-eqb (length erased) (length indices) q,
+              le-ltb start mostStates n,
+            )
 
         pub frame-end : start < mostStates → leb mostStates end ≡ frameBad indices received erased start end
         unfolding frameBad
         frame-end n =
-            simp (sym e, not-false w h, eq-eqb (length received) (length indices) p, eq-eqb (length erased) (length indices) q, lt-ltb start mostStates n)
+            simp (
+              sym e,
+              not-false w h,
+              eq-eqb (length received) (length indices) p,
+              eq-eqb (length erased) (length indices) q,
+              lt-ltb start mostStates n,
+            )
             (at-least mostStates end)
 
-pub framed-of : {indices received erased : List ℕ} {start end : ℕ} {bad : Bool} → bad ≡ frameBad indices received erased start end → bad ≡ false
+pub framed-of : {indices received erased : List ℕ} {start end : ℕ} {bad : Bool} → bad ≡ frameBad indices received erased start end
+    → bad ≡ false
     → Framed indices received erased start end
 unfolding frameBad
 framed-of {indices} {received} {erased} {start} {end} e h =
@@ -95,6 +107,11 @@ module _ (sections indices received erased : List ℕ) (k b : ℕ) {i : ℕ} (e 
 
 -- ---- the loop over the blocks
 
+-- no block before b is bad
+pub record InBlocks (sections indices received erased : List ℕ) (k b : ℕ) : Type 0 where
+  pub b-le : b ≤ length indices
+  pub none : (c : ℕ) → c < b → T (blockBad sections indices received erased k c) → ⊥
+
 module _ {sections indices received erased : List ℕ} {k : ℕ} where
   pub blocks-start : InBlocks sections indices received erased k 0
   blocks-start = record { b-le = omega arith; none = λ c h. absurd (not-suc-le-zero h) }
@@ -135,7 +152,7 @@ pub frame-passed : {sections : List ℕ} {k : ℕ} {indices received erased : Li
     → FramePassed sections k indices received erased start end
 frame-passed {indices = indices} e h p l = record { frameGood = sym e ∙ h; blocksGood = subst (λ x. length indices ≤ x) p l }
 
-block-good : {sections indices received erased : List ℕ} {k : ℕ}
+pub block-good : {sections indices received erased : List ℕ} {k : ℕ}
     → length indices ≤ first (blockBad sections indices received erased k) (length indices)
     → (b : ℕ) → b < length indices → BlockGood sections indices received erased k b
 unfolding blockBad

@@ -1,5 +1,5 @@
--- The two ways to end behind all checks. The passes are called with the states widened, which are the same numbers; so what they leave is what the
--- definition's best path gives, and it means what it should.
+-- The two ways to end behind all checks. The passes are called with the states widened, which are the same numbers; so what they
+-- leave is what the definition's best path gives.
 use mathlib.Core.Path.{_≡_, sym, ap, subst, _∙_}
 use mathlib.Core.List.{List}
 use Prim.Native.Nat.{ℕ, _≤_, _<_}
@@ -7,18 +7,19 @@ use native.Mathlib.Omega.{arith}
 use lib.ListN.{length, getD}
 use Rattle.trellis.specs.Bounds.{mostStates}
 use Rattle.trellis.specs.Outcome.{success, noPath}
-use Rattle.passes.specs.inner.Blocks.{unreached, leastFrom, Ready, Picked, Filled}
+use Rattle.paths.specs.Chain.{unreached}
+use Rattle.passes.specs.inner.Blocks.{leastFrom, Ready, Picked, Filled}
 use Rattle.passes.specs.inner.Loops.{Named}
-use Rattle.chain.specs.Decoding.{fitted}
+use Rattle.chain.specs.Decoding.{left, fitted}
 use Rattle.chain.specs.inner.Checked.{FrameChecked}
 use Rattle.chain.proofs.Buffers.{Room}
-use Rattle.chain.proofs.Faults.{EndsFor, past-room}
+use Rattle.chain.proofs.Faults.{past-room}
 use Rattle.chain.proofs.Frames.{ready}
 use Rattle.chain.proofs.Tables.{best-none, opened, none-found, path-found}
-use Rattle.chain.proofs.Meanings.{none-means, path-means}
 
 -- the table is filled, and the states are widened
-pub record Tabled (sections starts indices received erased : List ℕ) (start end : ℕ) (costs labels goals new picks : List ℕ) (from to : ℕ) : Type 0 where
+pub record Tabled (sections starts indices received erased : List ℕ) (start end : ℕ) (costs labels goals new picks : List ℕ)
+    (from to : ℕ) : Type 0 where
   pub checks : FrameChecked sections starts indices received erased start end
   pub room : Room indices costs labels goals
   pub from-is : from ≡ start
@@ -41,19 +42,19 @@ module _ {sections starts indices received erased : List ℕ} {start end : ℕ} 
       omega (arith, B .from-is, B .checks .frame .startBelow, B .checks .frame .some, B .room .forCosts, B .filled .long)
 
   pub ends-none : getD new from 0 ≡ unreached
-      → EndsFor sections indices received erased start end (λ k. fitted sections k indices received erased start end costs labels goals)
-      noPath new labels goals
-  ends-none e =
+      → (k : ℕ) → left noPath new labels goals ≡ fitted sections k indices received erased start end costs labels goals
+  ends-none e k =
       let n = best-none (B .checks) filled-end (ap (λ j. getD new j 0) (sym (B .from-is)) ∙ e) in
-      past-room costs labels goals (B .room)
-      (λ k. none-found (B .checks) filled-end k labels goals (B .room .forCosts) n, none-means (B .checks) n)
+      past-room sections indices received erased start end costs labels goals k (B .room .none-short)
+      (none-found (B .checks) filled-end k labels goals (B .room .forCosts) n)
 
   module _ (n : getD new from 0 ≡ unreached → ⊥) where
     opened-end : leastFrom sections starts indices received erased end 0 start < unreached
     opened-end = opened (B .checks) filled-end (λ e. n (ap (λ j. getD new j 0) (B .from-is) ∙ e))
 
     pub names-ready : Ready sections starts indices received erased × Picked sections starts indices received erased to 0 picks
-        × (length indices ≤ length labels) × (length indices ≤ length goals) × (from < mostStates) × (leastFrom sections starts indices received erased to 0 from < unreached)
+        × (length indices ≤ length labels) × (length indices ≤ length goals) × (from < mostStates)
+        × (leastFrom sections starts indices received erased to 0 from < unreached)
     names-ready = (ready (B .checks), B .filled .picked, B .room .forLabels, B .room .forGoals, small, onward)
       where
         small : from < mostStates
@@ -66,11 +67,10 @@ module _ {sections starts indices received erased : List ℕ} {start end : ℕ} 
 
     pub ends-path : {newLabels newGoals : List ℕ} {total : ℕ}
         → Named sections starts indices received erased to from labels newLabels goals newGoals total
-        → EndsFor sections indices received erased start end (λ k. fitted sections k indices received erased start end costs labels goals)
-        (success total) new newLabels newGoals
-    ends-path {newLabels} {newGoals} {total} N =
-        past-room costs labels goals (B .room)
-        (λ k. path-found (B .checks) opened-end named k (B .room) filled-end, path-means (B .checks) opened-end named filled-end)
+        → (k : ℕ) → left (success total) new newLabels newGoals ≡ fitted sections k indices received erased start end costs labels goals
+    ends-path {newLabels} {newGoals} {total} N k =
+        past-room sections indices received erased start end costs labels goals k (B .room .none-short)
+        (path-found (B .checks) opened-end named k (B .room) filled-end)
       where
         named : Named sections starts indices received erased end start labels newLabels goals newGoals total
         named =

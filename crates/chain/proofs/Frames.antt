@@ -1,5 +1,5 @@
--- Where all checks pass, the passes can run over the blocks, and what they speak of is what the definitions speak of: the places that were found are the
--- places where the sections begin, so block by block the words and distances are the same.
+-- Where all checks pass, the passes can run over the blocks, and what they speak of is what the definitions speak of: the places that were
+-- found are the places where the sections begin, so block by block the words and distances are the same.
 use mathlib.Core.Path.{_≡_, sym, ap, ap₂, subst, _∙_}
 use mathlib.Core.List.{List}
 use Prim.Native.Nat.{ℕ, _-_, _≤_, _<_}
@@ -9,21 +9,23 @@ use lib.ListN.{length, getD, drop, List·getD-eq-default}
 use Rattle.trellis.specs.Bounds.{mostSymbols}
 use Rattle.trellis.specs.Word.{Word}
 use Rattle.trellis.specs.Layout.{nOf, sectionWords}
-use Rattle.paths.specs.Chain.{costTable, chainLeast, chainTrace}
+use Rattle.paths.specs.Chain.{costTable, unreached, endsIn}
+use Rattle.paths.specs.inner.Chains.{chainLeast, chainTrace}
 use Rattle.paths.proofs.Chain.{cost-table}
 use Rattle.section_file.specs.inner.Sound.{Sound}
 use Rattle.section_file.proofs.Usable.{usable-sound}
 use Rattle.block.specs.Received.{blockDistance}
 use Rattle.block.specs.inner.Prices.{Clean}
 use Rattle.block.proofs.Hearing.{block-at-most}
-use Rattle.passes.specs.inner.Blocks.{unreached, Decodable, endsIn, sectionOfBlock, wordsOfBlock, distanceOf, leastFrom, pathFrom, Ready}
+use Rattle.passes.specs.inner.Blocks.{Decodable, sectionOfBlock, wordsOfBlock, distanceOf, leastFrom, pathFrom, Ready}
 use Rattle.chain.specs.Sections.{sectionAt}
 use Rattle.chain.specs.Frame.{blockSection, blockWords, wordDistance}
 use Rattle.chain.specs.inner.Checked.{FrameChecked}
 use Rattle.chain.proofs.Goodness.{good-of}
 use Rattle.chain.proofs.Starts.{taken-at}
 
-module _ {sections starts indices received erased : List ℕ} {start end : ℕ} (C : FrameChecked sections starts indices received erased start end) where
+module _ {sections starts indices received erased : List ℕ} {start end : ℕ}
+    (C : FrameChecked sections starts indices received erased start end) where
   abbrev words : ℕ → List Word
   words = blockWords sections indices received erased
 
@@ -44,7 +46,8 @@ module _ {sections starts indices received erased : List ℕ} {start end : ℕ} 
   -- so every block's section is usable
   pub sound-at : (b : ℕ) → Sound (blockSection sections indices received erased b)
   sound-at b =
-      usable-sound (blockSection sections indices received erased b) (C .sectionsFound .found .usable-before (getD indices b 0) (index-below b))
+      usable-sound (blockSection sections indices received erased b)
+      (C .sectionsFound .found .usable-before (getD indices b 0) (index-below b))
 
   -- no distance is above 8
   pub distance-to : (b : ℕ) (w : Word) → dist b w ≤ mostSymbols
@@ -77,12 +80,20 @@ module _ {sections starts indices received erased : List ℕ} {start end : ℕ} 
     clean = λ b h. subst (λ l. Clean (nOf l) (getD received b 0) (getD erased b 0)) (sym (same-section b)) (C .good b h .clean);
   }
 
-  pub least-is : (b s : ℕ) → leastFrom sections starts indices received erased end b s ≡ costTable words (endsIn end) dist unreached (length indices - b) b s
+  -- the numbers of the passes, over the definitions' words and distances
+  pub least-same : (b s : ℕ)
+      → leastFrom sections starts indices received erased end b s ≡ chainLeast words (endsIn end) dist unreached (length indices - b) b s
   unfolding leastFrom
-  least-is b s =
-      ap₂ (λ W D. chainLeast W (endsIn end) D unreached (length indices - b) b s) same-words same-distance
-      ∙ sym (cost-table words (endsIn end) dist unreached (length indices - b) b s)
+  least-same b s = ap₂ (λ W D. chainLeast W (endsIn end) D unreached (length indices - b) b s) same-words same-distance
 
-  pub path-is : (b s : ℕ) → pathFrom sections starts indices received erased end b s ≡ chainTrace words (endsIn end) dist unreached (length indices - b) b s
+  pub path-same : (b s : ℕ)
+      → pathFrom sections starts indices received erased end b s ≡ chainTrace words (endsIn end) dist unreached (length indices - b) b s
   unfolding pathFrom
-  path-is b s = ap₂ (λ W D. chainTrace W (endsIn end) D unreached (length indices - b) b s) same-words same-distance
+  path-same b s = ap₂ (λ W D. chainTrace W (endsIn end) D unreached (length indices - b) b s) same-words same-distance
+
+  -- which are the cost table, as no distance reaches its mark for no path
+  pub least-is : (b s : ℕ)
+      → leastFrom sections starts indices received erased end b s ≡ costTable words (endsIn end) dist (length indices - b) b s
+  least-is b s =
+      let m = C .frame .many in
+      least-same b s ∙ sym (cost-table words (endsIn end) dist mostSymbols distance-to (length indices - b) b s (omega arith))

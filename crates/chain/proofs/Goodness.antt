@@ -4,12 +4,13 @@ use mathlib.Core.List.{List}
 use Prim.Native.Nat.{ℕ, zero, suc, _+_, _-_, _≤_, _<_}
 use native.Mathlib.Decide.{decLt}
 use native.Mathlib.Omega.{arith}
-use Rattle.trellis.specs.Layout.{qOf, nOf, vertexCountOf, edgeCountOf, edgesBefore, rootsPlace, goalsPlace, pairsPlace, symbolsPlace, sectionLength, edgeNumber}
+use Rattle.trellis.specs.Layout.{qOf, nOf, vertexCountOf, edgeCountOf, edgesBefore, rootsPlace, goalsPlace, pairsPlace, symbolsPlace}
+use Rattle.trellis.specs.Layout.{sectionLength, edgeNumber}
+use Rattle.trellis.proofs.Laid.{before-none, before-more}
 use Rattle.section_file.specs.Usable.{stepEdge}
 use Rattle.section_file.specs.inner.Sound.{Sound}
 use Rattle.section_file.proofs.Words.{words-ascend}
 use Rattle.sweep.specs.inner.Rows.{Fits}
-use Rattle.trellis.proofs.Laid.{before-none, before-more}
 use Rattle.passes.specs.inner.Blocks.{Decodable}
 
 -- the step of an edge
@@ -37,13 +38,15 @@ module _ {l : List ℕ} (S : Sound l) where
   inside t i a b = let m = before-more l t in omega arith
 
   from-below : (t i : ℕ) → t < nOf l → edgesBefore l t ≤ i → i < edgesBefore l (suc t) → edgeNumber l i .from < vertexCountOf l t
-  from-below t i h a b = subst (λ e. e .from < vertexCountOf l t) (number-of t i a) (S .fromBelow t (i - edgesBefore l t) h (inside t i a b))
+  from-below t i h a b =
+      subst (λ e. e .from < vertexCountOf l t) (number-of t i a) (S .fromBelow t (i - edgesBefore l t) h (inside t i a b))
 
   symbol-below : (t i : ℕ) → t < nOf l → edgesBefore l t ≤ i → i < edgesBefore l (suc t) → edgeNumber l i .symbol < qOf l
   symbol-below t i h a b = subst (λ e. e .symbol < qOf l) (number-of t i a) (S .symbolBelow t (i - edgesBefore l t) h (inside t i a b))
 
   to-below : (t i : ℕ) → t < nOf l → edgesBefore l t ≤ i → i < edgesBefore l (suc t) → edgeNumber l i .to < vertexCountOf l (suc t)
-  to-below t i h a b = subst (λ e. e .to < vertexCountOf l (suc t)) (number-of t i a) (S .toBelow t (i - edgesBefore l t) h (inside t i a b))
+  to-below t i h a b =
+      subst (λ e. e .to < vertexCountOf l (suc t)) (number-of t i a) (S .toBelow t (i - edgesBefore l t) h (inside t i a b))
 
   pub fits-of : Fits l
   unfolding rootsPlace goalsPlace pairsPlace symbolsPlace sectionLength
@@ -58,9 +61,13 @@ module _ {l : List ℕ} (S : Sound l) where
     symbolsIn = omega arith;
     fromBelow = from-below;
     toBelow = to-below;
-    fromSmall = λ i h. let T = step-of l (nOf l) i h in omega (arith, from-below (T .at) i (T .below) (T .from) (T .to), S .verticesTo (T .at) (omega (arith, T .below)));
+    fromSmall = λ i h.
+        let T = step-of l (nOf l) i h in
+        omega (arith, from-below (T .at) i (T .below) (T .from) (T .to), S .verticesTo (T .at) (omega (arith, T .below)));
     symbolSmall = λ i h. let T = step-of l (nOf l) i h in omega (arith, symbol-below (T .at) i (T .below) (T .from) (T .to), S .qTo);
-    toSmall = λ i h. let T = step-of l (nOf l) i h in omega (arith, to-below (T .at) i (T .below) (T .from) (T .to), S .verticesTo (suc (T .at)) (T .below));
+    toSmall = λ i h.
+        let T = step-of l (nOf l) i h in
+        omega (arith, to-below (T .at) i (T .below) (T .from) (T .to), S .verticesTo (suc (T .at)) (T .below));
   }
 
   pub good-of : Decodable l

@@ -7,5 +7,4 @@ pub mod Buffers
 pub mod Faults
 pub mod Frames
 pub mod Tables
-pub mod Meanings
 pub mod Ends

@@ -1,29 +1,30 @@
--- Sections one behind another: a usable section's length is not 0 and it is there whole, so the next one begins within the list or at its end.
+-- Sections one behind another: a usable section's length is not 0 and it is there whole, so
+-- the next one begins within the list or at its end.
 use mathlib.Core.Path.{_≡_, refl, sym, ap, subst, _∙_}
-use mathlib.Core.Bool.{Bool, true, false, cond, not}
+use mathlib.Core.Bool.{Bool, true, false, cond, not, _||_}
 use mathlib.Core.List.{List}
 use Prim.Native.Nat.{ℕ, suc, _+_, _-_, _≤_, _<_}
 use native.Mathlib.Nat.{not-suc-le-zero, le-of-eq}
 use native.Mathlib.Decide.{ℕ-discrete}
 use native.Mathlib.Numerals.{add-one}
 use native.Mathlib.Omega.{arith}
-use lib.Dec.{eqb}
+use lib.Dec.{eqb, ltb}
 use lib.ListN.{length, getD, take, drop, set, length-set, length-drop}
 use lib.Seq.{getD-set-same, getD-set-other, take-all}
-use borrow.Author.Tests.{lt-ltb, le-ltb, eq-eqb, ne-eqb, not-true, not-false}
+use borrow.Author.Tests.{lt-ltb, le-ltb, eq-eqb, ne-eqb, not-true, not-false, ltb-false}
 use Rattle.trellis.specs.Bounds.{mostSections}
 use Rattle.trellis.specs.Lists.{first, within}
 use Rattle.trellis.specs.Layout.{rootsPlace, goalsPlace, pairsPlace, symbolsPlace, sectionLength}
-use Rattle.trellis.proofs.Bools.{holds, fails, is-true, is-false}
-use Rattle.trellis.proofs.Lists.{first-is}
+use Rattle.trellis.proofs.Bools.{holds, fails, is-true, is-false, neither}
+use Rattle.trellis.proofs.Lists.{first-is, first-ok}
 use Rattle.section_file.specs.Usable.{usable}
-use Rattle.section_file.specs.inner.Sound.{Sound}
-use Rattle.section_file.specs.inner.Answer.{partOf}
 use Rattle.section_file.specs.declared.Part.{Part}
 use Rattle.section_file.specs.declared.Part.the-variants.{Usable, Unusable}
+use Rattle.section_file.specs.inner.Sound.{Sound}
+use Rattle.section_file.specs.inner.Answer.{partOf}
 use Rattle.section_file.proofs.Usable.{usable-sound}
 use Rattle.chain.specs.Sections.{sectionStart, sectionAt, unusable, sectionsBad, badSectionOf}
-use Rattle.chain.specs.inner.Loops.{SectionsFound, InSections, FirstUnusable, partLength}
+use Rattle.chain.specs.inner.Loops.{SectionsFound, FirstUnusable, partLength}
 use Rattle.chain.specs.inner.Checked.{AllFound}
 use Rattle.chain.proofs.Bounds.{within-of}
 
@@ -59,7 +60,13 @@ none-sized l {n} e h u = let z = e ∙ ap (λ b. cond b (sectionLength l) 0) u i
 
 -- ---- the loop
 
-pub starts-start : {sections : List ℕ} {k : ℕ} (starts : List ℕ) → length starts ≡ suc mostSections → InSections sections (set starts 0 0) k 0 0
+pub record InSections (sections starts : List ℕ) (k i at : ℕ) : Type 0 where
+  pub i-le : i ≤ k
+  pub found : SectionsFound sections starts i
+  pub at-is : at ≡ sectionStart sections i
+
+pub starts-start : {sections : List ℕ} {k : ℕ} (starts : List ℕ) → length starts ≡ suc mostSections
+    → InSections sections (set starts 0 0) k 0 0
 unfolding sectionStart
 starts-start {sections} starts h = record {
   i-le = omega arith;
@@ -74,7 +81,8 @@ starts-start {sections} starts h = record {
   at-is = refl;
 }
 
-module _ {sections starts : List ℕ} {k i at n : ℕ} (I : InSections sections starts k i at) (e : n ≡ cond (usable (drop at sections)) (sectionLength (drop at sections)) 0) where
+module _ {sections starts : List ℕ} {k i at n : ℕ} (I : InSections sections starts k i at)
+    (e : n ≡ cond (usable (drop at sections)) (sectionLength (drop at sections)) 0) where
   here : n ≡ cond (usable (sectionAt sections i)) (sectionLength (sectionAt sections i)) 0
   unfolding sectionAt
   here = e ∙ ap (λ x. cond (usable (drop x sections)) (sectionLength (drop x sections)) 0) (I .at-is)
@@ -157,7 +165,8 @@ pub many-sections : {sections : List ℕ} {k : ℕ} {w : Bool} → w ≡ within 
 unfolding sectionsBad badSectionOf
 many-sections {w = w} e h = record { bad = simp (sym e, not-true w h); at = simp (sym e, not-true w h) }
 
-module _ {sections starts : List ℕ} {k r : ℕ} {w : Bool} (e : w ≡ within 1 mostSections k) (h : not w ≡ false) (F : FirstUnusable sections starts k r) where
+module _ {sections starts : List ℕ} {k r : ℕ} {w : Bool} (e : w ≡ within 1 mostSections k) (h : not w ≡ false)
+    (F : FirstUnusable sections starts k r) where
   pub unusable-section : r < k → SectionFault sections k r
   unfolding sectionsBad badSectionOf
   unusable-section l = record {
@@ -192,6 +201,17 @@ module _ {sections starts : List ℕ} {k r : ℕ} {w : Bool} (e : w ≡ within 1
           good = simp (sym e, not-false w h, first-is-k, le-ltb k k (omega arith), z);
           found = record { some = b .0; few = b .1; found = subst (SectionsFound sections starts) r-is (F .found) };
         }
+
+-- where there is none, all sections are usable
+pub sections-usable : (sections : List ℕ) (k : ℕ) → sectionsBad sections k ≡ false → (i : ℕ) → i < k → usable (sectionAt sections i) ≡ true
+unfolding sectionsBad unusable
+sections-usable sections k e i h =
+    let t = ltb (first (unusable sections) k) k || not (eqb (sectionStart sections k) (length sections)) in
+    let a = neither (ltb (first (unusable sections) k) k) (not (eqb (sectionStart sections k) (length sections)))
+    (neither (not (within 1 mostSections k)) t e .1) in
+    let l = ltb-false (first (unusable sections) k) k (a .0) in
+    let F = first-ok (unusable sections) k in
+    not-false (usable (sectionAt sections i)) (is-false (not (usable (sectionAt sections i))) (F .miss i (omega arith)))
 
 -- ---- a section, taken from the slice
 

@@ -1,5 +1,5 @@
--- What the two passes leave is what the definition says. Each place of the table is the definition's cost from there. Where the start state's place is unreached
--- there is no path; elsewhere the path that was named is the first of least distance.
+-- What the two passes leave is what the definition says. Each place of the table is the definition's cost from there. Where the start
+-- state's place is unreached there is no path; elsewhere the path that was named is the first of least distance.
 use mathlib.Core.Path.{_≡_, refl, sym, ap, ap₂, _∙_}
 use mathlib.Core.List.{List, map}
 use Prim.Native.Nat.{ℕ, _+_, _-_, _*_, _/_, _%_, _≤_, _<_}
@@ -7,26 +7,26 @@ use native.Mathlib.Nat.{sub-zero}
 use native.Mathlib.Decide.{decLt}
 use native.Mathlib.Omega.{arith}
 use lib.ListN.{length, getD, length-map, List·getD-map}
-use Rattle.trellis.specs.Bounds.{mostStates, costsABlock}
+use Rattle.trellis.specs.Bounds.{mostSymbols, mostStates, costsABlock}
 use Rattle.trellis.specs.Word.{Word, word, wordAt}
 use Rattle.trellis.specs.Outcome.{success, noPath}
+use Rattle.trellis.specs.Lists.{over}
 use Rattle.trellis.proofs.Lists.{length-run, each-at}
+use Rattle.trellis.proofs.Buffers.{over-is}
 use Rattle.paths.specs.Choice.{Choice, none, some}
-use Rattle.paths.specs.Chain.{chainPaths, bestPath, costTable, IsChainPath}
-use Rattle.paths.proofs.Chain.{table-le, best-traced, no-path}
-use Rattle.paths.proofs.First.{best-first, first-in}
-use Rattle.paths.proofs.Winner.{of-paths}
-use Rattle.passes.specs.inner.Blocks.{unreached, endsIn, leastFrom, pathFrom, Filled, Written}
+use Rattle.paths.specs.Chain.{bestPath, costTable, IsChainPath, unreached, endsIn}
+use Rattle.paths.proofs.Chain.{least-le, best-traced, no-path}
+use Rattle.paths.proofs.Winner.{best-right}
+use Rattle.passes.specs.inner.Blocks.{leastFrom, pathFrom, Filled, Written}
 use Rattle.passes.specs.inner.Loops.{Named}
 use Rattle.chain.specs.Frame.{blockWords, wordDistance}
 use Rattle.chain.specs.Decoding.{left, bestOf, tableOf, found}
-use Rattle.trellis.specs.Lists.{over}
 use Rattle.chain.specs.inner.Checked.{FrameChecked}
 use Rattle.chain.proofs.Buffers.{Room}
-use Rattle.trellis.proofs.Buffers.{over-is}
-use Rattle.chain.proofs.Frames.{distance-to, least-is, path-is}
+use Rattle.chain.proofs.Frames.{distance-to, least-same, path-same, least-is}
 
-module _ {sections starts indices received erased : List ℕ} {start end : ℕ} (C : FrameChecked sections starts indices received erased start end) where
+module _ {sections starts indices received erased : List ℕ} {start end : ℕ}
+    (C : FrameChecked sections starts indices received erased start end) where
   abbrev words : ℕ → List Word
   words = blockWords sections indices received erased
 
@@ -34,7 +34,7 @@ module _ {sections starts indices received erased : List ℕ} {start end : ℕ} 
   dist = wordDistance sections indices received erased
 
   abbrev tableFrom : ℕ → ℕ → ℕ
-  tableFrom b s = costTable words (endsIn end) dist unreached (length indices - b) b s
+  tableFrom b s = costTable words (endsIn end) dist (length indices - b) b s
 
   abbrev table : ℕ → List ℕ
   table k = tableOf sections k indices received erased start end
@@ -75,16 +75,16 @@ module _ {sections starts indices received erased : List ℕ} {start end : ℕ} 
     pub best-none : getD new start 0 ≡ unreached → best ≡ none
     best-none e =
         let z = sub-zero (length indices) in
-        let t : costTable words (endsIn end) dist unreached (length indices) 0 start ≡ unreached
-        = ap (λ j. costTable words (endsIn end) dist unreached j 0 start) (sym z) ∙ sym (least-is C 0 start) ∙ sym start-at ∙ e in
+        let t : costTable words (endsIn end) dist (length indices) 0 start ≡ unreached
+        = ap (λ j. costTable words (endsIn end) dist j 0 start) (sym z) ∙ sym (least-is C 0 start) ∙ sym start-at ∙ e in
         let m = C .frame .many in
-        no-path words (endsIn end) dist unreached 8 (distance-to C) (length indices) 0 start (omega arith) t
+        no-path words (endsIn end) dist mostSymbols (distance-to C) (length indices) 0 start (omega arith) t
 
     -- there is a path where the table says so
     pub opened : (getD new start 0 ≡ unreached → ⊥) → leastFrom sections starts indices received erased end 0 start < unreached
     opened n =
-        go (decLt (leastFrom sections starts indices received erased end 0 start) unreached) start-at (least-is C 0 start)
-        (table-le words (endsIn end) dist unreached (length indices - 0) 0 start)
+        go (decLt (leastFrom sections starts indices received erased end 0 start) unreached) start-at (least-same C 0 start)
+        (least-le words (endsIn end) dist unreached (length indices - 0) 0 start)
       where
         go : {a t : ℕ} → Dec (a < unreached) → getD new start 0 ≡ a → a ≡ t → t ≤ unreached → a < unreached
         go (yes i) c e l = i
@@ -95,7 +95,8 @@ module _ {sections starts indices received erased : List ℕ} {start end : ℕ} 
         ≡ found sections k indices received erased start end costs labels goals (bestOf sections k indices received erased start end)
     unfolding found bestOf
     none-found k labels goals room e =
-        ap (λ c. left noPath c labels goals) (table-over k room) ∙ sym (ap (found sections k indices received erased start end costs labels goals) e)
+        ap (λ c. left noPath c labels goals) (table-over k room)
+        ∙ sym (ap (found sections k indices received erased start end costs labels goals) e)
 
   -- ---- the path
 
@@ -104,20 +105,18 @@ module _ {sections starts indices received erased : List ℕ} {start end : ℕ} 
       (N : Named sections starts indices received erased end start labels newLabels goals newGoals total) where
     pub best-some : best ≡ some total path
     best-some =
-        let t = least-is C 0 start in
-        let c : tableFrom 0 start ≡ total = sym (N .totalIs ∙ t) in
+        let t = least-same C 0 start in
         ap (λ j. bestPath words (endsIn end) dist j 0 start) (sym (sub-zero (length indices)))
-        ∙ best-traced words (endsIn end) dist unreached (length indices - 0) 0 start (omega arith) ∙ ap₂ some c (sym (path-is C 0 start))
+        ∙ best-traced words (endsIn end) dist unreached (length indices - 0) 0 start (omega arith)
+        ∙ ap₂ some (sym (N .totalIs ∙ t)) (sym (path-same C 0 start))
 
-    pub path-right : IsChainPath words (endsIn end) (length indices) 0 start path
-    unfolding bestPath
-    path-right =
-        of-paths words (endsIn end) (length indices) 0 start path
-        (first-in _ (best-first _ (chainPaths words (endsIn end) (length indices) 0 start) best-some))
+    path-right : IsChainPath words (endsIn end) (length indices) 0 start path
+    path-right = best-right words (endsIn end) dist (length indices) 0 start best-some
 
     -- what was written of each word stands in front
     put : (f : Word → ℕ) (old written : List ℕ) → length indices ≤ length old → length written ≡ length old
-        → ((i : ℕ) → i < length indices → getD written i 0 ≡ f (wordAt path i)) → ((i : ℕ) → length indices ≤ i → getD written i 0 ≡ getD old i 0)
+        → ((i : ℕ) → i < length indices → getD written i 0 ≡ f (wordAt path i))
+        → ((i : ℕ) → length indices ≤ i → getD written i 0 ≡ getD old i 0)
         → f (word 0 0 0) ≡ 0 → written ≡ over (map f path) old
     put f old written fits same front back blank =
         let l = length-map path f in
@@ -126,17 +125,20 @@ module _ {sections starts indices received erased : List ℕ} {start end : ℕ} 
         (λ i h. front i (omega arith) ∙ sym (ap (getD (map f path) i) (sym blank) ∙ List·getD-map f path i (word 0 0 0)))
         (λ i h. back i (omega arith))
 
-    pub path-found : {costs new picks : List ℕ} (k : ℕ) → Room indices costs labels goals → Filled sections starts indices received erased end 0 costs new picks
+    pub path-found : {costs new picks : List ℕ} (k : ℕ) → Room indices costs labels goals
+        → Filled sections starts indices received erased end 0 costs new picks
         → left (success total) new newLabels newGoals
         ≡ found sections k indices received erased start end costs labels goals (bestOf sections k indices received erased start end)
     unfolding found bestOf
     path-found {costs} {new} k R F =
-        whole (table-over F k (R .forCosts)) (put (λ w. w .label) labels newLabels (R .forLabels) (Z .labelsLong) (Z .labelAt) (Z .labelsKept) refl)
+        whole (table-over F k (R .forCosts))
+        (put (λ w. w .label) labels newLabels (R .forLabels) (Z .labelsLong) (Z .labelAt) (Z .labelsKept) refl)
         (put (λ w. w .goal) goals newGoals (R .forGoals) (Z .goalsLong) (Z .goalAt) (Z .goalsKept) refl)
         ∙ sym (ap (found sections k indices received erased start end costs labels goals) best-some)
       where
         Z : Written sections starts indices received erased end start (length indices) labels newLabels goals newGoals
         Z = N .written
 
-        whole : {a b c : List ℕ} → new ≡ a → newLabels ≡ b → newGoals ≡ c → left (success total) new newLabels newGoals ≡ left (success total) a b c
+        whole : {a b c : List ℕ} → new ≡ a → newLabels ≡ b → newGoals ≡ c
+            → left (success total) new newLabels newGoals ≡ left (success total) a b c
         whole p q r = λ i. left (success total) (p i) (q i) (r i)

@@ -1,4 +1,4 @@
--- What this crate's answer says: document 01's number and values for each case of `Decoded`. And the length of a part of the sections.
+-- What this crate's answer says: document 01's number and values for each case of `Decoded`.
 use Rattle.trellis.specs.Outcome.{Outcome, success, badSection, badBlock, shortBuffer, noPath}
 use Rattle.chain.specs.declared.Decoded.{Decoded}
 use Rattle.chain.specs.declared.Decoded.the-variants.{Distance, Section, Block, Short, NoPath}

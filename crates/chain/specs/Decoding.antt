@@ -1,5 +1,5 @@
--- What decoding a chain leaves: document 01's answer and the whole content of the three buffers, from the buffers before the call. The answer is read off
--- the plain list of all paths in word order: the first of least distance.
+-- What decoding a chain leaves: document 01's answer and the whole content of the three buffers, from the buffers before the call. The
+-- answer is read off the plain list of all paths in word order: the first of least distance.
 use mathlib.Core.Bool.{cond}
 use mathlib.Core.List.{List, map}
 use Prim.Native.Nat.{ℕ, _-_, _*_, _/_, _%_}
@@ -10,8 +10,7 @@ use Rattle.trellis.specs.Lists.{each, first, over}
 use Rattle.trellis.specs.Word.{Word}
 use Rattle.trellis.specs.Outcome.{Outcome, success, badSection, badBlock, shortBuffer, noPath}
 use Rattle.paths.specs.Choice.{Choice, none, some}
-use Rattle.paths.specs.Chain.{bestPath, costTable}
-use Rattle.passes.specs.inner.Blocks.{unreached, endsIn}
+use Rattle.paths.specs.Chain.{bestPath, costTable, endsIn}
 use Rattle.chain.specs.Sections.{sectionsBad, badSectionOf}
 use Rattle.chain.specs.Frame.{frameBad, blockWords, wordDistance, blockBad}
 
@@ -26,20 +25,22 @@ left o costs labels goals = record { answer = o; costs = costs; labels = labels;
 
 -- the length that the first short buffer needs: the cost table 64·B, the labels B, the goals B; 0 where none is short
 unfoldable pub neededOf : ℕ → ℕ → ℕ → ℕ → ℕ
-neededOf blocks costs labels goals = cond (ltb costs (costsABlock * blocks)) (costsABlock * blocks) (cond (ltb labels blocks) blocks (cond (ltb goals blocks) blocks 0))
+neededOf blocks costs labels goals =
+    cond (ltb costs (costsABlock * blocks)) (costsABlock * blocks) (cond (ltb labels blocks) blocks (cond (ltb goals blocks) blocks 0))
 
 module _ (sections : List ℕ) (k : ℕ) (indices received erased : List ℕ) (start end : ℕ) where
   -- the first path of least distance from the start state to the end state
   unfoldable pub bestOf : Choice (List Word)
   bestOf =
-      bestPath (blockWords sections indices received erased) (endsIn end) (wordDistance sections indices received erased) (length indices) 0 start
+      bestPath (blockWords sections indices received erased) (endsIn end) (wordDistance sections indices received erased)
+      (length indices) 0 start
 
   -- at place 64·b + s the least distance from state s before block b to the end state after the last block
   unfoldable pub tableOf : List ℕ
   tableOf =
       each
       (λ i.
-      costTable (blockWords sections indices received erased) (endsIn end) (wordDistance sections indices received erased) unreached
+      costTable (blockWords sections indices received erased) (endsIn end) (wordDistance sections indices received erased)
       (length indices - i / costsABlock) (i / costsABlock) (i % costsABlock))
       (costsABlock * length indices)
 

@@ -1,5 +1,5 @@
--- The frame: for each block a section index, a received label and an erasure mask, and a start and an end state. Its blocks' words and their distances,
--- and document 01's fault 9. Everything here computes.
+-- The frame: for each block a section index, a received label and an erasure mask, and a start and an end state. Its blocks' words and
+-- their distances, and document 01's fault 9. Everything here computes.
 use mathlib.Core.Bool.{Bool, not, _&&_, _||_}
 use mathlib.Core.List.{List}
 use Prim.Native.Nat.{ℕ}
@@ -33,4 +33,5 @@ module _ (sections indices received erased : List ℕ) where
 
   -- the index of block b is not below K, or what was received does not fit its section: a bad digit, or a mask bit at or above 2^n
   unfoldable pub blockBad : ℕ → ℕ → Bool
-  blockBad k b = not (ltb (getD indices b 0) k && fitsBlock (nOf (blockSection b)) (getD received b 0) (getD erased b 0) (qOf (blockSection b)))
+  blockBad k b =
+      not (ltb (getD indices b 0) k && fitsBlock (nOf (blockSection b)) (getD received b 0) (getD erased b 0) (qOf (blockSection b)))

@@ -1,7 +1,6 @@
--- Chain decoding: the sections, the frame, what decoding leaves and what that means, what the loops keep, and what the checks leave.
+-- Chain decoding: the sections, the frame, what decoding leaves, and what the answers say.
 pub mod Sections
 pub mod Frame
 pub mod Decoding
 pub mod Answer
-pub mod Meaning
 pub mod inner

@@ -24,7 +24,8 @@ unusable sections i = not (usable (sectionAt sections i))
 
 -- K is outside its bounds, or a section is unusable, or numbers are left over after the last
 unfoldable pub sectionsBad : List ℕ → ℕ → Bool
-sectionsBad sections k = not (within 1 mostSections k) || (ltb (first (unusable sections) k) k || not (eqb (sectionStart sections k) (length sections)))
+sectionsBad sections k =
+    not (within 1 mostSections k) || (ltb (first (unusable sections) k) k || not (eqb (sectionStart sections k) (length sections)))
 
 -- K, the first unusable section, or K where numbers are left over: `first` is K where every section is usable
 unfoldable pub badSectionOf : List ℕ → ℕ → ℕ

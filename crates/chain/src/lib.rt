@@ -1,5 +1,6 @@
-// Chain decoding: sections one behind another, for each block a section index, a received label and an erasure mask, a start and an end state. `decode`
-// answers for all arguments, by an equation with `decoding`: the outcome of document 01 and the whole content of the three buffers.
+// Chain decoding: sections one behind another, for each block a section index, a received label and an erasure mask, a start and an
+// end state. `decode` answers for all arguments, by an equation with `decoding`: the outcome of document 01 and the whole content of
+// the three buffers.
 ghost use mathlib.Core.Path.{_≡_};
 ghost use mathlib.Core.Bool.{cond};
 ghost use Prim.Native.Nat.{ℕ, suc, _+_, _*_, _<_, _≤_};
@@ -12,7 +13,6 @@ ghost use Rattle.section_file.specs.Usable.{usable};
 ghost use Rattle.chain.specs.Frame.{frameBad, blockBad};
 ghost use Rattle.chain.specs.Decoding.{left, neededOf, fitted, framed, decoding};
 ghost use Rattle.chain.specs.Answer.{decodedOutcome};
-ghost use Rattle.chain.specs.Meaning.{Meaning};
 ghost use Rattle.chain.specs.inner.Loops.{SectionsFound, FirstUnusable, partLength};
 ghost use Rattle.chain.specs.inner.Checked.{AllFound, FrameChecked};
 use numbers::wide;
@@ -122,7 +122,8 @@ fn block_bad(
     erased: &[u8],
     b: usize,
 ) -> bool
-    requires { ⌜ SectionsFound (now sections) (now starts) k × (k ≤ mostSections) × (b < length (now indices)) × (length (now received) ≡ length (now indices)) × (length (now erased) ≡ length (now indices)) ⌝ }
+    requires { ⌜ SectionsFound (now sections) (now starts) k × (k ≤ mostSections) × (b < length (now indices))
+        × (length (now received) ≡ length (now indices)) × (length (now erased) ≡ length (now indices)) ⌝ }
     ensures { λ r. ⌜ r ≡ blockBad (now (sections .entry)) (now (indices .entry)) (now (received .entry)) (now (erased .entry)) k b ⌝ }
 {
     let i = widened(indices[b]);
@@ -143,8 +144,10 @@ fn first_bad(
     received: &[u16],
     erased: &[u8],
 ) -> usize
-    requires { ⌜ SectionsFound (now sections) (now starts) k × (k ≤ mostSections) × (length (now received) ≡ length (now indices)) × (length (now erased) ≡ length (now indices)) ⌝ }
-    ensures { λ r. ⌜ r ≡ first (blockBad (now (sections .entry)) (now (indices .entry)) (now (received .entry)) (now (erased .entry)) k) (length (now (indices .entry))) ⌝ }
+    requires { ⌜ SectionsFound (now sections) (now starts) k × (k ≤ mostSections)
+        × (length (now received) ≡ length (now indices)) × (length (now erased) ≡ length (now indices)) ⌝ }
+    ensures { λ r. ⌜ r ≡ first (blockBad (now (sections .entry)) (now (indices .entry)) (now (received .entry)) (now (erased .entry)) k)
+        (length (now (indices .entry))) ⌝ }
 {
     let mut b: usize = 0;
     while b < indices.len() {
@@ -170,8 +173,8 @@ fn needed(blocks: usize, costs: usize, labels: usize, goals: usize) -> usize
     if goals < blocks { blocks } else { 0 }
 }
 
-// Fault 10, and then the two passes: the cost table, and where it has a path from the start state, the words of the first best one. K plays no part here,
-// so the promise is for any.
+// Fault 10, and then the two passes: the cost table, and where it has a path from the start state, the words of the first best one. K
+// plays no part here, so the promise is for any.
 fn decode_blocks(
     sections: &[u16],
     starts: &[usize; MOST_SECTIONS + 1],
@@ -185,8 +188,9 @@ fn decode_blocks(
     goals: &mut [u8],
 ) -> Decoded
     requires { ⌜ FrameChecked (now sections) (now starts) (now indices) (now received) (now erased) start end ⌝ }
-    ensures whole { λ r. ⌜ ((k : ℕ) → left (decodedOutcome r) (now (costs .exit)) (now (labels .exit)) (now (goals .exit)) ≡ fitted (now (sections .entry)) k (now (indices .entry)) (now (received .entry)) (now (erased .entry)) start end (now (costs .entry)) (now (labels .entry)) (now (goals .entry))) ⌝ }
-    ensures meaning { λ r. ⌜ Meaning (now (sections .entry)) (now (indices .entry)) (now (received .entry)) (now (erased .entry)) start end (decodedOutcome r) (now (costs .exit)) (now (labels .exit)) (now (goals .exit)) ⌝ }
+    ensures { λ r. ⌜ ((k : ℕ) → left (decodedOutcome r) (now (costs .exit)) (now (labels .exit)) (now (goals .exit))
+        ≡ fitted (now (sections .entry)) k (now (indices .entry)) (now (received .entry)) (now (erased .entry)) start end
+        (now (costs .entry)) (now (labels .entry)) (now (goals .entry))) ⌝ }
 {
     let short = needed(indices.len(), costs.len(), labels.len(), goals.len());
     if short > 0 {
@@ -227,8 +231,9 @@ fn decode_frame(
     goals: &mut [u8],
 ) -> Decoded
     requires { ⌜ AllFound (now sections) (now starts) k ⌝ }
-    ensures whole { λ r. ⌜ left (decodedOutcome r) (now (costs .exit)) (now (labels .exit)) (now (goals .exit)) ≡ framed (now (sections .entry)) k (now (indices .entry)) (now (received .entry)) (now (erased .entry)) start end (now (costs .entry)) (now (labels .entry)) (now (goals .entry)) ⌝ }
-    ensures meaning { λ r. ⌜ Meaning (now (sections .entry)) (now (indices .entry)) (now (received .entry)) (now (erased .entry)) start end (decodedOutcome r) (now (costs .exit)) (now (labels .exit)) (now (goals .exit)) ⌝ }
+    ensures { λ r. ⌜ left (decodedOutcome r) (now (costs .exit)) (now (labels .exit)) (now (goals .exit))
+        ≡ framed (now (sections .entry)) k (now (indices .entry)) (now (received .entry)) (now (erased .entry)) start end
+        (now (costs .entry)) (now (labels .entry)) (now (goals .entry)) ⌝ }
 {
     if frame_bad(indices, received, erased, start, end) {
         return Decoded::Block(indices.len());
@@ -251,7 +256,11 @@ fn decode_frame(
     )
 }
 
-// Fault 8, and then what follows where there is none.
+// Decodes one frame over the K sections that lie one behind another in `sections`: the first path of least distance from state `start`
+// to state `end`, where block b takes a word of section `indices[b]`, and `received[b]` and `erased[b]` are its received label and its
+// erasure mask. For all arguments the answer and every place of the three buffers afterwards are those of `decoding`: on success the
+// distance, with the cost table, the path's labels and its goals in front of the buffers; on "no path" the cost table alone; any other
+// refusal, checked in the order of document 01, leaves the buffers as they were. Places beyond are unchanged.
 pub fn decode(
     sections: &[u16],
     k: usize,
@@ -264,8 +273,9 @@ pub fn decode(
     labels: &mut [u16],
     goals: &mut [u8],
 ) -> Decoded
-    ensures whole { λ r. ⌜ left (decodedOutcome r) (now (costs .exit)) (now (labels .exit)) (now (goals .exit)) ≡ decoding (now (sections .entry)) k (now (indices .entry)) (now (received .entry)) (now (erased .entry)) start end (now (costs .entry)) (now (labels .entry)) (now (goals .entry)) ⌝ }
-    ensures meaning { λ r. ⌜ Meaning (now (sections .entry)) (now (indices .entry)) (now (received .entry)) (now (erased .entry)) start end (decodedOutcome r) (now (costs .exit)) (now (labels .exit)) (now (goals .exit)) ⌝ }
+    ensures { λ r. ⌜ left (decodedOutcome r) (now (costs .exit)) (now (labels .exit)) (now (goals .exit))
+        ≡ decoding (now (sections .entry)) k (now (indices .entry)) (now (received .entry)) (now (erased .entry)) start end
+        (now (costs .entry)) (now (labels .entry)) (now (goals .entry)) ⌝ }
 {
     if !is_within(1, MOST_SECTIONS, k) {
         return Decoded::Section(k);

@@ -2,6 +2,7 @@
 use Rattle.demands.specs.Demands.{Demands}
 use Rattle.demands.proofs.Ends.{merging-ends, reading-back-ends, decoding-ends}
 use Rattle.demands.proofs.Demanded.{decided, same-words, smallest}
+use Rattle.demands.proofs.Decoded.{meaning}
 
 pub demands : Demands
 demands = record {
@@ -10,5 +11,6 @@ demands = record {
   decodingEnds = decoding-ends;
   decided = decided;
   sameWords = same-words;
+  decoder = meaning;
   smallest = smallest;
 }

@@ -2,4 +2,5 @@
 pub mod Ends
 pub mod SameDrawing
 pub mod Demanded
+pub mod Decoded
 pub mod Demands

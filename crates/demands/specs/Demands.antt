@@ -17,6 +17,7 @@ use Rattle.table.specs.File.{tableFile, accepted}
 use Rattle.merge.specs.Merging.{Merging, mapLength, merging}
 use Rattle.read_back.specs.ReadingBack.{ReadingBack, left, readingBack}
 use Rattle.chain.specs.Decoding.{Decoding, decoding}
+use Rattle.demands.specs.Decoded.{Meaning}
 
 -- ---- demand 1: "The call ends with an outcome from a fixed list, touches only lent memory, and each refusal states a fixed result and
 -- a fixed content of every buffer."
@@ -79,7 +80,8 @@ pub record SameWords (file : List ℕ) (q n states : ℕ) (table : List Word) (l
   pub words : (w : Word) → w .label < 4 ^ n → PathOf n (drawingOf l) w ↔ (w ∈ table)
   pub readsBack : (buffer : List ℕ) → length file ≤ length buffer → readingBack l buffer ≡ left (success (length file)) (over file buffer)
 
--- "The decoder names a path of least distance, the first such in word order, and says there is none only when there is none": specs/Decoded
+-- "The decoder names a path of least distance, the first such in word order, and says there is none only when there is none": `Meaning`,
+-- in the file beside this one
 
 -- ---- demand 3: "Of all sections that anyone can draw for an accepted table, none has fewer vertices at any depth, fewer edges at any
 -- step, or fewer selections in all than ours, by the counts that stand in the buffer; and ours is itself such a section."
@@ -88,7 +90,7 @@ pub record Smallest (n : ℕ) (table : List Word) (l : List ℕ) : Type 0 where
   pub own : DrawnFor n table (drawingOf l)
   pub least : (D : Drawing) → DrawnFor n table D → NoFewer n (vertexCountOf l) (edgeCountOf l) D
 
--- ---- all of them, but the decoder's
+-- ---- all of them
 
 pub record Demands : Type 0 where
   pub mergingEnds : (file map section : List ℕ) → MergingEnds map section (merging file map section)
@@ -99,5 +101,7 @@ pub record Demands : Type 0 where
       → Decided n table (merging file map section)
   pub sameWords : {file map section : List ℕ} {q n states : ℕ} {table : List Word} → Fair file q n states table map section
       → IsAccepted (merging file map section) → SameWords file q n states table (sectionLeft (merging file map section))
+  pub decoder : (sections : List ℕ) (k : ℕ) (indices received erased : List ℕ) (start end : ℕ) (costs labels goals : List ℕ)
+      → Meaning sections indices received erased start end (decoding sections k indices received erased start end costs labels goals)
   pub smallest : {file map section : List ℕ} {q n states : ℕ} {table : List Word} → Fair file q n states table map section
       → IsAccepted (merging file map section) → Smallest n table (sectionLeft (merging file map section))

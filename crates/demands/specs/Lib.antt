@@ -1,2 +1,3 @@
 -- The three demands on the kit.
+pub mod Decoded
 pub mod Demands

@@ -1,13 +1,15 @@
-// The two passes over the blocks of a chain. Backward, over the edges of the blocks' sections and never over their words: the cost table, and for each
-// block and state a pick, the label and the goal of the first word of least distance. Forward, the picks are followed.
+// The two passes over the blocks of a chain. Backward, over the edges of the blocks' sections and never over their words: the cost
+// table, and for each block and state a pick, the label and the goal of the first word of least distance. Forward, the picks are
+// followed.
 ghost use mathlib.Core.Path.{_≡_};
 ghost use Prim.Native.Nat.{_+_, _*_, _/_, _%_, _<_, _≤_};
 ghost use lib.ListN.{length};
 ghost use Rattle.trellis.specs.Bounds.{mostStates, mostBlocks, costsABlock};
 ghost use Rattle.trellis.specs.Layout.{nOf, vertexCountOf};
+ghost use Rattle.paths.specs.Chain.{unreached};
 ghost use Rattle.paths.specs.inner.Ranked.{rankedRest};
 ghost use Rattle.sweep.specs.inner.Rows.{Placed};
-ghost use Rattle.passes.specs.inner.Blocks.{unreached, Decodable, Ready, Picked, Filled, aheadOf, leastFrom};
+ghost use Rattle.passes.specs.inner.Blocks.{Decodable, Ready, Picked, Filled, aheadOf, leastFrom};
 ghost use Rattle.passes.specs.inner.Loops.{GoalsRanked, RowsOver, NoneSoFar, RootsPut, BlockTable, Named};
 use numbers::wide;
 use numbers::widened;
@@ -58,7 +60,8 @@ fn put_goals(
 )
     requires { ⌜ Decodable (now l) × Placed (now l) (at .n) (at .roots) (at .goals) (at .pairs) (at .symbols) (at .edges)
         × (costsABlock * blocks ≤ length (now costs)) × (blocks ≤ mostBlocks) × (length (now rows) ≡ 9216) ⌝ }
-    ensures { λ _. ⌜ GoalsRanked (now (l .entry)) (now (costs .entry)) blocks end b (now (rows .exit)) (vertexCountOf (now (l .entry)) (nOf (now (l .entry)))) ⌝ }
+    ensures { λ _. ⌜ GoalsRanked (now (l .entry)) (now (costs .entry)) blocks end b (now (rows .exit))
+        (vertexCountOf (now (l .entry)) (nOf (now (l .entry)))) ⌝ }
 {
     let n = at.n;
     let goals = at.goals;
@@ -124,7 +127,8 @@ fn put_roots(
 )
     requires { ⌜ Decodable (now l) × Placed (now l) (at .n) (at .roots) (at .goals) (at .pairs) (at .symbols) (at .edges)
         × (costsABlock * b + costsABlock ≤ length (now costs)) × (b < mostBlocks) × (length (now picks) ≡ (costsABlock * mostBlocks)) ⌝ }
-    ensures { λ _. ⌜ RootsPut (now (l .entry)) (now (rows .entry)) b (now (costs .entry)) (now (costs .exit)) (now (picks .entry)) (now (picks .exit)) (vertexCountOf (now (l .entry)) 0) ⌝ }
+    ensures { λ _. ⌜ RootsPut (now (l .entry)) (now (rows .entry)) b (now (costs .entry)) (now (costs .exit))
+        (now (picks .entry)) (now (picks .exit)) (vertexCountOf (now (l .entry)) 0) ⌝ }
 {
     let roots = at.roots;
     let count = wide(l[3]);
@@ -150,8 +154,10 @@ fn table_block(
     costs: &mut [u32],
     picks: &mut [u32; COSTS_A_BLOCK * MOST_BLOCKS],
 )
-    requires { ⌜ Decodable (now l) × (costsABlock * blocks ≤ length (now costs)) × (blocks ≤ mostBlocks) × (b < blocks) × (length (now rows) ≡ 9216) × (length (now picks) ≡ (costsABlock * mostBlocks)) ⌝ }
-    ensures { λ _. ⌜ BlockTable (now (l .entry)) received mask blocks end b (now (costs .entry)) (now (costs .exit)) (now (picks .entry)) (now (picks .exit))
+    requires { ⌜ Decodable (now l) × (costsABlock * blocks ≤ length (now costs)) × (blocks ≤ mostBlocks) × (b < blocks)
+        × (length (now rows) ≡ 9216) × (length (now picks) ≡ (costsABlock * mostBlocks)) ⌝ }
+    ensures { λ _. ⌜ BlockTable (now (l .entry)) received mask blocks end b (now (costs .entry)) (now (costs .exit))
+        (now (picks .entry)) (now (picks .exit))
         × (length (now (rows .exit)) ≡ 9216) ⌝ }
 {
     let at = sweep::places_of(l);
@@ -161,7 +167,7 @@ fn table_block(
     put_roots(l, at, rows, b, costs, picks);
 }
 
-// Backward: the cost table of all blocks, and their picks.
+// Backward, from the last block to the first: the cost table of all blocks, and their picks, for paths that end in state `end`.
 pub fn fill_table(
     sections: &[u16],
     starts: &[usize; MOST_SECTIONS + 1],
@@ -171,9 +177,10 @@ pub fn fill_table(
     end: usize,
     costs: &mut [u32],
 ) -> [u32; COSTS_A_BLOCK * MOST_BLOCKS]
-    requires { ⌜ Ready (now sections) (now starts) (now indices) (now received) (now erased) × (costsABlock * length (now indices) ≤ length (now costs)) ⌝ }
-    ensures { λ r. ⌜ Filled (now (sections .entry)) (now (starts .entry)) (now (indices .entry)) (now (received .entry)) (now (erased .entry)) end 0
-        (now (costs .entry)) (now (costs .exit)) r ⌝ }
+    requires { ⌜ Ready (now sections) (now starts) (now indices) (now received) (now erased)
+        × (costsABlock * length (now indices) ≤ length (now costs)) ⌝ }
+    ensures { λ r. ⌜ Filled (now (sections .entry)) (now (starts .entry)) (now (indices .entry)) (now (received .entry))
+        (now (erased .entry)) end 0 (now (costs .entry)) (now (costs .exit)) r ⌝ }
 {
     let blocks = indices.len();
     let mut rows = [TOP; (MOST_SYMBOLS + 1) * MOST_WORDS];
@@ -212,7 +219,7 @@ fn goal_of(pick: u32) -> u8
     (pick % 65536) as u8
 }
 
-// Forward: the labels and goals of the first path of least distance, and that distance.
+// Forward, from state `start`: writes the labels and goals of the first path of least distance, and answers with that distance.
 pub fn name_words(
     sections: &[u16],
     starts: &[usize; MOST_SECTIONS + 1],
@@ -229,8 +236,8 @@ pub fn name_words(
         × Picked (now sections) (now starts) (now indices) (now received) (now erased) end 0 (now picks)
         × (length (now indices) ≤ length (now labels)) × (length (now indices) ≤ length (now goals)) × (start < mostStates)
         × (leastFrom (now sections) (now starts) (now indices) (now received) (now erased) end 0 start < unreached) ⌝ }
-    ensures { λ r. ⌜ Named (now (sections .entry)) (now (starts .entry)) (now (indices .entry)) (now (received .entry)) (now (erased .entry)) end start
-        (now (labels .entry)) (now (labels .exit)) (now (goals .entry)) (now (goals .exit)) r ⌝ }
+    ensures { λ r. ⌜ Named (now (sections .entry)) (now (starts .entry)) (now (indices .entry)) (now (received .entry))
+        (now (erased .entry)) end start (now (labels .entry)) (now (labels .exit)) (now (goals .entry)) (now (goals .exit)) r ⌝ }
 {
     let blocks = indices.len();
     let mut s = start;

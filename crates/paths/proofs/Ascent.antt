@@ -1,5 +1,6 @@
--- The paths of a section from one vertex stand in order, by their symbols and then by where they end, and so do their packed labels. At an inner depth
--- one symbol leads from a vertex to one vertex only, so edges that leave a vertex are told apart by their symbols; at the last step the goals settle it.
+-- The paths of a section from one vertex stand in order, by their symbols and then by where they end, and so do their packed
+-- labels. At an inner depth one symbol leads from a vertex to one vertex only, so edges that leave a vertex are told apart by
+-- their symbols; at the last step the goals settle it.
 use mathlib.Core.Path.{_≡_, refl, sym, subst, subst₂, _∙_}
 use mathlib.Core.Logic.{_⊎_, inl, inr, ⊎-elim}
 use mathlib.Core.List.{List, [], _∷_, map, List·Memᴰ·not-nil, List·Memᴰ·eq-of-singleton, Memᴰ·of-map}
@@ -11,8 +12,8 @@ use Rattle.trellis.specs.Own.{Edge, edgeLess}
 use Rattle.trellis.specs.Section.{Path, stop, along, leaving, pathsFrom, packOnto}
 use Rattle.trellis.proofs.Ascending.{Ascends}
 use Rattle.trellis.proofs.ThreeNumbers.{lower-yes}
-use Rattle.paths.proofs.Ordered.{ordered-of, ordered-keep, ordered-as, ordered-map, ordered-flatMap, of-flatMap}
 use Rattle.paths.specs.inner.Ordered.{Ordered, ended, leads}
+use Rattle.paths.proofs.Ordered.{ordered-of, ordered-keep, ordered-as, ordered-map, ordered-flatMap, of-flatMap}
 use Rattle.paths.proofs.Sections.{from-of, listed-of}
 
 -- symbols compared from the first on, then the ends
@@ -49,7 +50,8 @@ out-before e f h l = go (lower-yes (e .from) (e .symbol) (e .to) (f .from) (f .s
 out-ordered : (v : ℕ) (es : List Edge) → Ascends edgeLess es → Ordered OutBefore (leaving v es)
 unfolding leaving
 out-ordered v es a =
-    ordered-as (λ e f m k. out-before e f (from-of v es e m ∙ sym (from-of v es f k))) (ordered-keep (λ e. eqb (e .from) v) (ordered-of edgeLess es a))
+    ordered-as (λ e f m k. out-before e f (from-of v es e m ∙ sym (from-of v es f k)))
+    (ordered-keep (λ e. eqb (e .from) v) (ordered-of edgeLess es a))
 
 module _ (edges : ℕ → List Edge) (n : ℕ) (O : Orderly edges n) where
   symbols-ordered : (t v : ℕ) → suc t < n → Ordered LessSymbol (leaving v (edges t))
@@ -58,7 +60,8 @@ module _ (edges : ℕ → List Edge) (n : ℕ) (O : Orderly edges n) where
       strict : (e f : Edge) → e ∈ leaving v (edges t) → f ∈ leaving v (edges t) → OutBefore e f → LessSymbol e f
       strict e f m k (inl p) = p
       strict e f m k (inr p) =
-          let l = O .single t h e f (listed-of v (edges t) e m) (listed-of v (edges t) f k) (from-of v (edges t) e m ∙ sym (from-of v (edges t) f k)) (p .0) in
+          let l = O .single t h e f (listed-of v (edges t) e m) (listed-of v (edges t) f k)
+          (from-of v (edges t) e m ∙ sym (from-of v (edges t) f k)) (p .0) in
           let q = p .1 in
           absurd (omega arith)
 
@@ -72,7 +75,8 @@ module _ (edges : ℕ → List Edge) (n : ℕ) (O : Orderly edges n) where
       ordered-flatMap (λ e. map (along e) (stop (e .to) ∷ [])) (out-ordered v (edges t) (O .ascend t (omega arith)))
       (λ e m. one-ordered (along e (stop (e .to)))) across
     where
-      across : (e f : Edge) → OutBefore e f → (p q : Path) → p ∈ along e (stop (e .to)) ∷ [] → q ∈ along f (stop (f .to)) ∷ [] → PathBefore p q
+      across : (e f : Edge) → OutBefore e f → (p q : Path) → p ∈ along e (stop (e .to)) ∷ [] → q ∈ along f (stop (f .to)) ∷ []
+          → PathBefore p q
       across e f r p q m k = subst₂ PathBefore (sym (List·Memᴰ·eq-of-singleton m)) (sym (List·Memᴰ·eq-of-singleton k)) r
   paths-ordered (suc (suc k)) t v h =
       ordered-flatMap (λ e. map (along e) (pathsFrom edges (suc k) (suc t) (e .to))) (symbols-ordered t v (omega arith))
@@ -104,7 +108,8 @@ unfolding packOnto
 pack-before no-more no-more x e = inr (refl, e)
 pack-before {g = g} {h} (one-more {a = a} {rest = us} p s) (one-more {a = b} {rest = vs} q r) x e =
     ⊎-elim (λ l. inl (pack-lt s r (x * 4 + a) (x * 4 + b) (omega arith)))
-    (λ w. subst (λ c. (packOnto (x * 4 + a) us < packOnto (x * 4 + c) vs) ⊎ ((packOnto (x * 4 + a) us ≡ packOnto (x * 4 + c) vs) × (g < h))) (w .0)
+    (λ w. subst (λ c. (packOnto (x * 4 + a) us < packOnto (x * 4 + c) vs) ⊎ ((packOnto (x * 4 + a) us ≡ packOnto (x * 4 + c) vs) × (g < h)))
+    (w .0)
     (pack-before s r (x * 4 + a) (w .1)))
     e
 

@@ -1,6 +1,7 @@
--- One block of a chain is one pass over the edges of its section: the numbers behind the block are what it costs to end in each goal. The least over the
--- block's words is the least over its paths, and the first word that has it is that of the path which the section's numbers name.
-use mathlib.Core.Path.{_≡_, refl, sym, ap, ap₂, subst, _∙_}
+-- One block of a chain is one pass over the edges of its section: the numbers behind the block are what it costs to
+-- end in each goal. The least over the block's words is the least over its paths, and the first word that has it is
+-- that of the path which the section's numbers name.
+use mathlib.Core.Path.{_≡_, refl, sym, ap, ap₂, _∙_}
 use mathlib.Core.Bool.{Bool, true, false, cond, not}
 use mathlib.Core.List.{List, [], _∷_, map}
 use mathlib.Core.Option.{some as just}
@@ -11,15 +12,17 @@ use Rattle.trellis.specs.Lists.{_∈_}
 use Rattle.trellis.specs.Word.{Word}
 use Rattle.trellis.specs.Own.{Edge}
 use Rattle.trellis.specs.Section.{Path, pathsFrom}
-use Rattle.paths.specs.Choice.{Choice, none, some, chooseAll}
-use Rattle.paths.specs.inner.Costs.{capped, plus, minAll, least, firstWith, next, orStop, trace}
-use Rattle.paths.specs.inner.Sections.{costFrom, sectionLeast, sectionTrace}
-use Rattle.paths.specs.Chain.{rootedAt, chainGraph, atEnd, chainLeast, chainTrace}
+use Rattle.paths.specs.Choice.{Choice, none, some}
+use Rattle.paths.specs.Chain.{rootedAt}
+use Rattle.paths.specs.inner.Costs.{plus, minAll, least, firstWith, next, orStop, trace}
+use Rattle.paths.specs.inner.Sections.{sectionLeast}
+use Rattle.paths.specs.inner.Chains.{chainGraph, atEnd, chainLeast, chainTrace}
+use Rattle.paths.proofs.Choose.{chooseAll}
 use Rattle.paths.proofs.First.{all-chosen}
-use Rattle.paths.proofs.Capped.{capped-extend, capped-all, capped-had, min-same-in}
+use Rattle.paths.proofs.Capped.{capped-extend, capped-all, capped-had, min-same-in, capped}
 use Rattle.paths.proofs.Trace.{chosen-first, extended}
-use Rattle.paths.proofs.Sections.{pathOffer, section-least, section-trace}
-use Rattle.paths.proofs.Chain.{cost-table, table-le}
+use Rattle.paths.proofs.Sections.{pathOffer, section-least, section-trace, costFrom, sectionTrace}
+use Rattle.paths.proofs.Chain.{least-le}
 
 -- a number as an offer
 unfoldable pub known : ℕ → ℕ → Choice (Unit {0})
@@ -38,12 +41,14 @@ unfolding minAll
 min-map top f g [] = refl
 min-map top f g (x ∷ xs) = ap (min (f (g x))) (min-map top f g xs)
 
-first-map : {A B : Type 0} (test : B → Bool) (g : A → B) (xs : List A) (x : A) → firstWith (λ y. test (g y)) xs ≡ just x → firstWith test (map g xs) ≡ just (g x)
+first-map : {A B : Type 0} (test : B → Bool) (g : A → B) (xs : List A) (x : A) → firstWith (λ y. test (g y)) xs ≡ just x
+    → firstWith test (map g xs) ≡ just (g x)
 unfolding firstWith
 first-map test g [] x e = let z : _≡_ {A = ℕ} 0 1 = cc in absurd (omega arith)
 first-map {A} {B} test g (y ∷ xs) x e = go (test (g y)) (first-map test g xs x) e
   where
-    go : (b : Bool) → (firstWith (λ y. test (g y)) xs ≡ just x → firstWith test (map g xs) ≡ just (g x)) → cond b (just y) (firstWith (λ y. test (g y)) xs) ≡ just x
+    go : (b : Bool) → (firstWith (λ y. test (g y)) xs ≡ just x → firstWith test (map g xs) ≡ just (g x))
+        → cond b (just y) (firstWith (λ y. test (g y)) xs) ≡ just x
         → cond b (just (g y)) (firstWith test (map g xs)) ≡ just (g x)
     go true r h = let i : y ≡ x = cc in ap (λ z. just (g z)) i
     go false r h = r h
@@ -53,7 +58,8 @@ pub record Spells (cost : ℕ → ℕ → ℕ) (state : ℕ → ℕ) (dist : Wor
   pub same-cost : (p : Path) → p ∈ ps → dist (spell p) ≡ costFrom cost 0 (p .symbols)
   pub same-goal : (p : Path) → spell p .goal ≡ state (p .end)
 
-module _ {cost : ℕ → ℕ → ℕ} {state : ℕ → ℕ} {dist : Word → ℕ} {spell : Path → Word} (edges : ℕ → List Edge) (n v : ℕ) (S : Spells cost state dist spell (pathsFrom edges n 0 v)) (top : ℕ) (rest : ℕ → ℕ) (bound : (s : ℕ) → rest s ≤ top) where
+module _ {cost : ℕ → ℕ → ℕ} {state : ℕ → ℕ} {dist : Word → ℕ} {spell : Path → Word} (edges : ℕ → List Edge) (n v : ℕ)
+    (S : Spells cost state dist spell (pathsFrom edges n 0 v)) (top : ℕ) (rest : ℕ → ℕ) (bound : (s : ℕ) → rest s ≤ top) where
   -- a word with what is to pay from its goal on
   abbrev onWord : Word → ℕ
   onWord w = plus top (dist w) (rest (w .goal))
@@ -72,14 +78,17 @@ module _ {cost : ℕ → ℕ → ℕ} {state : ℕ → ℕ} {dist : Word → ℕ
   number-is g = sym (capped-known top (rest (state g)) (bound (state g)))
 
   -- the least over the words is the sweep's number
-  pub block-cost : minAll top (λ w. plus top (dist w) (rest (w .goal))) (map spell (pathsFrom edges n 0 v)) ≡ sectionLeast edges cost top (λ g. rest (state g)) n 0 v
+  pub block-cost : minAll top (λ w. plus top (dist w) (rest (w .goal))) (map spell (pathsFrom edges n 0 v))
+      ≡ sectionLeast edges cost top (λ g. rest (state g)) n 0 v
   block-cost =
       min-map top onWord spell (pathsFrom edges n 0 v) ∙ min-same-in top (pathsFrom edges n 0 v) on-path
-      ∙ sym (capped-all top (pathOffer cost final 0) (pathsFrom edges n 0 v)) ∙ sym (section-least edges cost final top (λ g. rest (state g)) number-is n 0 v)
+      ∙ sym (capped-all top (pathOffer cost final 0) (pathsFrom edges n 0 v))
+      ∙ sym (section-least edges cost final top (λ g. rest (state g)) number-is n 0 v)
 
   -- the first word that gives it is the word of the path that the sweep's numbers name
   pub block-word : (c : ℕ) → sectionLeast edges cost top (λ g. rest (state g)) n 0 v ≡ c → c < top
-      → firstWith (λ w. eqb (plus top (dist w) (rest (w .goal))) c) (map spell (pathsFrom edges n 0 v)) ≡ just (spell (sectionTrace edges cost top (λ g. rest (state g)) n 0 v))
+      → firstWith (λ w. eqb (plus top (dist w) (rest (w .goal))) c) (map spell (pathsFrom edges n 0 v))
+      ≡ just (spell (sectionTrace edges cost top (λ g. rest (state g)) n 0 v))
   unfolding pathOffer
   block-word c e h =
       let a = chooseAll (pathOffer cost final 0) (pathsFrom edges n 0 v) in
@@ -88,34 +97,38 @@ module _ {cost : ℕ → ℕ → ℕ} {state : ℕ → ℕ} {dist : Word → ℕ
       let o : a ≡ some c (H .what) = H .is ∙ ap (λ x. some x (H .what)) i in
       let C = all-chosen (pathOffer cost final 0) (pathsFrom edges n 0 v) o in
       let q : H .what ≡ C .member = extended _ _ _ (C .offers) .path-is in
-      first-map (λ w. eqb (onWord w) c) spell (pathsFrom edges n 0 v) (C .member) (chosen-first top (pathOffer cost final 0) (λ p. onWord (spell p)) on-path C h)
+      first-map (λ w. eqb (onWord w) c) spell (pathsFrom edges n 0 v) (C .member)
+      (chosen-first top (pathOffer cost final 0) (λ p. onWord (spell p)) on-path C h)
       ∙ ap (λ p. just (spell p)) (sym (section-trace edges cost final top (λ g. rest (state g)) number-is n 0 v o h ∙ q))
 
 module _ (words : ℕ → List Word) (ends : ℕ → Bool) (dist : ℕ → Word → ℕ) (top : ℕ) where
-  least-le : (k b s : ℕ) → chainLeast words ends dist top k b s ≤ top
-  least-le k b s = subst (λ x. x ≤ top) (cost-table words ends dist top k b s) (table-le words ends dist top k b s)
-
-  module _ {cost : ℕ → ℕ → ℕ} {state : ℕ → ℕ} {spell : Path → Word} (edges : ℕ → List Edge) (n v k b s : ℕ) (S : Spells cost state (dist b) spell (pathsFrom edges n 0 v)) (same : rootedAt s (words b) ≡ map spell (pathsFrom edges n 0 v)) where
+  module _ {cost : ℕ → ℕ → ℕ} {state : ℕ → ℕ} {spell : Path → Word} (edges : ℕ → List Edge) (n v k b s : ℕ)
+      (S : Spells cost state (dist b) spell (pathsFrom edges n 0 v)) (same : rootedAt s (words b) ≡ map spell (pathsFrom edges n 0 v)) where
     -- the numbers before block b follow along the edges of its section from those behind it
-    pub least-block : chainLeast words ends dist top (suc k) b s ≡ sectionLeast edges cost top (λ g. chainLeast words ends dist top k (suc b) (state g)) n 0 v
+    pub least-block : chainLeast words ends dist top (suc k) b s
+        ≡ sectionLeast edges cost top (λ g. chainLeast words ends dist top k (suc b) (state g)) n 0 v
     unfolding chainLeast least
     least-block =
         ap (minAll top (λ w. plus top (dist b w) (chainLeast words ends dist top k (suc b) (w .goal)))) same
-        ∙ block-cost edges n v S top (chainLeast words ends dist top k (suc b)) (least-le k (suc b))
+        ∙ block-cost edges n v S top (chainLeast words ends dist top k (suc b)) (least-le words ends dist top k (suc b))
 
     word-found : chainLeast words ends dist top (suc k) b s < top
         → next (chainGraph words ends) dist top (atEnd top ends) k b s
         ≡ just (spell (sectionTrace edges cost top (λ g. chainLeast words ends dist top k (suc b) (state g)) n 0 v))
     unfolding next chainLeast
     word-found h =
-        ap (firstWith (λ w. eqb (plus top (dist b w) (chainLeast words ends dist top k (suc b) (w .goal))) (chainLeast words ends dist top (suc k) b s))) same
-        ∙ block-word edges n v S top (chainLeast words ends dist top k (suc b)) (least-le k (suc b)) (chainLeast words ends dist top (suc k) b s) (sym least-block) h
+        ap (firstWith
+        (λ w. eqb (plus top (dist b w) (chainLeast words ends dist top k (suc b) (w .goal)))
+        (chainLeast words ends dist top (suc k) b s))) same
+        ∙ block-word edges n v S top (chainLeast words ends dist top k (suc b)) (least-le words ends dist top k (suc b))
+        (chainLeast words ends dist top (suc k) b s) (sym least-block) h
 
     -- and the word of the block is that of the path that they name there
     pub trace-block : chainLeast words ends dist top (suc k) b s < top
         → chainTrace words ends dist top (suc k) b s
         ≡ spell (sectionTrace edges cost top (λ g. chainLeast words ends dist top k (suc b) (state g)) n 0 v)
-        ∷ chainTrace words ends dist top k (suc b) (state (sectionTrace edges cost top (λ g. chainLeast words ends dist top k (suc b) (state g)) n 0 v .end))
+        ∷ chainTrace words ends dist top k (suc b)
+        (state (sectionTrace edges cost top (λ g. chainLeast words ends dist top k (suc b) (state g)) n 0 v .end))
     unfolding chainTrace trace orStop
     trace-block h =
         let p = sectionTrace edges cost top (λ g. chainLeast words ends dist top k (suc b) (state g)) n 0 v in

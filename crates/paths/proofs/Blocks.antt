@@ -1,5 +1,5 @@
--- A chain of sections: block by block the chain's numbers follow along the edges of the block's section, at the states of its roots; at any other state
--- there is no path. The word of a block is that of the path which the section's numbers name.
+-- A chain of sections: block by block the chain's numbers follow along the edges of the block's section, at the states of its roots; at any
+-- other state there is no path. The word of a block is that of the path which the section's numbers name.
 use mathlib.Core.Path.{_≡_, refl, ap, _∙_}
 use mathlib.Core.Bool.{Bool}
 use mathlib.Core.List.{List, _∷_, map}
@@ -8,20 +8,25 @@ use Rattle.trellis.specs.Lists.{_∈_}
 use Rattle.trellis.specs.Word.{Word}
 use Rattle.trellis.specs.Own.{Edge}
 use Rattle.trellis.specs.Section.{Path, pathsFrom, wordOf, wordsOf}
+use Rattle.paths.specs.Chain.{rootedAt}
 use Rattle.paths.specs.inner.Costs.{plus, minAll, least}
-use Rattle.paths.specs.inner.Sections.{costFrom, sectionLeast, sectionTrace}
-use Rattle.paths.specs.Chain.{rootedAt, chainLeast, chainTrace}
+use Rattle.paths.specs.inner.Sections.{sectionLeast}
+use Rattle.paths.specs.inner.Chains.{chainLeast, chainTrace}
 use Rattle.paths.specs.inner.Ordered.{Ordered}
+use Rattle.paths.proofs.Sections.{costFrom, sectionTrace}
 use Rattle.paths.proofs.Words.{rooted-words, rooted-none}
 use Rattle.paths.proofs.Block.{Spells, least-block, trace-block}
 
--- block b is the section with these edges, n steps, root vertices, and states of its roots and goals; cost are the costs of its symbols at each step
-pub record Uses (words : ℕ → List Word) (dist : ℕ → Word → ℕ) (b : ℕ) (edges : ℕ → List Edge) (n : ℕ) (roots : List ℕ) (rootOf goalOf : ℕ → ℕ) (cost : ℕ → ℕ → ℕ) : Type 0 where
+-- block b is the section with these edges, n steps, root vertices, and states of its roots and
+-- goals; cost are the costs of its symbols at each step
+pub record Uses (words : ℕ → List Word) (dist : ℕ → Word → ℕ) (b : ℕ) (edges : ℕ → List Edge) (n : ℕ) (roots : List ℕ)
+    (rootOf goalOf : ℕ → ℕ) (cost : ℕ → ℕ → ℕ) : Type 0 where
   pub words-are : words b ≡ wordsOf n edges roots rootOf goalOf
   pub roots-ascend : Ordered (λ u v. rootOf u < rootOf v) roots
   pub same-cost : (v : ℕ) (p : Path) → p ∈ pathsFrom edges n 0 v → dist b (wordOf rootOf goalOf v p) ≡ costFrom cost 0 (p .symbols)
 
-module _ {words : ℕ → List Word} {dist : ℕ → Word → ℕ} {b : ℕ} {edges : ℕ → List Edge} {n : ℕ} {roots : List ℕ} {rootOf goalOf : ℕ → ℕ} {cost : ℕ → ℕ → ℕ} (U : Uses words dist b edges n roots rootOf goalOf cost) (ends : ℕ → Bool) (top k : ℕ) where
+module _ {words : ℕ → List Word} {dist : ℕ → Word → ℕ} {b : ℕ} {edges : ℕ → List Edge} {n : ℕ} {roots : List ℕ} {rootOf goalOf : ℕ → ℕ}
+    {cost : ℕ → ℕ → ℕ} (U : Uses words dist b edges n roots rootOf goalOf cost) (ends : ℕ → Bool) (top k : ℕ) where
   -- the numbers behind the block, at the states of the goals
   abbrev pub behind : ℕ → ℕ
   behind g = chainLeast words ends dist top k (suc b) (goalOf g)
@@ -47,5 +52,6 @@ module _ {words : ℕ → List Word} {dist : ℕ → Word → ℕ} {b : ℕ} {ed
   -- the word of the block, and the state where the next one starts
   pub trace-root : (v : ℕ) → v ∈ roots → chainLeast words ends dist top (suc k) b (rootOf v) < top
       → chainTrace words ends dist top (suc k) b (rootOf v)
-      ≡ wordOf rootOf goalOf v (sectionTrace edges cost top behind n 0 v) ∷ chainTrace words ends dist top k (suc b) (goalOf (sectionTrace edges cost top behind n 0 v .end))
+      ≡ wordOf rootOf goalOf v (sectionTrace edges cost top behind n 0 v)
+      ∷ chainTrace words ends dist top k (suc b) (goalOf (sectionTrace edges cost top behind n 0 v .end))
   trace-root v m = trace-block words ends dist top edges n v k b (rootOf v) (spells v) (rooted v m)

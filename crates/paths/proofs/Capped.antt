@@ -1,5 +1,5 @@
--- The numbers of specs/Costs are the costs of what is best, cut off at `top`: capping goes through `choose` and `extend`. Where no cost can reach
--- `top`, it says that there is no path.
+-- The numbers of specs/inner/Costs are the costs of what is best, cut off at `top`: capping goes through `choose` and `extend`. Where no
+-- cost can reach `top`, it says that there is no path.
 use mathlib.Core.Path.{_≡_, refl, sym, ap, ap₂, _∙_}
 use mathlib.Core.List.{List, [], _∷_, List·Memᴰ·head, List·Memᴰ·tail}
 use Prim.Native.Nat.{ℕ, zero, suc, _+_, _*_, _≤_, _<_, min}
@@ -7,12 +7,17 @@ use native.Mathlib.Nat.{suc-mul}
 use native.Mathlib.Omega.{arith}
 use native.Mathlib.Decide.{decLe}
 use Rattle.trellis.specs.Lists.{_∈_}
-use Rattle.paths.specs.Choice.{Choice, none, some, choose, extend, chooseAll}
+use Rattle.paths.specs.Choice.{Choice, none, some, choose, paidOr}
 use Rattle.paths.specs.inner.Graph.{Graph}
-use Rattle.paths.specs.inner.Costs.{capped, plus, minAll, least}
-use Rattle.paths.proofs.Choose.{choose-left, choose-right}
+use Rattle.paths.specs.inner.Costs.{plus, minAll, least}
+use Rattle.paths.proofs.Choose.{choose-left, choose-right, extend, chooseAll}
 use Rattle.paths.proofs.First.{all-chosen}
 use Rattle.paths.proofs.Walk.{Prices, ahead}
+
+-- what is paid, cut off at `top`
+unfoldable pub capped : {P : Type 0} → ℕ → Choice P → ℕ
+capped top none = top
+capped top (some c p) = min top c
 
 module _ (top : ℕ) where
   pub capped-le : {P : Type 0} (a : Choice P) → capped top a ≤ top
@@ -66,7 +71,8 @@ module _ (top : ℕ) where
     unfolding least ahead
     least-ahead zero t v = ended t v
     least-ahead (suc k) t v =
-        min-same (λ e. ap (plus top (Q .cost t e)) (least-ahead k (suc t) (G .to e)) ∙ sym (capped-extend (Q .cost t e) (G .onto e) (ahead Q k (suc t) (G .to e)))) (G .out t v)
+        min-same (λ e. ap (plus top (Q .cost t e)) (least-ahead k (suc t) (G .to e))
+        ∙ sym (capped-extend (Q .cost t e) (G .onto e) (ahead Q k (suc t) (G .to e)))) (G .out t v)
         ∙ sym (capped-all (λ e. extend (Q .cost t e) (G .onto e) (ahead Q k (suc t) (G .to e))) (G .out t v))
 
 -- ---- where costs stay below top, the number tells all
@@ -99,18 +105,26 @@ unfolding capped
 capped-none top b none m h e = refl
 capped-none top b (some c p) m h e = let l = m c p refl in absurd (omega arith)
 
+-- nothing is cut off
+pub capped-paid : {P : Type 0} (top b : ℕ) (a : Choice P) → AtMost b a → b < top → paidOr top a ≡ capped top a
+unfolding paidOr capped
+capped-paid top b none m h = refl
+capped-paid top b (some c p) m h = let l = m c p refl in omega arith
+
 pub extend-at-most : {P Q : Type 0} (d b : ℕ) (f : P → Q) (a : Choice P) → AtMost b a → AtMost (d + b) (extend d f a)
 unfolding extend
 extend-at-most d b f none m c q e = let z : _≡_ {A = ℕ} 0 1 = cc in absurd (omega arith)
 extend-at-most d b f (some u p) m c q e = let i : d + u ≡ c = cc in let l = m u p refl in omega arith
 
 -- paths of k edges, each of cost d at most
-pub ahead-at-most : {E P : Type 0} {G : Graph E P} (Q : Prices G) (b d : ℕ) → ((t : ℕ) (e : E) → Q .cost t e ≤ d) → ((t v : ℕ) → AtMost b (ahead Q zero t v))
+pub ahead-at-most : {E P : Type 0} {G : Graph E P} (Q : Prices G) (b d : ℕ) → ((t : ℕ) (e : E) → Q .cost t e ≤ d)
+    → ((t v : ℕ) → AtMost b (ahead Q zero t v))
     → (k t v : ℕ) → AtMost (k * d + b) (ahead Q k t v)
 unfolding ahead
 ahead-at-most {E} {P} {G} Q b d h z zero t v c p e = let l = z t v c p e in omega arith
 ahead-at-most {E} {P} {G} Q b d h z (suc k) t v c p e =
     let C = all-chosen (λ x. extend (Q .cost t x) (G .onto x) (ahead Q k (suc t) (G .to x))) (G .out t v) e in
     let x = C .member in
-    let l = extend-at-most (Q .cost t x) (k * d + b) (G .onto x) (ahead Q k (suc t) (G .to x)) (ahead-at-most Q b d h z k (suc t) (G .to x)) c p (C .offers) in
+    let l = extend-at-most (Q .cost t x) (k * d + b) (G .onto x) (ahead Q k (suc t) (G .to x))
+    (ahead-at-most Q b d h z k (suc t) (G .to x)) c p (C .offers) in
     omega (arith, h t x, suc-mul k d)

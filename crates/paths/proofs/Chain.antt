@@ -1,19 +1,28 @@
--- Chains: the numbers `chainLeast` are the cost table, and where there is a path they name the first one of least distance, block by block from the
--- first. This is the law of graphs, read for a chain: its edges are words, its vertices states.
-use mathlib.Core.Path.{_≡_, refl, sym, ap, _∙_}
+-- Chains: the numbers `chainLeast` are the cost table, and where there is a path they name the first one of least distance, block by block
+-- from the first. This is the law of graphs, read for a chain: its edges are words, its vertices states.
+use mathlib.Core.Path.{_≡_, refl, sym, ap, ap₂, _∙_}
 use mathlib.Core.Bool.{Bool, true, false, cond}
-use mathlib.Core.List.{List, [], _∷_}
+use mathlib.Core.List.{List, [], _∷_, map, flatMap}
 use Prim.Native.Nat.{ℕ, zero, suc, _+_, _*_, _≤_, _<_}
 use native.Mathlib.Omega.{arith}
 use Rattle.trellis.specs.Word.{Word}
-use Rattle.paths.specs.Choice.{Choice, none, some, choose, extend, chooseAll, best}
-use Rattle.paths.specs.inner.Graph.{paths}
-use Rattle.paths.specs.inner.Costs.{capped}
-use Rattle.paths.specs.Chain.{chainGraph, chainPaths, pathDistance, bestPath, costTable, atEnd, chainLeast, chainTrace}
-use Rattle.paths.proofs.First.{best-none}
-use Rattle.paths.proofs.Walk.{Prices, ahead, ahead-best}
-use Rattle.paths.proofs.Capped.{least-ahead, capped-had, capped-is, capped-none, capped-le, AtMost, ahead-at-most}
-use Rattle.paths.proofs.Trace.{trace-best, onward}
+use Rattle.paths.specs.Choice.{Choice, none, some, choose, best}
+use Rattle.paths.specs.Chain.{unreached, rootedAt, chainPaths, pathDistance, bestPath, costTable}
+use Rattle.paths.specs.inner.Chains.{chainGraph, atEnd, chainLeast, chainTrace}
+use Rattle.paths.proofs.Choose.{extend, chooseAll, best-all}
+use Rattle.paths.proofs.First.{all-chosen, best-none}
+use Rattle.paths.proofs.Walk.{paths, Prices, ahead, ahead-best}
+use Rattle.paths.proofs.Capped.{capped, least-ahead, capped-had, capped-is, capped-paid, capped-none, capped-le, AtMost}
+use Rattle.paths.proofs.Capped.{ahead-at-most}
+use Rattle.paths.proofs.Trace.{Extended, extended, trace-best}
+
+-- the chain's paths are those of its graph
+pub chain-paths : (words : ℕ → List Word) (ends : ℕ → Bool) (k b s : ℕ) → chainPaths words ends k b s ≡ paths (chainGraph words ends) k b s
+unfolding chainPaths paths
+chain-paths words ends zero b s = refl
+chain-paths words ends (suc k) b s =
+    ap (λ (f : ℕ → List (List Word)). flatMap (λ w. map (λ ws. w ∷ ws) (f (w .goal))) (rootedAt s (words b)))
+    (λ i u. chain-paths words ends k (suc b) u i)
 
 unfoldable chainPrices : (words : ℕ → List Word) (ends : ℕ → Bool) → (ℕ → Word → ℕ) → Prices (chainGraph words ends)
 unfolding pathDistance extend
@@ -21,17 +30,52 @@ chainPrices words ends dist = record { cost = dist; offer = λ b ws. some (pathD
 
 module _ (words : ℕ → List Word) (ends : ℕ → Bool) (dist : ℕ → Word → ℕ) where
   ahead-is : (k b s : ℕ) → ahead (chainPrices words ends dist) k b s ≡ bestPath words ends dist k b s
-  unfolding chainPrices bestPath chainPaths best
-  ahead-is k b s = ahead-best (chainPrices words ends dist) k b s
+  unfolding chainPrices bestPath
+  ahead-is k b s =
+      ahead-best (chainPrices words ends dist) k b s
+      ∙ ap (chooseAll (λ ws. some (pathDistance dist b ws) ws)) (sym (chain-paths words ends k b s))
+      ∙ sym (best-all (pathDistance dist b) (chainPaths words ends k b s))
 
   -- no block left
   pub best-end : (b s : ℕ) → bestPath words ends dist zero b s ≡ cond (ends s) (some 0 []) none
-  unfolding bestPath chainPaths paths best chooseAll choose pathDistance
+  unfolding bestPath chainPaths best choose pathDistance
   best-end b s = go (ends s)
     where
-      go : (t : Bool) → chooseAll (λ ws. some (pathDistance dist b ws) ws) (cond t ([] ∷ []) []) ≡ cond t (some 0 []) none
+      go : (t : Bool) → best (pathDistance dist b) (cond t ([] ∷ []) []) ≡ cond t (some 0 []) none
       go true = refl
       go false = refl
+
+  -- the best path behind the first word of the best path
+  pub record Behind (k b c : ℕ) (w : Word) (ws : List Word) : Type 0 where
+    pub rest : ℕ
+    pub best-is : bestPath words ends dist k (suc b) (w .goal) ≡ some rest ws
+    pub adds-up : c ≡ dist b w + rest
+
+  behind-by : (k b : ℕ) {c : ℕ} {w : Word} {ws : List Word} (v : Word)
+      → Extended (dist b v) (λ vs. v ∷ vs) (bestPath words ends dist k (suc b) (v .goal)) c (w ∷ ws) → Behind k b c w ws
+  behind-by k b {c} {w} {ws} v X =
+      let p = X .path-is in
+      let i : w ≡ v = cc in
+      let j : ws ≡ X .path = cc in
+      record {
+        rest = X .cost;
+        best-is = ap (λ x. bestPath words ends dist k (suc b) (x .goal)) i ∙ X .had ∙ ap (some (X .cost)) (sym j);
+        adds-up = X .cost-is ∙ ap (λ x. dist b x + X .cost) (sym i);
+      }
+
+  pub behind : (k b s : ℕ) {c : ℕ} {w : Word} {ws : List Word} → bestPath words ends dist (suc k) b s ≡ some c (w ∷ ws) → Behind k b c w ws
+  unfolding chainPrices ahead
+  behind k b s e =
+      let C = all-chosen (λ v. extend (dist b v) (λ vs. v ∷ vs) (ahead (chainPrices words ends dist) k (suc b) (v .goal)))
+      (rootedAt s (words b))
+      (ahead-is (suc k) b s ∙ e) in
+      behind-by k b (C .member)
+      (extended _ _ _ (ap (extend (dist b (C .member)) (λ vs. C .member ∷ vs)) (sym (ahead-is k (suc b) (C .member .goal))) ∙ C .offers))
+
+  -- and there is none
+  pub none-listed : (k b s : ℕ) → bestPath words ends dist k b s ≡ none → chainPaths words ends k b s ≡ []
+  unfolding bestPath
+  none-listed k b s e = best-none (pathDistance dist b) (chainPaths words ends k b s) e
 
   module _ (top : ℕ) where
     ends-at : (b s : ℕ) → atEnd top ends s ≡ capped top (ahead (chainPrices words ends dist) zero b s)
@@ -49,51 +93,43 @@ module _ (words : ℕ → List Word) (ends : ℕ → Bool) (dist : ℕ → Word 
         go true h = cc
         go false h = let z : _≡_ {A = ℕ} 0 1 = cc in absurd (omega arith)
 
-    -- the cost table follows backward, block by block
-    pub cost-table : (k b s : ℕ) → costTable words ends dist top k b s ≡ chainLeast words ends dist top k b s
-    unfolding costTable chainLeast chainPrices
-    cost-table k b s = sym (least-ahead top (chainPrices words ends dist) (atEnd top ends) ends-at k b s ∙ ap (capped top) (ahead-is k b s))
+    -- the numbers follow backward, block by block
+    least-best : (k b s : ℕ) → chainLeast words ends dist top k b s ≡ capped top (bestPath words ends dist k b s)
+    unfolding chainLeast chainPrices
+    least-best k b s = least-ahead top (chainPrices words ends dist) (atEnd top ends) ends-at k b s ∙ ap (capped top) (ahead-is k b s)
 
-    pub table-le : (k b s : ℕ) → costTable words ends dist top k b s ≤ top
-    unfolding costTable
-    table-le k b s = capped-le top (bestPath words ends dist k b s)
+    pub least-le : (k b s : ℕ) → chainLeast words ends dist top k b s ≤ top
+    least-le k b s = let e = least-best k b s in let h = capped-le top (bestPath words ends dist k b s) in omega arith
 
-    -- and names the first path of least distance
-    pub best-traced : (k b s : ℕ) → costTable words ends dist top k b s < top
-        → bestPath words ends dist k b s ≡ some (costTable words ends dist top k b s) (chainTrace words ends dist top k b s)
-    unfolding costTable chainTrace chainPrices
+    -- and name the first path of least distance
+    pub best-traced : (k b s : ℕ) → chainLeast words ends dist top k b s < top
+        → bestPath words ends dist k b s ≡ some (chainLeast words ends dist top k b s) (chainTrace words ends dist top k b s)
+    unfolding chainTrace chainPrices
     best-traced k b s h =
-        let H = capped-had top (bestPath words ends dist k b s) h in
-        H .is ∙ ap (some (capped top (bestPath words ends dist k b s)))
-        (sym (trace-best (chainPrices words ends dist) top (atEnd top ends) ends-at (λ v. []) ended-by k b s (ahead-is k b s ∙ H .is) h))
+        let e = least-best k b s in
+        let H = capped-had top (bestPath words ends dist k b s) (omega arith) in
+        let t
+        = trace-best (chainPrices words ends dist) top (atEnd top ends) ends-at (λ v. []) ended-by k b s (ahead-is k b s ∙ H .is)
+        (omega arith) in
+        H .is ∙ ap₂ some (sym e) (sym t)
 
-    -- the best path behind the first word of the best path, whose distance is what the table drops by
-    pub record Drops (k b s : ℕ) (w : Word) (ws : List Word) : Type 0 where
-      pub rest : ℕ
-      pub behind : bestPath words ends dist k (suc b) (w .goal) ≡ some rest ws
-      pub drop : costTable words ends dist top (suc k) b s ≡ dist b w + costTable words ends dist top k (suc b) (w .goal)
+    -- by whose first word they drop
+    pub least-drops : (k b s : ℕ) {w : Word} {ws : List Word} → chainLeast words ends dist top (suc k) b s < top
+        → chainTrace words ends dist top (suc k) b s ≡ w ∷ ws
+        → chainLeast words ends dist top (suc k) b s ≡ dist b w + chainLeast words ends dist top k (suc b) (w .goal)
+    least-drops k b s {w} {ws} h e =
+        let B = behind k b s (best-traced (suc k) b s h ∙ ap (some (chainLeast words ends dist top (suc k) b s)) e) in
+        let a = B .adds-up in
+        let r = least-best k (suc b) (w .goal) ∙ capped-is top (bestPath words ends dist k (suc b) (w .goal)) (B .best-is) (omega arith) in
+        omega arith
 
-    pub drops : (k b s : ℕ) {c : ℕ} {w : Word} {ws : List Word} → bestPath words ends dist (suc k) b s ≡ some c (w ∷ ws) → c < top → Drops k b s w ws
-    unfolding costTable chainPrices
-    drops k b s {c} {w} {ws} e h =
-        let O = onward (chainPrices words ends dist) top (atEnd top ends) ends-at k b s (ahead-is (suc k) b s ∙ e) h in
-        let X = O .behind in
-        let p : w ∷ ws ≡ O .edge ∷ X .path = X .path-is in
-        let i : w ≡ O .edge = cc in
-        let j : ws ≡ X .path = cc in
-        let f : bestPath words ends dist k (suc b) (w .goal) ≡ some (X .cost) ws
-        = ap (λ x. bestPath words ends dist k (suc b) (x .goal)) i ∙ sym (ahead-is k (suc b) (O .edge .goal)) ∙ X .had ∙ ap (some (X .cost)) (sym j) in
-        let a = capped-is top (bestPath words ends dist (suc k) b s) e h in
-        let l = X .cost-is in
-        let m = ap (dist b) i in
-        let r = capped-is top (bestPath words ends dist k (suc b) (w .goal)) f (omega arith) in
-        record { rest = X .cost; behind = f; drop = omega arith }
+  -- ---- where no distance of a word is above d
 
-    -- `top` says that there is no path, where no distance can reach it
-    pub no-path : (d : ℕ) → ((b : ℕ) (w : Word) → dist b w ≤ d) → (k b s : ℕ) → k * d < top → costTable words ends dist top k b s ≡ top
-        → bestPath words ends dist k b s ≡ none
-    unfolding costTable chainPrices
-    no-path d h k b s l e = capped-none top (k * d + 0) (bestPath words ends dist k b s) within (omega arith) e
+  module _ (d : ℕ) (few : (b : ℕ) (w : Word) → dist b w ≤ d) where
+    at-most : (k b s : ℕ) → AtMost (k * d) (bestPath words ends dist k b s)
+    unfolding chainPrices
+    at-most k b s c ws o =
+        let h = ahead-at-most (chainPrices words ends dist) 0 d few none-left k b s c ws (ahead-is k b s ∙ o) in omega arith
       where
         none-left : (t v : ℕ) → AtMost 0 (ahead (chainPrices words ends dist) zero t v)
         none-left t v c ws o = go (ends v) (sym (ahead-is zero t v ∙ best-end t v) ∙ o)
@@ -102,10 +138,14 @@ module _ (words : ℕ → List Word) (ends : ℕ → Bool) (dist : ℕ → Word 
             go true i = let z : 0 ≡ c = cc in omega arith
             go false i = let z : _≡_ {A = ℕ} 0 1 = cc in absurd (omega arith)
 
-        within : AtMost (k * d + 0) (bestPath words ends dist k b s)
-        within c ws o = ahead-at-most (chainPrices words ends dist) 0 d h none-left k b s c ws (ahead-is k b s ∙ o)
+    -- the numbers are the cost table
+    pub cost-table : (k b s : ℕ) → k * d < unreached → costTable words ends dist k b s ≡ chainLeast words ends dist unreached k b s
+    unfolding costTable
+    cost-table k b s l =
+        capped-paid unreached (k * d) (bestPath words ends dist k b s) (at-most k b s) l ∙ sym (least-best unreached k b s)
 
-    -- and there is none
-    pub none-listed : (k b s : ℕ) → bestPath words ends dist k b s ≡ none → chainPaths words ends k b s ≡ []
-    unfolding bestPath
-    none-listed k b s e = best-none (pathDistance dist b) (chainPaths words ends k b s) e
+    -- and `unreached` says that there is no path
+    pub no-path : (k b s : ℕ) → k * d < unreached → costTable words ends dist k b s ≡ unreached → bestPath words ends dist k b s ≡ none
+    no-path k b s l e =
+        capped-none unreached (k * d) (bestPath words ends dist k b s) (at-most k b s) l
+        (sym (cost-table k b s l ∙ least-best unreached k b s) ∙ e)

@@ -8,7 +8,17 @@ use native.Mathlib.Nat.{add-assoc}
 use native.Mathlib.Omega.{arith}
 use native.Mathlib.Decide.{decLe}
 use borrow.Author.Tests.{le-leb, lt-leb}
-use Rattle.paths.specs.Choice.{Choice, none, some, choose, extend, chooseAll, best}
+use Rattle.paths.specs.Choice.{Choice, none, some, choose, best}
+
+-- d more to pay, for f of what is had
+unfoldable pub extend : {P Q : Type 0} → ℕ → (P → Q) → Choice P → Choice Q
+extend d f none = none
+extend d f (some c p) = some (d + c) (f p)
+
+-- the first of least cost among what the members of a list offer
+unfoldable pub chooseAll : {A P : Type 0} → (A → Choice P) → List A → Choice P
+chooseAll f [] = none
+chooseAll f (x ∷ xs) = choose (f x) (chooseAll f xs)
 
 -- ---- two offers
 module _ {P : Type 0} where
@@ -52,7 +62,8 @@ module _ {P Q : Type 0} (d : ℕ) (f : P → Q) where
       go (yes h) = rw (choose-left p q h) (sym (choose-left (f p) (f q) (omega arith)))
       go (no h) = let l : v < u = omega arith in rw (choose-right p q l) (sym (choose-right (f p) (f q) (omega arith)))
 
-pub extend-extend : {P Q R : Type 0} (d e : ℕ) (f : P → Q) (g : Q → R) (a : Choice P) → extend e g (extend d f a) ≡ extend (e + d) (λ p. g (f p)) a
+pub extend-extend : {P Q R : Type 0} (d e : ℕ) (f : P → Q) (g : Q → R) (a : Choice P)
+    → extend e g (extend d f a) ≡ extend (e + d) (λ p. g (f p)) a
 unfolding extend
 extend-extend d e f g none = refl
 extend-extend d e f g (some c p) = ap (λ n. some n (g (f p))) (sym (add-assoc e d c))
@@ -85,8 +96,8 @@ unfolding chooseAll
 all-same h [] = refl
 all-same h (x ∷ xs) = ap₂ choose (h x) (all-same h xs)
 
--- ---- best
-module _ {P : Type 0} (cost : P → ℕ) where
-  pub best-append : (xs ys : List P) → best cost (xs ++ ys) ≡ choose (best cost xs) (best cost ys)
-  unfolding best
-  best-append = all-append _
+-- where each member offers itself
+pub best-all : {P : Type 0} (cost : P → ℕ) (xs : List P) → best cost xs ≡ chooseAll (λ p. some (cost p) p) xs
+unfolding best chooseAll
+best-all cost [] = refl
+best-all cost (x ∷ xs) = ap (choose (some (cost x) x)) (best-all cost xs)

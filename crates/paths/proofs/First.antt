@@ -1,14 +1,15 @@
--- What it means to be chosen: a member of the list, none cheaper, and each one before it dearer. By induction along the list: the head is kept
--- exactly if nothing behind it is cheaper.
+-- What it means to be chosen: a member of the list, none cheaper, and each one before it dearer. By induction along the list: the head
+-- is kept exactly if nothing behind it is cheaper.
 use mathlib.Core.Path.{_≡_, refl, sym, ap, subst, _∙_}
 use mathlib.Core.Logic.{⊎-elim}
-use mathlib.Core.List.{List, [], _∷_, _++_, List·Memᴰ, List·Memᴰ·head, List·Memᴰ·not-nil, List·Memᴰ·cases-cons, List·Memᴰ·append-cases, Memᴰ·append-right}
+use mathlib.Core.List.{List, [], _∷_, _++_, List·Memᴰ, List·Memᴰ·head, List·Memᴰ·not-nil, List·Memᴰ·cases-cons, List·Memᴰ·append-cases}
+use mathlib.Core.List.{Memᴰ·append-right}
 use Prim.Native.Nat.{ℕ, _≤_, _<_}
 use native.Mathlib.Omega.{arith}
 use native.Mathlib.Decide.{decLe}
 use Rattle.trellis.specs.Lists.{_∈_}
-use Rattle.paths.specs.Choice.{Choice, none, some, choose, chooseAll, best}
-use Rattle.paths.proofs.Choose.{choose-left, choose-right}
+use Rattle.paths.specs.Choice.{Choice, none, some, choose, best}
+use Rattle.paths.proofs.Choose.{choose-left, choose-right, chooseAll, best-all}
 
 none-some : {P : Type 0} {c : ℕ} {p : P} (a : Choice P) → a ≡ none → a ≡ some c p → ⊥
 none-some a e h = let z : _≡_ {A = ℕ} 0 1 = cc in omega arith
@@ -22,17 +23,6 @@ both-none (some c p) (some d q) e = absurd (go (decLe c d))
     go : Dec (c ≤ d) → ⊥
     go (yes h) = none-some (choose (some c p) (some d q)) e (choose-left p q h)
     go (no h) = let l : d < c = omega arith in none-some (choose (some c p) (some d q)) e (choose-right p q l)
-
--- a dearer one in front of it and one behind it that is not cheaper change nothing
-choose-over : {P : Type 0} {c : ℕ} (p : P) (a : Choice P) → ((d : ℕ) (q : P) → a ≡ some d q → c < d) → choose a (some c p) ≡ some c p
-unfolding choose
-choose-over p none h = refl
-choose-over p (some d q) h = choose-right q p (h d q refl)
-
-choose-under : {P : Type 0} {c : ℕ} (p : P) (b : Choice P) → ((d : ℕ) (q : P) → b ≡ some d q → c ≤ d) → choose (some c p) b ≡ some c p
-unfolding choose
-choose-under p none h = refl
-choose-under p (some d q) h = choose-left p q (h d q refl)
 
 -- the offer (c, p) is that of the first cheapest member of xs
 pub record Chosen {A P : Type 0} (f : A → Choice P) (xs : List A) (c : ℕ) (p : P) : Type 0 where
@@ -48,7 +38,9 @@ module _ {A P : Type 0} (f : A → Choice P) where
   pub all-none : (xs : List A) → chooseAll f xs ≡ none → (y : A) → y ∈ xs → f y ≡ none
   unfolding chooseAll
   all-none [] e y m = absurd (List·Memᴰ·not-nil m)
-  all-none (x ∷ xs) e y m = let n = both-none (f x) (chooseAll f xs) e in ⊎-elim (λ k. ap f k ∙ n .0) (all-none xs (n .1) y) (List·Memᴰ·cases-cons m)
+  all-none (x ∷ xs) e y m =
+      let n = both-none (f x) (chooseAll f xs) e in
+      ⊎-elim (λ k. ap f k ∙ n .0) (all-none xs (n .1) y) (List·Memᴰ·cases-cons m)
 
   pub chosen-in : {xs : List A} {c : ℕ} {p : P} (C : Chosen f xs c p) → List·Memᴰ (C .member) xs
   chosen-in C = subst (List·Memᴰ (C .member)) (sym (C .split)) (Memᴰ·append-right (C .front) (List·Memᴰ·head refl))
@@ -56,7 +48,8 @@ module _ {A P : Type 0} (f : A → Choice P) where
   -- none of the members is cheaper
   pub chosen-least : {xs : List A} {c : ℕ} {p : P} → Chosen f xs c p → (y : A) → y ∈ xs → (d : ℕ) (q : P) → f y ≡ some d q → c ≤ d
   chosen-least {xs} {c} {p} C y m d q e =
-      ⊎-elim inFront (λ k. ⊎-elim itself inBack (List·Memᴰ·cases-cons k)) (List·Memᴰ·append-cases (C .front) (subst (List·Memᴰ y) (C .split) m))
+      ⊎-elim inFront (λ k. ⊎-elim itself inBack (List·Memᴰ·cases-cons k))
+      (List·Memᴰ·append-cases (C .front) (subst (List·Memᴰ y) (C .split) m))
     where
       inFront : List·Memᴰ y (C .front) → c ≤ d
       inFront k = let h = C .dearer y k d q e in omega arith
@@ -69,7 +62,15 @@ module _ {A P : Type 0} (f : A → Choice P) where
 
   module _ (x : A) (xs : List A) where
     here-chosen : {c : ℕ} {p : P} → f x ≡ some c p → ((y : A) → y ∈ xs → (d : ℕ) (q : P) → f y ≡ some d q → c ≤ d) → Chosen f (x ∷ xs) c p
-    here-chosen o n = record { member = x; front = []; back = xs; split = refl; offers = o; dearer = λ y m d q e. absurd (List·Memᴰ·not-nil m); noCheaper = n }
+    here-chosen o n = record {
+      member = x;
+      front = [];
+      back = xs;
+      split = refl;
+      offers = o;
+      dearer = λ y m d q e. absurd (List·Memᴰ·not-nil m);
+      noCheaper = n;
+    }
 
     later-chosen : {c : ℕ} {p : P} → ((d : ℕ) (q : P) → f x ≡ some d q → c < d) → Chosen f xs c p → Chosen f (x ∷ xs) c p
     later-chosen n C = record {
@@ -82,7 +83,8 @@ module _ {A P : Type 0} (f : A → Choice P) where
       noCheaper = C .noCheaper;
     }
 
-    cons-chosen : (a b : Choice P) → f x ≡ a → chooseAll f xs ≡ b → ((c : ℕ) (p : P) → b ≡ some c p → Chosen f xs c p) → {c : ℕ} {p : P} → choose a b ≡ some c p
+    cons-chosen : (a b : Choice P) → f x ≡ a → chooseAll f xs ≡ b → ((c : ℕ) (p : P) → b ≡ some c p → Chosen f xs c p) → {c : ℕ} {p : P}
+        → choose a b ≡ some c p
         → Chosen f (x ∷ xs) c p
     unfolding choose
     cons-chosen none b o r ih {c} {p} e = later-chosen (λ d q k. absurd (none-some (f x) o k)) (ih c p e)
@@ -116,9 +118,8 @@ pub record First {P : Type 0} (cost : P → ℕ) (xs : List P) (c : ℕ) (p : P)
 
 module _ {P : Type 0} (cost : P → ℕ) where
   pub best-first : (xs : List P) {c : ℕ} {p : P} → best cost xs ≡ some c p → First cost xs c p
-  unfolding best
   best-first xs {c} {p} e =
-      let C = all-chosen (λ q. some (cost q) q) xs e in
+      let C = all-chosen (λ q. some (cost q) q) xs (sym (best-all cost xs) ∙ e) in
       let o = C .offers in
       let m : C .member ≡ p = cc in
       record {
@@ -133,7 +134,7 @@ module _ {P : Type 0} (cost : P → ℕ) where
   pub best-none : (xs : List P) → best cost xs ≡ none → xs ≡ []
   unfolding best
   best-none [] e = refl
-  best-none (x ∷ xs) e = absurd (none-some (some (cost x) x) (all-none (λ q. some (cost q) q) (x ∷ xs) e x (List·Memᴰ·head refl)) refl)
+  best-none (x ∷ xs) e = absurd (none-some (some (cost x) x) (both-none (some (cost x) x) (best cost xs) e .0) refl)
 
   pub first-in : {xs : List P} {c : ℕ} {p : P} → First cost xs c p → p ∈ xs
   first-in {xs} {c} {p} F = subst (List·Memᴰ p) (sym (F .split)) (Memᴰ·append-right (F .front) (List·Memᴰ·head refl))

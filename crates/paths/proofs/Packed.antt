@@ -7,7 +7,7 @@ use native.Mathlib.Omega.{arith}
 use Rattle.trellis.specs.Lists.{sum}
 use Rattle.trellis.specs.Label.{symbol}
 use Rattle.trellis.specs.Section.{packOnto}
-use Rattle.paths.specs.inner.Sections.{costFrom}
+use Rattle.paths.proofs.Sections.{costFrom}
 use Rattle.paths.proofs.Ascent.{Symbols, no-more, one-more}
 
 -- what the symbols were put behind

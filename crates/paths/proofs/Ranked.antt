@@ -1,7 +1,8 @@
--- One number for a distance and a word. Label and goal together stay below 4294967296, so the number divided by it is the distance, and a smaller
--- distance always gives a smaller number. Symbol by symbol the costs add up to the distance, and the symbols, each at its place, to the label; what is
--- added behind the block brings the goal. So the least number over the words of a root has the least distance; among the words of that distance it
--- belongs to the one with the least label and goal, and as the words ascend, that is the first of them: the word that the distances name.
+-- One number for a distance and a word. Label and goal together stay below 4294967296, so the number divided by it is the distance, and
+-- a smaller distance always gives a smaller number. Symbol by symbol the costs add up to the distance, and the symbols, each at its
+-- place, to the label; what is added behind the block brings the goal. So the least number over the words of a root has the least
+-- distance; among the words of that distance it belongs to the one with the least label and goal, and as the words ascend, that is the
+-- first of them: the word that the distances name.
 use mathlib.Core.Path.{_≡_, refl, sym, ap, subst, _∙_}
 use mathlib.Core.Bool.{Bool, true, false, cond}
 use mathlib.Core.Logic.{⊎-elim}
@@ -18,12 +19,13 @@ use Rattle.trellis.specs.Lists.{_∈_, byFirst, bySecond, byThird}
 use Rattle.trellis.specs.Word.{Word, Before}
 use Rattle.trellis.specs.Own.{Edge}
 use Rattle.trellis.specs.Section.{Path, leaving, pathsFrom, packOnto, wordOf, wordsOf}
-use Rattle.paths.specs.inner.Costs.{plus, minAll, least, firstWith}
-use Rattle.paths.specs.inner.Sections.{costFrom, sectionLeast, sectionTrace}
-use Rattle.paths.specs.inner.Ranked.{ranked, topRank, rankedCost, rankedRest}
 use Rattle.paths.specs.Chain.{rootedAt}
-use Rattle.paths.proofs.Ordered.{ordered-keep, ordered-as}
+use Rattle.paths.specs.inner.Costs.{plus, minAll, least, firstWith}
+use Rattle.paths.specs.inner.Sections.{sectionLeast}
+use Rattle.paths.specs.inner.Ranked.{ranked, topRank, rankedCost, rankedRest}
 use Rattle.paths.specs.inner.Ordered.{Ordered, leads, ended}
+use Rattle.paths.proofs.Sections.{costFrom, sectionTrace}
+use Rattle.paths.proofs.Ordered.{ordered-keep, ordered-as}
 use Rattle.paths.proofs.Ascent.{Symbols, no-more, one-more, Bounded}
 use Rattle.paths.proofs.Capped.{min-same}
 use Rattle.paths.proofs.Trace.{of-first}
@@ -149,7 +151,8 @@ plus-capped top d x = omega arith
 least-capped : (edges : ℕ → List Edge) (cost : ℕ → ℕ → ℕ) (top : ℕ) (number : ℕ → ℕ) (k t v : ℕ)
     → sectionLeast edges cost top number (suc k) t v ≡ sectionLeast edges cost top (λ g. min top (number g)) (suc k) t v
 unfolding sectionLeast least
-least-capped edges cost top number zero t v = min-same top (λ e. plus-capped top (cost t (e .symbol)) (number (e .to))) (leaving v (edges t))
+least-capped edges cost top number zero t v =
+    min-same top (λ e. plus-capped top (cost t (e .symbol)) (number (e .to))) (leaving v (edges t))
 least-capped edges cost top number (suc k) t v =
     min-same top (λ e. ap (plus top (cost t (e .symbol))) (least-capped edges cost top number k (suc t) (e .to))) (leaving v (edges t))
 
@@ -172,11 +175,14 @@ pub record Reads (rank d label goal : ℕ) : Type 0 where
   pub label-lt : label < 65536
   pub goal-lt : goal < mostStates
 
-reads : {rank : ℕ} (d label goal : ℕ) → rank ≡ d * 4294967296 + (label * 65536 + goal) → label < 65536 → goal < mostStates → Reads rank d label goal
+reads : {rank : ℕ} (d label goal : ℕ) → rank ≡ d * 4294967296 + (label * 65536 + goal) → label < 65536 → goal < mostStates
+    → Reads rank d label goal
 unfolding ranked
 reads d label goal e l g = record { is = e; below = omega arith; label-is = omega arith; goal-is = omega arith; label-lt = l; goal-lt = g }
 
-module _ {words : ℕ → List Word} {dist : ℕ → Word → ℕ} {b : ℕ} {edges : ℕ → List Edge} {n goals : ℕ} {roots : List ℕ} {rootOf goalOf : ℕ → ℕ} {cost : ℕ → ℕ → ℕ} (U : Uses words dist b edges n roots rootOf goalOf cost) (R : Rankable edges n goals roots rootOf goalOf) (rest : ℕ → ℕ) (bound : (s : ℕ) → rest s ≤ 4294967295) where
+module _ {words : ℕ → List Word} {dist : ℕ → Word → ℕ} {b : ℕ} {edges : ℕ → List Edge} {n goals : ℕ} {roots : List ℕ}
+    {rootOf goalOf : ℕ → ℕ} {cost : ℕ → ℕ → ℕ} (U : Uses words dist b edges n roots rootOf goalOf cost)
+    (R : Rankable edges n goals roots rootOf goalOf) (rest : ℕ → ℕ) (bound : (s : ℕ) → rest s ≤ 4294967295) where
   abbrev spell : ℕ → Path → Word
   spell v p = wordOf rootOf goalOf v p
 
@@ -217,7 +223,8 @@ module _ {words : ℕ → List Word} {dist : ℕ → Word → ℕ} {b : ℕ} {ed
       let x = Memᴰ·of-map (spell v) (pathsFrom edges n 0 v) m in
       let P = whole-fits edges n goals (R .fits) (R .some) v (x .0) (x .1) in
       let h : 4 ^ n ≤ 4 ^ 8 = pow-le-pow-right (lit< tt) (R .short) in
-      subst (Mine v) (x .2) (record { root-is = refl; label-lt = lt-of-lt-of-le (pack-fits (P .symbols-fit)) h; goal-lt = R .small (x .0 .end) (P .end-fits) })
+      subst (Mine v) (x .2)
+      (record { root-is = refl; label-lt = lt-of-lt-of-le (pack-fits (P .symbols-fit)) h; goal-lt = R .small (x .0 .end) (P .end-fits) })
 
   abbrev onWord : Word → ℕ
   onWord w = plus 4294967295 (dist b w) (rest (w .goal))
@@ -239,7 +246,8 @@ module _ {words : ℕ → List Word} {dist : ℕ → Word → ℕ} {b : ℕ} {ed
   unfolding rootedAt
   mine-ascend v m =
       ordered-as (λ x y j k. rises x y (mine-is v x j) (mine-is v y k))
-      (subst (Ordered Before) (rooted-words edges n rootOf goalOf roots (U .roots-ascend) v m) (ordered-keep (λ w. eqb (w .root) (rootOf v)) (R .ordered)))
+      (subst (Ordered Before) (rooted-words edges n rootOf goalOf roots (U .roots-ascend) v m)
+      (ordered-keep (λ w. eqb (w .root) (rootOf v)) (R .ordered)))
     where
       rises : (x y : Word) → Mine v x → Mine v y → Before x y → key x < key y
       rises x y X Y (byFirst p) = let i = X .root-is in let j = Y .root-is in absurd (omega arith)

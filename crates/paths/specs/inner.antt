@@ -2,5 +2,6 @@
 pub mod Graph
 pub mod Costs
 pub mod Sections
+pub mod Chains
 pub mod Ranked
 pub mod Ordered

@@ -1,7 +1,7 @@
 -- `chain::block_bad` tests the index, and then what was received against the section that stands where the index says.
+use borrow.Author.Needs.{needs}
 use Rattle.chain.proofs.Starts.{taken-at}
 use Rattle.chain.proofs.Checks.{block-index, block-fits}
-use borrow.Author.Needs.{needs}
 use Rattle.chain.proofs.block_bad.Statement.{statement}
 use Rattle.chain.proofs.block_bad.Tie as tie
 

@@ -1,11 +1,11 @@
--- `chain::decode` meets its contract: it makes the definition's tests of the sections in the definition's order, and behind them what is left is what the
--- definition has there.
+-- `chain::decode` meets its contract: it makes the definition's tests of the sections in the definition's order, and behind
+-- them what is left is what the definition has there.
 use mathlib.Core.Path.{refl}
+use borrow.Author.Needs.{needs}
 use Rattle.trellis.specs.Bounds.{mostSections}
 use Rattle.chain.proofs.Bounds.{within-to}
 use Rattle.chain.proofs.Starts.{many-sections, unusable-section, left-over, sections-good}
 use Rattle.chain.proofs.Faults.{ends-section, past-sections}
-use borrow.Author.Needs.{needs}
 use Rattle.chain.proofs.decode.Statement.{statement}
 use Rattle.chain.proofs.decode.Tie as tie
 
@@ -13,7 +13,7 @@ is-within-requires : tie.Need-is-within-requires
 is-within-requires c κs = search needs
 
 returns : tie.Need-returns
-returns c = ends-section (many-sections (c .before .is-within .ensures) (c .if1 .taken))
+returns c = ends-section _ _ _ _ _ _ _ _ _ (many-sections (c .before .is-within .ensures) (c .if1 .taken))
 
 find-sections-requires : tie.Need-find-sections-requires
 find-sections-requires c κs = (within-to 1 mostSections _ (c .before .before .is-within .ensures) (c .before .if1 .left), refl)
@@ -22,7 +22,8 @@ returns-2 : tie.Need-returns-2
 returns-2 c =
     let found = c .before in
     let few = found .before .before in
-    ends-section (unusable-section (few .before .is-within .ensures) (few .if1 .left) (found .find-sections .ensures) (c .if2 .taken))
+    ends-section _ _ _ _ _ _ _ _ _
+    (unusable-section (few .before .is-within .ensures) (few .if1 .left) (found .find-sections .ensures) (c .if2 .taken))
 
 mul-if3 : tie.Need-mul-if3
 mul-if3 c =
@@ -41,7 +42,8 @@ returns-3 c =
     let usable = c .before in
     let found = usable .before in
     let few = found .before .before in
-    ends-section (left-over (few .before .is-within .ensures) (few .if1 .left) (found .find-sections .ensures) (usable .if2 .left) (c .if3 .taken))
+    ends-section _ _ _ _ _ _ _ _ _
+    (left-over (few .before .is-within .ensures) (few .if1 .left) (found .find-sections .ensures) (usable .if2 .left) (c .if3 .taken))
 
 decode-frame-requires : tie.Need-decode-frame-requires
 decode-frame-requires c κs =
@@ -49,7 +51,8 @@ decode-frame-requires c κs =
     let usable = good .before in
     let found = usable .before in
     let few = found .before .before in
-    sections-good (few .before .is-within .ensures) (few .if1 .left) (found .find-sections .ensures) (usable .if2 .left) (good .if3 .left) .found
+    sections-good (few .before .is-within .ensures) (few .if1 .left) (found .find-sections .ensures) (usable .if2 .left)
+    (good .if3 .left) .found
 
 same-length : tie.Need-same-length
 same-length c = search needs
@@ -67,8 +70,9 @@ returns-4 c =
     let usable = good .before in
     let found = usable .before in
     let few = found .before .before in
-    past-sections _ _ _
-    (sections-good (few .before .is-within .ensures) (few .if1 .left) (found .find-sections .ensures) (usable .if2 .left) (good .if3 .left))
+    past-sections _ _ _ _ _ _ _ _ _ _
+    (sections-good (few .before .is-within .ensures) (few .if1 .left) (found .find-sections .ensures) (usable .if2 .left)
+    (good .if3 .left) .good)
     (at-end .decode-frame .ensures)
 
 pub decode-spec : {M : Type 1} → statement M

@@ -1,10 +1,11 @@
--- `chain::decode_blocks` meets its contract: a short buffer is answered as in the definition. Where none is short, every check is passed, so the two passes
--- leave the definition's cost table and, where the start state's place in it is not top, its first path of least distance.
+-- `chain::decode_blocks` meets its contract: a short buffer is answered as in the definition. Where none is short,
+-- every check is passed, so the two passes leave the definition's cost table and, where the start state's place in
+-- it is not top, its first path of least distance.
+use borrow.Author.Needs.{needs}
 use Rattle.chain.proofs.Buffers.{Room, room-of}
 use Rattle.chain.proofs.Faults.{ends-short}
 use Rattle.chain.proofs.Frames.{ready}
 use Rattle.chain.proofs.Ends.{tabled, from-in, ends-none, names-ready, ends-path}
-use borrow.Author.Needs.{needs}
 use Rattle.chain.proofs.decode_blocks.Statement.{statement}
 use Rattle.chain.proofs.decode_blocks.Tie as tie
 
@@ -26,7 +27,7 @@ needed-requires : tie.Need-needed-requires
 needed-requires c κs = search needs
 
 returns : tie.Need-returns
-returns c = ends-short (c .before .needed .ensures) (c .if1 .taken)
+returns c = ends-short _ _ _ _ _ _ _ _ _ (c .before .needed .ensures) (c .if1 .taken)
 
 widened-requires : tie.Need-widened-requires
 widened-requires c κs = search needs
@@ -44,7 +45,8 @@ slice-read-if2 : tie.Need-slice-read-if2
 slice-read-if2 c =
     let filled = c .before .before .before in
     let fits = from filled .before in
-    from-in (tabled (entry (fits .before) .pre) (room fits) (from filled .widened .ensures .0) (to filled .widened2 .ensures .0) (filled .fill-table .ensures))
+    from-in (tabled (entry (fits .before) .pre) (room fits) (from filled .widened .ensures .0) (to filled .widened2 .ensures .0)
+    (filled .fill-table .ensures))
 
 same-length : tie.Need-same-length
 same-length c = search needs
@@ -53,7 +55,8 @@ returns-2 : tie.Need-returns-2
 returns-2 c =
     let filled = c .before .before .before .before in
     let fits = from filled .before in
-    ends-none (tabled (entry (fits .before) .pre) (room fits) (from filled .widened .ensures .0) (to filled .widened2 .ensures .0) (filled .fill-table .ensures))
+    ends-none (tabled (entry (fits .before) .pre) (room fits) (from filled .widened .ensures .0) (to filled .widened2 .ensures .0)
+    (filled .fill-table .ensures))
     (c .if2 .taken)
 
 name-words-requires : tie.Need-name-words-requires
@@ -61,7 +64,8 @@ name-words-requires c κs =
     let at-test = c .before .before .before in
     let filled = at-test .before .before .before .before in
     let fits = from filled .before in
-    names-ready (tabled (entry (fits .before) .pre) (room fits) (from filled .widened .ensures .0) (to filled .widened2 .ensures .0) (filled .fill-table .ensures))
+    names-ready (tabled (entry (fits .before) .pre) (room fits) (from filled .widened .ensures .0) (to filled .widened2 .ensures .0)
+    (filled .fill-table .ensures))
     (at-test .if2 .left)
 
 same-length-2 : tie.Need-same-length-2
@@ -79,7 +83,8 @@ returns-3 c =
     let at-test = at-words .before .before .before .before in
     let filled = at-test .before .before .before .before in
     let fits = from filled .before in
-    ends-path (tabled (entry (fits .before) .pre) (room fits) (from filled .widened .ensures .0) (to filled .widened2 .ensures .0) (filled .fill-table .ensures))
+    ends-path (tabled (entry (fits .before) .pre) (room fits) (from filled .widened .ensures .0) (to filled .widened2 .ensures .0)
+    (filled .fill-table .ensures))
     (at-test .if2 .left) (at-words .name-words .ensures)
 
 pub decode-blocks-spec : {M : Type 1} → statement M

@@ -1,8 +1,8 @@
--- `chain::decode_frame` meets its contract: it makes the definition's tests of the frame and of the blocks in the definition's order, and behind them what
--- is left is what the definition has there.
+-- `chain::decode_frame` meets its contract: it makes the definition's tests of the frame and of the blocks in the definition's order, and
+-- behind them what is left is what the definition has there.
+use borrow.Author.Needs.{needs}
 use Rattle.chain.proofs.Checks.{framed-of, frame-passed, checked}
 use Rattle.chain.proofs.Faults.{ends-frame, ends-block, past-frame}
-use borrow.Author.Needs.{needs}
 use Rattle.chain.proofs.decode_frame.Statement.{statement}
 use Rattle.chain.proofs.decode_frame.Tie as tie
 
@@ -13,7 +13,7 @@ frame-bad-requires : tie.Need-frame-bad-requires
 frame-bad-requires c κs = search needs
 
 returns : tie.Need-returns
-returns c = ends-frame _ (c .before .frame-bad .ensures) (c .if1 .taken)
+returns c = ends-frame _ _ _ _ _ _ _ _ _ _ (c .before .frame-bad .ensures) (c .if1 .taken)
 
 first-bad-requires : tie.Need-first-bad-requires
 first-bad-requires c κs =
@@ -25,7 +25,8 @@ returns-2 : tie.Need-returns-2
 returns-2 c =
     let at-blocks = c .before in
     let at-frame = at-blocks .before in
-    ends-block _ (at-frame .before .frame-bad .ensures) (at-frame .if1 .left) (at-blocks .first-bad .ensures) (c .if2 .taken)
+    ends-block _ _ _ _ _ _ _ _ _ _ (at-frame .before .frame-bad .ensures) (at-frame .if1 .left) (at-blocks .first-bad .ensures)
+    (c .if2 .taken)
 
 decode-blocks-requires : tie.Need-decode-blocks-requires
 decode-blocks-requires c κs =
@@ -50,9 +51,9 @@ returns-3 c =
     let good = at-end .before .before .before .before in
     let at-blocks = good .before in
     let at-frame = at-blocks .before in
-    past-frame _ _ _
+    past-frame _ _ _ _ _ _ _ _ _ _
     (frame-passed (at-frame .before .frame-bad .ensures) (at-frame .if1 .left) (at-blocks .first-bad .ensures) (good .if2 .left))
-    (at-end .decode-blocks .ensures)
+    (at-end .decode-blocks .ensures _)
 
 pub decode-frame-spec : {M : Type 1} → statement M
 decode-frame-spec =

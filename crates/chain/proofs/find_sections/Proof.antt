@@ -1,9 +1,8 @@
--- `chain::find_sections` goes from section to section. The loop's invariant: those passed are usable, and where they begin is noted. The measure is how
--- many are left.
+-- `chain::find_sections` goes from section to section. The loop's invariant: those passed are usable, and where they
+-- begin is noted. The measure is how many are left.
 use borrow.Author.Needs.{needs}
 use Prim.Native.Nat.{_-_}
-use Rattle.chain.specs.inner.Loops.{InSections}
-use Rattle.chain.proofs.Starts.{starts-start, starts-found, starts-fit, starts-more, starts-end}
+use Rattle.chain.proofs.Starts.{starts-start, starts-found, starts-fit, starts-more, starts-end, InSections}
 use Rattle.chain.proofs.find_sections.Statement.{statement}
 use Rattle.chain.proofs.find_sections.Tie as tie
 

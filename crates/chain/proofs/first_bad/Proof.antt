@@ -2,8 +2,7 @@
 use borrow.Author.Needs.{needs}
 use Prim.Native.Nat.{_-_}
 use lib.ListN.{length}
-use Rattle.chain.specs.inner.Loops.{InBlocks}
-use Rattle.chain.proofs.Checks.{blocks-start, blocks-found, blocks-more, blocks-none}
+use Rattle.chain.proofs.Checks.{blocks-start, blocks-found, blocks-more, blocks-none, InBlocks}
 use Rattle.chain.proofs.first_bad.Statement.{statement}
 use Rattle.chain.proofs.first_bad.Tie as tie
 

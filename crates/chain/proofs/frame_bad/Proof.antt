@@ -1,6 +1,6 @@
 -- `chain::frame_bad` makes the tests of the definition one after the other.
-use Rattle.chain.proofs.Checks.{frame-many, frame-received, frame-erased, frame-start, frame-end}
 use borrow.Author.Needs.{needs}
+use Rattle.chain.proofs.Checks.{frame-many, frame-received, frame-erased, frame-start, frame-end}
 use Rattle.chain.proofs.frame_bad.Statement.{statement}
 use Rattle.chain.proofs.frame_bad.Tie as tie
 

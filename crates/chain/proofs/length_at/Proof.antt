@@ -1,6 +1,6 @@
 -- `chain::length_at` is the length of the part where it is usable, and 0 where it is not.
-use Rattle.chain.proofs.Starts.{part-length}
 use borrow.Author.Needs.{needs}
+use Rattle.chain.proofs.Starts.{part-length}
 use Rattle.chain.proofs.length_at.Statement.{statement}
 use Rattle.chain.proofs.length_at.Tie as tie
 

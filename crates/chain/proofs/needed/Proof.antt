@@ -1,6 +1,6 @@
 -- `chain::needed` tests the buffers in the order of the definition.
-use Rattle.chain.proofs.Buffers.{needed-costs, needed-labels, needed-goals, needed-none}
 use borrow.Author.Needs.{needs}
+use Rattle.chain.proofs.Buffers.{needed-costs, needed-labels, needed-goals, needed-none}
 use Rattle.chain.proofs.needed.Statement.{statement}
 use Rattle.chain.proofs.needed.Tie as tie
 

@@ -1,16 +1,14 @@
--- What the loops over the sections and the blocks keep, over raw lists and numbers.
+-- What finding the sections leaves, over raw lists and numbers.
 use mathlib.Core.Path.{_≡_}
 use mathlib.Core.Bool.{true}
 use mathlib.Core.List.{List}
 use Prim.Native.Nat.{ℕ, suc, _≤_, _<_}
-use lib.Dec.{T}
 use lib.ListN.{length, getD}
 use Rattle.trellis.specs.Bounds.{mostSections}
 use Rattle.section_file.specs.Usable.{usable}
 use Rattle.section_file.specs.declared.Part.{Part}
 use Rattle.section_file.specs.declared.Part.the-variants.{Usable, Unusable}
 use Rattle.chain.specs.Sections.{sectionStart, sectionAt}
-use Rattle.chain.specs.Frame.{blockBad}
 
 -- the first i sections are usable, and the places where they and the next one begin are known
 pub record SectionsFound (sections starts : List ℕ) (i : ℕ) : Type 0 where
@@ -19,21 +17,11 @@ pub record SectionsFound (sections starts : List ℕ) (i : ℕ) : Type 0 where
   pub usable-before : (j : ℕ) → j < i → usable (sectionAt sections j) ≡ true
   pub inside : sectionStart sections i ≤ length sections
 
-pub record InSections (sections starts : List ℕ) (k i at : ℕ) : Type 0 where
-  pub i-le : i ≤ k
-  pub found : SectionsFound sections starts i
-  pub at-is : at ≡ sectionStart sections i
-
 -- section r is the first unusable one, or r is k
 pub record FirstUnusable (sections starts : List ℕ) (k r : ℕ) : Type 0 where
   pub r-le : r ≤ k
   pub found : SectionsFound sections starts r
   pub unusable-at : r < k → usable (sectionAt sections r) ≡ true → ⊥
-
--- no block before b is bad
-pub record InBlocks (sections indices received erased : List ℕ) (k b : ℕ) : Type 0 where
-  pub b-le : b ≤ length indices
-  pub none : (c : ℕ) → c < b → T (blockBad sections indices received erased k c) → ⊥
 
 -- the length of a part of the sections, 0 where it is unusable
 abbrev pub partLength : Part → ℕ

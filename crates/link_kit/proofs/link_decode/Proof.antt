@@ -25,7 +25,7 @@ same-length-3 c = search needs
 returns : tie.Need-returns
 returns c =
     let o = c .before .before in
-    decode-left (o .before .before .before .before .before .before .before .decode .ensures .0) (c .store .ensures _ (o .outcome .ensures))
+    decode-left (o .before .before .before .before .before .before .before .decode .ensures) (c .store .ensures _ (o .outcome .ensures))
 
 pub link-decode-spec : {M : Type 1} → statement M
 link-decode-spec =

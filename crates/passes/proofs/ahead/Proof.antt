@@ -1,6 +1,6 @@
 -- `passes::ahead` reads the table, or behind the last block tests the end state.
-use Rattle.passes.proofs.Goals.{ahead-in, ahead-end, ahead-off}
 use borrow.Author.Needs.{needs}
+use Rattle.passes.proofs.Goals.{ahead-in, ahead-end, ahead-off}
 use Rattle.passes.proofs.ahead.Statement.{statement}
 use Rattle.passes.proofs.ahead.Tie as tie
 

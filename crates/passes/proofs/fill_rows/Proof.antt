@@ -1,6 +1,6 @@
 -- `passes::fill_rows` writes row n and sweeps the other rows from it.
-use Rattle.passes.proofs.Goals.{rows-over}
 use borrow.Author.Needs.{needs}
+use Rattle.passes.proofs.Goals.{rows-over}
 use Rattle.passes.proofs.fill_rows.Statement.{statement}
 use Rattle.passes.proofs.fill_rows.Tie as tie
 

@@ -1,11 +1,11 @@
--- `passes::fill_table` makes the table and the picks from the last block to the first. The loop's invariant: they are right from block b on, and the rest
--- of the buffer is as it was. The measure is b.
+-- `passes::fill_table` makes the table and the picks from the last block to the first. The loop's invariant: they are right from block b
+-- on, and the rest of the buffer is as it was. The measure is b.
 use mathlib.Core.Path.{_≡_, refl}
 use Prim.Native.Nat.{_-_}
 use lib.ListN.{length}
+use borrow.Author.Needs.{needs}
 use Rattle.passes.specs.inner.Blocks.{Filled}
 use Rattle.passes.proofs.Chains.{fill-start, fill-more, fill-end, BlockAt, block-at, below-last}
-use borrow.Author.Needs.{needs}
 use Rattle.passes.proofs.fill_table.Statement.{statement}
 use Rattle.passes.proofs.fill_table.Tie as tie
 
@@ -34,7 +34,8 @@ block-here : (read : tie.After-widened Inv-loop μ-loop)
     → BlockAt (entry (turn-of read .before .before) .pre .0) (turn-of read .before .loop .b - 1) (read .widened .result)
 block-here read =
     let turn = turn-of read in
-    block-at (entry (turn .before .before) .pre .0) (below-last (turn .before .loop .inv .0) (turn .loop-test .taken)) (read .widened .ensures .0)
+    block-at (entry (turn .before .before) .pre .0) (below-last (turn .before .loop .inv .0) (turn .loop-test .taken))
+    (read .widened .ensures .0)
 
 loop-holds : tie.Need-loop-holds Inv-loop μ-loop
 loop-holds c = (fill-start (entry c .pre .0) refl, refl)
@@ -76,15 +77,24 @@ shared-slice-read-table-block : tie.Need-shared-slice-read-table-block Inv-loop 
 shared-slice-read-table-block c = search needs
 
 table-block-requires : tie.Need-table-block-requires Inv-loop μ-loop
-table-block-requires c κs = let read = read-of c in let turn = turn-of read in let I = turn .before .loop .inv .0 in let R = entry (turn .before .before) .pre .0 in
+table-block-requires c κs =
+    let read = read-of c in
+    let turn = turn-of read in
+    let I = turn .before .loop .inv .0 in
+    let R = entry (turn .before .before) .pre .0 in
     (block-here read .good, search needs, R .many, search needs, search needs, I .picked .long)
 
 loop-less : tie.Need-loop-less Inv-loop μ-loop
 loop-less c = search needs
 
 loop-again : tie.Need-loop-again Inv-loop μ-loop
-loop-again c = let done = c .before .before .table-block .ensures in let read = read-of (c .before .before .before) in let turn = turn-of read in
-    (fill-more (entry (turn .before .before) .pre .0) (turn .before .loop .inv .0) (turn .loop-test .taken) (block-here read) (done .0), done .1)
+loop-again c =
+    let done = c .before .before .table-block .ensures in
+    let read = read-of (c .before .before .before) in
+    let turn = turn-of read in (
+      fill-more (entry (turn .before .before) .pre .0) (turn .before .loop .inv .0) (turn .loop-test .taken) (block-here read) (done .0),
+      done .1,
+    )
 
 same-length : tie.Need-same-length Inv-loop μ-loop
 same-length c = c .before .loop .inv .0 .long

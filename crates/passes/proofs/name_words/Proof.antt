@@ -1,14 +1,13 @@
--- `passes::name_words` follows the picks from block to block. The loop's invariant: the words written are the beginning of the first path of least
--- distance, the sum is their distance, and from this state there is a path onward. The measure is how many blocks are left.
+-- `passes::name_words` follows the picks from block to block. The loop's invariant: the words written are the beginning of the first path
+-- of least distance, the sum is their distance, and from this state there is a path onward. The measure is how many blocks are left.
 use mathlib.Core.Path.{refl}
 use Prim.Native.Nat.{_-_}
 use native.Mathlib.Omega.{arith}
 use lib.ListN.{length}
-use Rattle.passes.specs.inner.Loops.{InWords}
+use borrow.Author.Needs.{needs}
 use Rattle.passes.proofs.Chains.{BlockAt, block-at}
 use Rattle.passes.proofs.Onward.{clean-of-block}
-use Rattle.passes.proofs.Naming.{words-start, words-more, words-end, pick-small}
-use borrow.Author.Needs.{needs}
+use Rattle.passes.proofs.Naming.{words-start, words-more, words-end, pick-small, InWords}
 use Rattle.passes.proofs.name_words.Statement.{statement}
 use Rattle.passes.proofs.name_words.Tie as tie
 
@@ -17,7 +16,8 @@ Inv-loop sections starts indices received erased start end picks labels₀ goals
     InWords sections starts indices received erased end start labels₀ labels goals₀ goals b s total
 
 abbrev μ-loop : tie.MeasureT-loop
-μ-loop sections starts indices received erased start end picks labels₀ goals₀ blocks s₀ total₀ b₀ labels goals s total b = length indices - b
+μ-loop sections starts indices received erased start end picks labels₀ goals₀ blocks s₀ total₀ b₀ labels goals s total b =
+    length indices - b
 
 -- ---- the places of the code that the needs look back to
 
@@ -67,16 +67,31 @@ part-l-end : tie.Need-part-l-end Inv-loop μ-loop
 part-l-end c = search needs
 
 mul-pick : tie.Need-mul-pick Inv-loop μ-loop
-mul-pick c = let turn = turn-of (c .before .before) in let I = turn .before .loop .inv in let R = entry (turn .before .before) .pre .0 in search needs
+mul-pick c =
+    let turn = turn-of (c .before .before) in
+    let I = turn .before .loop .inv in
+    let R = entry (turn .before .before) .pre .0 in
+    search needs
 
 add-pick : tie.Need-add-pick Inv-loop μ-loop
-add-pick c = let turn = turn-of (c .before .before) in let I = turn .before .loop .inv in let R = entry (turn .before .before) .pre .0 in search needs
+add-pick c =
+    let turn = turn-of (c .before .before) in
+    let I = turn .before .loop .inv in
+    let R = entry (turn .before .before) .pre .0 in
+    search needs
 
 mul-pick-2 : tie.Need-mul-pick-2 Inv-loop μ-loop
-mul-pick-2 c = let turn = turn-of (c .before .before) in let I = turn .before .loop .inv in let R = entry (turn .before .before) .pre .0 in search needs
+mul-pick-2 c =
+    let turn = turn-of (c .before .before) in
+    let I = turn .before .loop .inv in
+    let R = entry (turn .before .before) .pre .0 in
+    search needs
 
 element-copy-out-pick : tie.Need-element-copy-out-pick Inv-loop μ-loop
-element-copy-out-pick c = let turn = turn-of (c .before .before) in let I = turn .before .loop .inv in let p = entry (turn .before .before) .pre in
+element-copy-out-pick c =
+    let turn = turn-of (c .before .before) in
+    let I = turn .before .loop .inv in
+    let p = entry (turn .before .before) .pre in
     omega (arith, I .state, p .0 .many, p .1 .long, turn .loop-test .taken)
 
 label-of-requires : tie.Need-label-of-requires Inv-loop μ-loop
@@ -108,14 +123,24 @@ shared-slice-read-distance : tie.Need-shared-slice-read-distance Inv-loop μ-loo
 shared-slice-read-distance c = let R = entry (turn-of (read-of (c .before .before .before)) .before .before) .pre .0 in search needs
 
 shared-slice-read-distance-2 : tie.Need-shared-slice-read-distance-2 Inv-loop μ-loop
-shared-slice-read-distance-2 c = let R = entry (turn-of (read-of (c .before .before .before .before)) .before .before) .pre .0 in search needs
+shared-slice-read-distance-2 c =
+    let R = entry (turn-of (read-of (c .before .before .before .before)) .before .before) .pre .0 in
+    search needs
 
 distance-requires : tie.Need-distance-requires Inv-loop μ-loop
-distance-requires c κs = let wide = c .before .before in let read = read-of (wide .before .before) in let turn = turn-of read in let R = entry (turn .before .before) .pre .0 in let A = block-here read in
+distance-requires c κs =
+    let wide = c .before .before in
+    let read = read-of (wide .before .before) in
+    let turn = turn-of read in
+    let R = entry (turn .before .before) .pre .0 in
+    let A = block-here read in
     (omega (arith, wide .wide .ensures .0, A .good .fits .nTo), clean-of-block R (turn .loop-test .taken) A (wide .wide .ensures .0))
 
 add-total : tie.Need-add-total Inv-loop μ-loop
-add-total c = let turn = turn-of (read-of (c .before .before .before .before .before)) in let I = turn .before .loop .inv in let R = entry (turn .before .before) .pre .0 in
+add-total c =
+    let turn = turn-of (read-of (c .before .before .before .before .before)) in
+    let I = turn .before .loop .inv in
+    let R = entry (turn .before .before) .pre .0 in
     omega (arith, I .few, R .many, c .distance .ensures .1, turn .loop-test .taken)
 
 widened-requires-2 : tie.Need-widened-requires-2 Inv-loop μ-loop
@@ -128,8 +153,15 @@ loop-less : tie.Need-loop-less Inv-loop μ-loop
 loop-less c = search needs
 
 loop-again : tie.Need-loop-again Inv-loop μ-loop
-loop-again c = let distance = c .before in let wide = distance .before .before .before in let goal = wide .before .before in let read = read-of goal in let turn = turn-of read in let p = entry (turn .before .before) .pre in
-    words-more (p .0) (p .1) (turn .before .loop .inv) (turn .loop-test .taken) (p .2) (p .3) (block-here read) (wide .wide .ensures .0) refl
+loop-again c =
+    let distance = c .before in
+    let wide = distance .before .before .before in
+    let goal = wide .before .before in
+    let read = read-of goal in
+    let turn = turn-of read in
+    let p = entry (turn .before .before) .pre in
+    words-more (p .0) (p .1) (turn .before .loop .inv) (turn .loop-test .taken) (p .2) (p .3) (block-here read)
+    (wide .wide .ensures .0) refl
     (goal .before .label-of .ensures) (goal .goal-of .ensures) (distance .distance .ensures) (c .widened2 .ensures .0)
 
 same-length : tie.Need-same-length Inv-loop μ-loop

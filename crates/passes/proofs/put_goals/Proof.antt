@@ -1,4 +1,5 @@
--- `passes::put_goals` writes row n. The loop's invariant: the goals passed have what is left to pay from their states. The measure is how many are left.
+-- `passes::put_goals` writes row n. The loop's invariant: the goals passed have what is left to pay from
+-- their states. The measure is how many are left.
 use borrow.Author.Needs.{needs}
 use Prim.Native.Nat.{_-_}
 use Rattle.passes.specs.inner.Loops.{GoalsRanked}

@@ -1,4 +1,5 @@
--- `passes::put_none` writes the top for each state before block b. The loop's invariant: the states passed hold it. The measure is how many are left.
+-- `passes::put_none` writes the top for each state before block b. The loop's invariant: the states
+-- passed hold it. The measure is how many are left.
 use borrow.Author.Needs.{needs}
 use Prim.Native.Nat.{_-_}
 use Rattle.trellis.specs.Bounds.{mostStates}

@@ -1,10 +1,10 @@
--- `passes::put_roots` writes the first row to the table and to the picks by its roots' states. The loop's invariant: the roots passed have their distances
--- and picks there. The measure is how many are left.
+-- `passes::put_roots` writes the first row to the table and to the picks by its roots' states. The loop's invariant: the roots passed have
+-- their distances and picks there. The measure is how many are left.
 use mathlib.Core.Path.{refl}
 use Prim.Native.Nat.{_-_}
+use borrow.Author.Needs.{needs}
 use Rattle.passes.specs.inner.Loops.{RootsPut}
 use Rattle.passes.proofs.Tables.{RootIn, root-read, roots-start, roots-more, roots-end}
-use borrow.Author.Needs.{needs}
 use Rattle.passes.proofs.put_roots.Statement.{statement}
 use Rattle.passes.proofs.put_roots.Tie as tie
 
@@ -94,7 +94,8 @@ loop-less c = search needs
 
 loop-again : tie.Need-loop-again Inv-loop μ-loop
 loop-again c = let turn = turn-of (c .before) in let p = entry (turn .before .before) .pre in
-    roots-more (p .0) (turn .before .loop .inv) (root-here turn) (c .before .before .before .wide2 .ensures .0) refl (c .before .high .ensures) (c .low .ensures) (search needs) (search needs)
+    roots-more (p .0) (turn .before .loop .inv) (root-here turn) (c .before .before .before .wide2 .ensures .0) refl
+    (c .before .high .ensures) (c .low .ensures) (search needs) (search needs)
 
 same-length : tie.Need-same-length Inv-loop μ-loop
 same-length c = c .before .loop .inv .long

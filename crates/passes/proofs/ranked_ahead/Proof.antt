@@ -1,7 +1,7 @@
 -- `passes::ranked_ahead` puts the state below the cost, or says that there is no path.
+use borrow.Author.Needs.{needs}
 use Rattle.passes.specs.inner.Blocks.{aheadOf}
 use Rattle.passes.proofs.Goals.{rank-in, rank-none}
-use borrow.Author.Needs.{needs}
 use Rattle.passes.proofs.ranked_ahead.Statement.{statement}
 use Rattle.passes.proofs.ranked_ahead.Tie as tie
 
@@ -19,11 +19,13 @@ add-result c = search needs
 
 returns : tie.Need-returns
 returns c = let cost = c .before in let entry = cost .before .before in
-    rank-in (aheadOf (entry .args .costs .now) (entry .args .blocks) (entry .args .end) (entry .args .b)) (entry .args .s) (cost .ahead .ensures) (c .if1 .taken)
+    rank-in (aheadOf (entry .args .costs .now) (entry .args .blocks) (entry .args .end) (entry .args .b)) (entry .args .s)
+    (cost .ahead .ensures) (c .if1 .taken)
 
 returns-2 : tie.Need-returns-2
 returns-2 c = let cost = c .before in let entry = cost .before .before in
-    rank-none (aheadOf (entry .args .costs .now) (entry .args .blocks) (entry .args .end) (entry .args .b)) (entry .args .s) (cost .ahead .ensures) (c .if1 .left)
+    rank-none (aheadOf (entry .args .costs .now) (entry .args .blocks) (entry .args .end) (entry .args .b)) (entry .args .s)
+    (cost .ahead .ensures) (c .if1 .left)
 
 pub ranked-ahead-spec : {M : Type 1} → statement M
 ranked-ahead-spec =

@@ -1,6 +1,6 @@
 -- `passes::table_block` makes the rows of the block from the table behind it, and writes their first row to the table.
-use Rattle.passes.proofs.Tables.{block-table}
 use borrow.Author.Needs.{needs}
+use Rattle.passes.proofs.Tables.{block-table}
 use Rattle.passes.proofs.table_block.Statement.{statement}
 use Rattle.passes.proofs.table_block.Tie as tie
 
@@ -33,7 +33,8 @@ returns c =
     let priced = rows .before .before .before .before in
     let placed = priced .before in
     let entry = placed .before .before .before in (
-      block-table (entry .pre .0) (placed .places-of .ensures .nIs) (priced .prices .ensures) (rows .fill-rows .ensures) (none .put-none .ensures)
+      block-table (entry .pre .0) (placed .places-of .ensures .nIs) (priced .prices .ensures) (rows .fill-rows .ensures)
+          (none .put-none .ensures)
           (roots .put-roots .ensures),
       rows .fill-rows .ensures .long,
     )

@@ -1,7 +1,7 @@
--- The blocks of a chain as they lie in lists: for each block a section index, a received label and an erasure mask; `starts` has the places where the
--- sections begin. Block by block: its section, its words and their distances, and what the two passes leave.
+-- The blocks of a chain as they lie in lists: for each block a section index, a received label and an erasure mask; `starts` has the places
+-- where the sections begin. Block by block: its section, its words and their distances, and what the two passes leave.
 use mathlib.Core.Path.{_≡_}
-use mathlib.Core.Bool.{Bool, cond}
+use mathlib.Core.Bool.{cond}
 use mathlib.Core.List.{List, _∷_}
 use Prim.Native.Nat.{ℕ, suc, _+_, _-_, _*_, _/_, _%_, _≤_, _<_}
 use lib.Dec.{eqb, ltb}
@@ -9,15 +9,12 @@ use lib.ListN.{length, getD, drop}
 use Rattle.trellis.specs.Bounds.{mostStates, mostSections, mostBlocks, costsABlock}
 use Rattle.trellis.specs.Word.{Word, word, Before, wordAt}
 use Rattle.trellis.specs.Layout.{nOf, vertexCountOf, rootState, goalState, sectionWords}
-use Rattle.paths.specs.Chain.{chainLeast, chainTrace}
+use Rattle.paths.specs.Chain.{unreached, endsIn}
+use Rattle.paths.specs.inner.Chains.{chainLeast, chainTrace}
 use Rattle.paths.specs.inner.Ordered.{Ordered}
 use Rattle.sweep.specs.inner.Rows.{Fits}
 use Rattle.block.specs.Received.{blockDistance}
 use Rattle.block.specs.inner.Prices.{Clean}
-
--- no path, in a cost table
-abbrev pub unreached : ℕ
-unreached = 4294967295
 
 -- what the passes need to know of a section
 pub record Decodable (l : List ℕ) : Type 0 where
@@ -27,10 +24,6 @@ pub record Decodable (l : List ℕ) : Type 0 where
   pub rootsAscend : (u v : ℕ) → u < v → v < vertexCountOf l 0 → rootState l u < rootState l v
   pub goalsBelow : (v : ℕ) → v < vertexCountOf l (nOf l) → goalState l v < mostStates
   pub wordsAscend : Ordered Before (sectionWords l)
-
--- a path may end in the end state
-abbrev pub endsIn : ℕ → ℕ → Bool
-endsIn end s = eqb s end
 
 module _ (sections starts indices received erased : List ℕ) where
   -- the section of block b, with what follows it
@@ -73,7 +66,8 @@ module _ (sections starts indices received erased : List ℕ) where
   -- the picks from block b on
   pub record Picked (end b : ℕ) (picks : List ℕ) : Type 0 where
     pub long : length picks ≡ (costsABlock * mostBlocks)
-    pub at : (c s : ℕ) → b ≤ c → c < length indices → s < mostStates → leastFrom end c s < unreached → Pick end c s (getD picks (costsABlock * c + s) 0)
+    pub at : (c s : ℕ) → b ≤ c → c < length indices → s < mostStates → leastFrom end c s < unreached
+        → Pick end c s (getD picks (costsABlock * c + s) 0)
 
   -- the table is filled from block b on, and places beyond it are as they were; and so are the picks
   pub record Filled (end b : ℕ) (old new picks : List ℕ) : Type 0 where
@@ -93,6 +87,7 @@ module _ (sections starts indices received erased : List ℕ) where
     pub labelsKept : (i : ℕ) → b ≤ i → getD newLabels i 0 ≡ getD labels i 0
     pub goalsKept : (i : ℕ) → b ≤ i → getD newGoals i 0 ≡ getD goals i 0
 
--- what the table has for state s before block b; behind the last block nothing is left to pay in the end state, and there is no path elsewhere
+-- what the table has for state s before block b; behind the last block nothing is left to pay
+-- in the end state, and there is no path elsewhere
 unfoldable pub aheadOf : List ℕ → ℕ → ℕ → ℕ → ℕ → ℕ
 aheadOf costs blocks end b s = cond (ltb b blocks) (getD costs (costsABlock * b + s) 0) (cond (eqb s end) 0 unreached)

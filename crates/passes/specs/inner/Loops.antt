@@ -1,17 +1,18 @@
--- What the functions on one block leave, and what the loops keep, over raw lists and numbers. `l` has the block's section at its front; b is the block
--- behind it.
+-- What the functions on one block leave, and what the loops keep, over raw lists and numbers. `l` has the block's
+-- section at its front; b is the block behind it.
 use mathlib.Core.Path.{_≡_}
 use mathlib.Core.Logic.{_⊎_}
 use mathlib.Core.List.{List}
 use Prim.Native.Nat.{ℕ, suc, _+_, _*_, _/_, _%_, _≤_, _<_}
-use lib.ListN.{length, getD, drop}
+use lib.ListN.{length, getD}
 use Rattle.trellis.specs.Bounds.{mostStates, mostWords, costsABlock}
 use Rattle.trellis.specs.Layout.{nOf, vertexCountOf, rootState, goalState, stepEdges}
+use Rattle.paths.specs.Chain.{unreached}
 use Rattle.paths.specs.inner.Sections.{sectionLeast}
 use Rattle.paths.specs.inner.Ranked.{topRank, rankedCost, rankedRest}
 use Rattle.sweep.specs.inner.Rows.{Priced, Rows}
 use Rattle.block.specs.Received.{symbolCost}
-use Rattle.passes.specs.inner.Blocks.{unreached, aheadOf, pathFrom, leastFrom, Written}
+use Rattle.passes.specs.inner.Blocks.{aheadOf, leastFrom, Written}
 
 -- the table has what is left to pay behind the goals
 abbrev pub Behind : List ℕ → List ℕ → ℕ → ℕ → ℕ → (ℕ → ℕ) → Type 0
@@ -53,7 +54,8 @@ pub record RootsPut (l rows : List ℕ) (b : ℕ) (old new oldPicks picks : List
 -- the least distance from vertex v of depth 0 and the first word that has it, in one number
 abbrev pub rankFrom : List ℕ → ℕ → ℕ → (ℕ → ℕ) → ℕ → ℕ
 rankFrom l received mask rest v =
-    sectionLeast (stepEdges l) (rankedCost (nOf l) (symbolCost (nOf l) received mask)) topRank (λ g. rankedRest rest (goalState l g)) (nOf l) 0 v
+    sectionLeast (stepEdges l) (rankedCost (nOf l) (symbolCost (nOf l) received mask)) topRank (λ g. rankedRest rest (goalState l g))
+    (nOf l) 0 v
 
 -- the least distances from the states before the block, its symbols costing what the received label and the mask say, and the picks
 pub record BlockTable (l : List ℕ) (received mask : ℕ) (blocks end b : ℕ) (old new oldPicks picks : List ℕ) : Type 0 where
@@ -63,28 +65,15 @@ pub record BlockTable (l : List ℕ) (received mask : ℕ) (blocks end b : ℕ) 
       → getD new (costsABlock * b + rootState l v) 0 ≡ rankFrom l received mask rest v / 4294967296
   pub pick : (rest : ℕ → ℕ) → Behind l old blocks end (suc b) rest → (v : ℕ) → v < vertexCountOf l 0
       → getD picks (costsABlock * b + rootState l v) 0 ≡ rankFrom l received mask rest v % 4294967296
-  pub none : (s : ℕ) → s < mostStates → ((v : ℕ) → v < vertexCountOf l 0 → rootState l v ≡ s → ⊥) → getD new (costsABlock * b + s) 0 ≡ unreached
+  pub none : (s : ℕ) → s < mostStates → ((v : ℕ) → v < vertexCountOf l 0 → rootState l v ≡ s → ⊥)
+      → getD new (costsABlock * b + s) 0 ≡ unreached
   pub kept : (i : ℕ) → (i < costsABlock * b) ⊎ (costsABlock * b + costsABlock ≤ i) → getD new i 0 ≡ getD old i 0
   pub keptPick : (i : ℕ) → (i < costsABlock * b) ⊎ (costsABlock * b + costsABlock ≤ i) → getD picks i 0 ≡ getD oldPicks i 0
 
--- root r is s; r is the number of roots where none is
-pub record RootAt (l : List ℕ) (s r : ℕ) : Type 0 where
-  pub r-le : r ≤ vertexCountOf l 0
-  pub is : r < vertexCountOf l 0 → rootState l r ≡ s
-  pub none : vertexCountOf l 0 ≤ r → (u : ℕ) → u < vertexCountOf l 0 → rootState l u ≡ s → ⊥
-
 -- ---- the words
 
--- b words are written, state s is reached, and `total` is their distance; the rest of the path is the one from there
-pub record InWords (sections starts indices received erased : List ℕ) (end start : ℕ) (labels newLabels goals newGoals : List ℕ) (b s total : ℕ) : Type 0 where
-  pub written : Written sections starts indices received erased end start b labels newLabels goals newGoals
-  pub state : s < mostStates
-  pub few : total ≤ 8 * b
-  pub rest : drop b (pathFrom sections starts indices received erased end 0 start) ≡ pathFrom sections starts indices received erased end b s
-  pub onward : leastFrom sections starts indices received erased end b s < unreached
-  pub sum : total + leastFrom sections starts indices received erased end b s ≡ leastFrom sections starts indices received erased end 0 start
-
 -- the whole path is written, and `total` is its distance
-pub record Named (sections starts indices received erased : List ℕ) (end start : ℕ) (labels newLabels goals newGoals : List ℕ) (total : ℕ) : Type 0 where
+pub record Named (sections starts indices received erased : List ℕ) (end start : ℕ) (labels newLabels goals newGoals : List ℕ)
+    (total : ℕ) : Type 0 where
   pub written : Written sections starts indices received erased end start (length indices) labels newLabels goals newGoals
   pub totalIs : total ≡ leastFrom sections starts indices received erased end 0 start

@@ -5,12 +5,7 @@ use mathlib.Core.Option.{Option, none as nothing, some as just}
 use mathlib.Core.List.{List, [], _∷_}
 use Prim.Native.Nat.{ℕ, zero, suc, _+_, min}
 use lib.Dec.{eqb}
-use Rattle.paths.specs.Choice.{Choice, none, some}
 use Rattle.paths.specs.inner.Graph.{Graph}
-
-unfoldable pub capped : {P : Type 0} → ℕ → Choice P → ℕ
-capped top none = top
-capped top (some c p) = min top c
 
 -- d more to pay
 unfoldable pub plus : ℕ → ℕ → ℕ → ℕ

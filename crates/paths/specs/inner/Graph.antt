@@ -1,6 +1,6 @@
 -- Any graph of steps: a section from depth to depth, a chain from block to block. E are its edges, P its paths.
-use mathlib.Core.List.{List, map, flatMap}
-use Prim.Native.Nat.{ℕ, zero, suc}
+use mathlib.Core.List.{List}
+use Prim.Native.Nat.{ℕ}
 
 -- `out t v` are the edges that leave vertex v at step t, in their order, and `to e` is where e leads.
 -- `onto e p` is the path p with e in front. `ends v` are the paths from v with no step left: the end condition.
@@ -9,8 +9,3 @@ pub record Graph (E P : Type 0) : Type 0 where
   pub to : E → ℕ
   pub onto : E → P → P
   pub ends : ℕ → List P
-
--- all paths of k steps from vertex v, the first of them step t, in the order of their edges
-unfoldable pub paths : {E P : Type 0} → Graph E P → ℕ → ℕ → ℕ → List P
-paths G zero t v = G .ends v
-paths G (suc k) t v = flatMap (λ e. map (G .onto e) (paths G k (suc t) (G .to e))) (G .out t v)

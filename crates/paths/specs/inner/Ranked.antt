@@ -1,5 +1,5 @@
--- A distance and a word in one number: the distance counts most, then the label, then the goal, so that the least number is that of the first word of
--- least distance. Everything here computes.
+-- A distance and a word in one number: the distance counts most, then the label, then the goal, so that the least number is that of the
+-- first word of least distance. Everything here computes.
 use mathlib.Core.Bool.{cond}
 use Prim.Native.Nat.{ℕ, suc, _+_, _-_, _*_, _^_}
 use lib.Dec.{ltb}

@@ -1,0 +1,62 @@
+-- What decoding a chain comes to, for all arguments: "The decoder names a path of least frameDistance, the first such in word order, and says
+-- there is none only when there is none."
+use mathlib.Core.Path.{_≡_}
+use mathlib.Core.Logic.{_↔_}
+use mathlib.Core.List.{List}
+use Prim.Native.Nat.{ℕ, suc, _+_, _-_, _*_, _<_}
+use lib.ListN.{length, getD}
+use Rattle.trellis.specs.Bounds.{mostStates, costsABlock}
+use Rattle.trellis.specs.Lists.{_∈_}
+use Rattle.trellis.specs.Word.{Word, wordAt}
+use Rattle.trellis.specs.Layout.{sectionWords}
+use Rattle.trellis.specs.Outcome.{success, noPath}
+use Rattle.paths.specs.Chain.{endsIn, chainPaths, pathDistance, costTable, IsChainPath, Winner}
+use Rattle.chain.specs.Frame.{blockSection, blockWords, wordDistance}
+use Rattle.chain.specs.Decoding.{Decoding}
+
+module _ (sections indices received erased : List ℕ) (start end : ℕ) where
+  -- a path takes a word of each block's section, a word's goal is the next one's root, and it goes from the start state to the end state
+  abbrev pub IsFramePath : List Word → Type 0
+  IsFramePath p = IsChainPath (blockWords sections indices received erased) (endsIn end) (length indices) 0 start p
+
+  abbrev pub framePaths : List (List Word)
+  framePaths = chainPaths (blockWords sections indices received erased) (endsIn end) (length indices) 0 start
+
+  abbrev pub frameDistance : List Word → ℕ
+  frameDistance p = pathDistance (wordDistance sections indices received erased) 0 p
+
+  -- the least frameDistance from state s before block b to the end state after the last block, 4294967295 where there is no path
+  abbrev pub leastDistance : ℕ → ℕ → ℕ
+  leastDistance b s =
+      costTable (blockWords sections indices received erased) (endsIn end) (wordDistance sections indices received erased)
+      (length indices - b) b s
+
+  -- the cost table has it at place 64·b + s
+  pub record Tabled (costs : List ℕ) : Type 0 where
+    pub at : (b s : ℕ) → b < length indices → s < mostStates → getD costs (costsABlock * b + s) 0 ≡ leastDistance b s
+
+  -- no list of words is a path
+  pub record NoneFound (r : Decoding) : Type 0 where
+    pub none : (p : List Word) → IsFramePath p → ⊥
+    pub table : Tabled (r .costs)
+
+  -- these words are a path, none is shorter, and each other that is as short comes after it in word order; d is their frameDistance, and the
+  -- labels and goals are theirs
+  pub record Won (d : ℕ) (r : Decoding) : Type 0 where
+    pub words : List Word
+    pub wins : Winner frameDistance framePaths words
+    pub distanceIs : d ≡ frameDistance words
+    pub labelAt : (b : ℕ) → b < length indices → getD (r .labels) b 0 ≡ wordAt words b .label
+    pub goalAt : (b : ℕ) → b < length indices → getD (r .goals) b 0 ≡ wordAt words b .goal
+    pub inSection : (b : ℕ) → b < length indices → wordAt words b ∈ sectionWords (blockSection sections indices received erased b)
+    pub table : Tabled (r .costs)
+    -- what is left to pay drops by each word's frameDistance
+    pub drops : (b : ℕ) → b < length indices
+        → leastDistance b (wordAt words b .root)
+        ≡ wordDistance sections indices received erased b (wordAt words b) + leastDistance (suc b) (wordAt words b .goal)
+
+  -- and all paths are listed, and nothing else
+  pub record Meaning (r : Decoding) : Type 0 where
+    pub paths : (p : List Word) → IsFramePath p ↔ (p ∈ framePaths)
+    pub none : r .answer ≡ noPath → NoneFound r
+    pub best : (d : ℕ) → r .answer ≡ success d → Won d r
