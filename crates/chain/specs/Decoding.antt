@@ -13,6 +13,16 @@ use Rattle.paths.specs.Choice.{Choice, none, some}
 use Rattle.paths.specs.Chain.{bestPath, costTable, endsIn}
 use Rattle.chain.specs.Sections.{sectionsBad, badSectionOf}
 use Rattle.chain.specs.Frame.{frameBad, blockWords, wordDistance, blockBad}
+use Rattle.chain.specs.declared.Decoded.{Decoded}
+use Rattle.chain.specs.declared.Decoded.the-variants.{Distance, Section, Block, Short, NoPath}
+
+-- document 01's number and values for each case of the answer
+abbrev pub decodedOutcome : Decoded → Outcome
+decodedOutcome (Distance d) = success d
+decodedOutcome (Section index) = badSection index
+decodedOutcome (Block index) = badBlock index
+decodedOutcome (Short needed) = shortBuffer needed
+decodedOutcome NoPath = noPath
 
 pub record Decoding : Type 0 where
   pub answer : Outcome
@@ -23,7 +33,7 @@ pub record Decoding : Type 0 where
 abbrev pub left : Outcome → List ℕ → List ℕ → List ℕ → Decoding
 left o costs labels goals = record { answer = o; costs = costs; labels = labels; goals = goals }
 
--- the length that the first short buffer needs: the cost table 64·B, the labels B, the goals B; 0 where none is short
+-- the length that the first short buffer needs, of the cost table, the labels and the goals; 0 where none is short
 unfoldable pub neededOf : ℕ → ℕ → ℕ → ℕ → ℕ
 neededOf blocks costs labels goals =
     cond (ltb costs (costsABlock * blocks)) (costsABlock * blocks) (cond (ltb labels blocks) blocks (cond (ltb goals blocks) blocks 0))
@@ -35,7 +45,7 @@ module _ (sections : List ℕ) (k : ℕ) (indices received erased : List ℕ) (s
       bestPath (blockWords sections indices received erased) (endsIn end) (wordDistance sections indices received erased)
       (length indices) 0 start
 
-  -- at place 64·b + s the least distance from state s before block b to the end state after the last block
+  -- block after block, for each state s the least distance from s before the block to the end state after the last block
   unfoldable pub tableOf : List ℕ
   tableOf =
       each

@@ -12,7 +12,7 @@ use Rattle.trellis.specs.Lists.{within}
 use Rattle.block.specs.Received.{blockDistance, fitsBlock}
 use Rattle.chain.specs.Sections.{sectionAt}
 
--- B is outside its bounds, lengths are unequal, or a state is not below 64
+-- B is outside its bounds, lengths are unequal, or a state is not below the bound
 unfoldable pub frameBad : List ℕ → List ℕ → List ℕ → ℕ → ℕ → Bool
 frameBad indices received erased start end =
     not (within 1 mostBlocks (length indices))

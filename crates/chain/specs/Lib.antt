@@ -2,5 +2,4 @@
 pub mod Sections
 pub mod Frame
 pub mod Decoding
-pub mod Answer
 pub mod inner

@@ -1,4 +1,4 @@
--- What decoding a chain comes to, for all arguments: "The decoder names a path of least frameDistance, the first such in word order, and says
+-- What decoding a chain comes to, for all arguments: "The decoder names a path of least distance, the first such in word order, and says
 -- there is none only when there is none."
 use mathlib.Core.Path.{_≡_}
 use mathlib.Core.Logic.{_↔_}
@@ -25,13 +25,13 @@ module _ (sections indices received erased : List ℕ) (start end : ℕ) where
   abbrev pub frameDistance : List Word → ℕ
   frameDistance p = pathDistance (wordDistance sections indices received erased) 0 p
 
-  -- the least frameDistance from state s before block b to the end state after the last block, 4294967295 where there is no path
+  -- the least distance from state s before block b to the end state after the last block, 4294967295 where there is no path
   abbrev pub leastDistance : ℕ → ℕ → ℕ
   leastDistance b s =
       costTable (blockWords sections indices received erased) (endsIn end) (wordDistance sections indices received erased)
       (length indices - b) b s
 
-  -- the cost table has it at place 64·b + s
+  -- the cost table has a place for each state of each block
   pub record Tabled (costs : List ℕ) : Type 0 where
     pub at : (b s : ℕ) → b < length indices → s < mostStates → getD costs (costsABlock * b + s) 0 ≡ leastDistance b s
 
@@ -40,7 +40,7 @@ module _ (sections indices received erased : List ℕ) (start end : ℕ) where
     pub none : (p : List Word) → IsFramePath p → ⊥
     pub table : Tabled (r .costs)
 
-  -- these words are a path, none is shorter, and each other that is as short comes after it in word order; d is their frameDistance, and the
+  -- these words are a path, none is shorter, and each other that is as short comes after it in word order; d is their distance, and the
   -- labels and goals are theirs
   pub record Won (d : ℕ) (r : Decoding) : Type 0 where
     pub words : List Word
@@ -50,7 +50,7 @@ module _ (sections indices received erased : List ℕ) (start end : ℕ) where
     pub goalAt : (b : ℕ) → b < length indices → getD (r .goals) b 0 ≡ wordAt words b .goal
     pub inSection : (b : ℕ) → b < length indices → wordAt words b ∈ sectionWords (blockSection sections indices received erased b)
     pub table : Tabled (r .costs)
-    -- what is left to pay drops by each word's frameDistance
+    -- what is left to pay drops by each word's distance
     pub drops : (b : ℕ) → b < length indices
         → leastDistance b (wordAt words b .root)
         ≡ wordDistance sections indices received erased b (wordAt words b) + leastDistance (suc b) (wordAt words b .goal)

@@ -11,8 +11,7 @@ use Rattle.merge.specs.declared.Merged.{Merged}
 use Rattle.read_back.specs.ReadingBack as reading
 use Rattle.chain.specs.Decoding as decoding
 use Rattle.listing.specs.Listing as printing
-use Rattle.link_kit.specs.Numbers.{stored, fourOf, Numbered}
-use Rattle.link_kit.specs.Left.{MergeLeft, ReadBackLeft, DecodeLeft, ListingLeft}
+use Rattle.link_kit.specs.Left.{MergeLeft, ReadBackLeft, DecodeLeft, ListingLeft, stored, fourOf, Numbered}
 
 pub numbered : {o : Outcome} {number count : ℕ} {values : List ℕ} {a b c d : ℕ} → Holds o number count values
     → a ≡ stored (getD values 0 0) → b ≡ stored (getD values 1 0) → c ≡ stored (getD values 2 0) → d ≡ stored (getD values 3 0)

@@ -1,3 +1,2 @@
 -- What the kit's functions for other languages leave.
-pub mod Numbers
 pub mod Left

@@ -2,7 +2,7 @@
 ghost use mathlib.Core.Path.{_≡_};
 ghost use Rattle.trellis.specs.Outcome.{Outcome};
 ghost use Rattle.outcomes.specs.inner.Holds.{Holds};
-ghost use Rattle.link_kit.specs.Numbers.{stored, Numbered};
+ghost use Rattle.link_kit.specs.Left.{stored, Numbered};
 use outcomes::Returned;
 
 // Lengths are as wide as the machine's addresses, and a place of the answer is not.

@@ -1,5 +1,5 @@
--- The text of an answer from its outcome in numbers: whether it is a refusal shows in its number, and a refusal's line shows the number and as
--- many of the four places behind it as the outcome has values.
+-- The text of an answer from its outcome in numbers: whether it is a refusal shows in its number, and a refusal's line shows the number and
+-- as many of the four places behind it as the outcome has values.
 use mathlib.Core.Path.{_≡_, sym, ap, ap₂, subst, _∙_}
 use mathlib.Core.List.{List, _∷_}
 use Prim.Native.Nat.{ℕ, suc, _+_}

@@ -1,4 +1,4 @@
--- The table of a block: no path from any of the 64 states, then each root's cost at its state.
+-- The table of a block: no path from any state, then each root's cost at its state.
 -- Root states ascend, so no root overwrites another.
 use mathlib.Core.Path.{_≡_, refl, sym, ap, subst, _∙_}
 use mathlib.Core.Logic.{_⊎_, inl, inr}

@@ -1,6 +1,6 @@
 -- `chain::outcome` has each case of the answer as its outcome.
 use mathlib.Core.Path.{ap}
-use Rattle.chain.specs.Answer.{decodedOutcome}
+use Rattle.chain.specs.Decoding.{decodedOutcome}
 use Rattle.outcomes.proofs.Held.{holds-by}
 use borrow.Author.Needs.{needs}
 use Rattle.chain.proofs.outcome.Statement.{statement}

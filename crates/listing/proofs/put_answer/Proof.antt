@@ -33,7 +33,8 @@ returns-2 c =
     let t = p .before .before in
     let o = t .before .before in
     let a = o .before .before .before in
-    refusal-answered (o .outcome .ensures) (a .args .words) (a .args .section .now) (t .if1 .left) (p .put-refusal .ensures _ (o .outcome .ensures))
+    refusal-answered (o .outcome .ensures) (a .args .words) (a .args .section .now) (t .if1 .left)
+    (p .put-refusal .ensures _ (o .outcome .ensures))
 
 pub put-answer-spec : {M : Type 1} → statement M
 put-answer-spec =
