@@ -7,7 +7,7 @@ use Rattle.trellis.specs.Own.{shares, firstSharing, key, keys, vertexOf, vertex
 use Rattle.trellis.specs.Section.{leaving, pathsFrom, packOnto, wordOf, wordsOf}
 use Rattle.trellis.specs.Layout.{vertexCountOf, edgeCountOf, edgesBefore, rootsPlace, goalsPlace, pairsPlace, symbolsPlace, rootState}
 use Rattle.trellis.specs.Layout.{goalState, edgeNumber, stepEdges, sectionWords, joinedUp, sectionOf, sectionLength}
-use Rattle.trellis.specs.Demand.{allVertices, additions, selections}
+use Rattle.trellis.specs.Selections.{allVertices, additions, selections}
 use Rattle.trellis.specs.Witness.{refutes, firstOf, overK, overJ, witnessAt, witness}
 use Rattle.table.specs.File.{wordCount, fileWord, fileWords, lengthBad, outside, sizeOutside, wordOutside, wordBad, orderBad, tableFile}
 use Rattle.merge.specs.Merging.{mapOf, written, merged, mergedTable, mergedFile, merging}

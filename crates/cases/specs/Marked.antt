@@ -6,7 +6,7 @@ use Prim.Native.Nat.{ℕ, suc, _-_, _*_}
 use lib.ListN.{length, replicate}
 use Rattle.trellis.specs.Lists.{each}
 use Rattle.trellis.specs.Outcome.{Outcome}
-use Rattle.trellis.specs.Demand.{selections}
+use Rattle.trellis.specs.Selections.{selections}
 use Rattle.trellis.specs.Layout.{nOf, vertexCountOf, edgeCountOf, sectionWords}
 use Rattle.trellis.specs.Bounds.{costsABlock}
 use Rattle.merge.specs.Merging.{Merging, merging}

@@ -10,10 +10,10 @@ use lib.ListN.{length, take, drop}
 use borrow.Author.Tests.{le-ltb}
 use Rattle.trellis.specs.Lists.{_∈_, each, over}
 use Rattle.trellis.specs.Word.{Word, Rectangular}
-use Rattle.trellis.specs.Drawn.{PathOf}
+use Rattle.trellis.specs.Drawn.{PathOf, drawingOf}
 use Rattle.trellis.specs.Own.{vertexCount, edgeCount}
 use Rattle.trellis.proofs.Ours.{ours}
-use Rattle.trellis.specs.Layout.{qOf, nOf, statesOf, vertexCountOf, edgeCountOf, sectionOf, drawingOf}
+use Rattle.trellis.specs.Layout.{qOf, nOf, statesOf, vertexCountOf, edgeCountOf, sectionOf}
 use Rattle.trellis.specs.Witness.{Witness, found, nothing, witness}
 use Rattle.trellis.specs.Outcome.{Outcome, success, notRectangular}
 use Rattle.trellis.proofs.Lists.{of-each}

@@ -8,9 +8,8 @@ use Prim.Native.Nat.{ℕ, _^_, _≤_, _<_}
 use lib.ListN.{length, getD, take}
 use Rattle.trellis.specs.Lists.{_∈_, over}
 use Rattle.trellis.specs.Word.{Word, Rectangular}
-use Rattle.trellis.specs.Drawn.{Drawing, PathOf, DrawnFor}
-use Rattle.trellis.specs.Demand.{NoFewer}
-use Rattle.trellis.specs.Layout.{qOf, nOf, statesOf, vertexCountOf, edgeCountOf, sectionOf, drawingOf}
+use Rattle.trellis.specs.Drawn.{Drawing, PathOf, DrawnFor, drawingOf, NoFewer}
+use Rattle.trellis.specs.Layout.{qOf, nOf, statesOf, vertexCountOf, edgeCountOf, sectionOf}
 use Rattle.trellis.specs.Witness.{FirstRefuted}
 use Rattle.trellis.specs.Outcome.{Outcome, success, notRectangular}
 use Rattle.table.specs.File.{tableFile, accepted}

@@ -5,7 +5,7 @@ use Prim.Native.Nat.{ℕ, zero, suc, _+_, _-_, _<_, _≤_}
 use native.Mathlib.Omega.{arith}
 use lib.ListN.{getD}
 use Rattle.trellis.specs.Lists.{sum}
-use Rattle.trellis.specs.Demand.{allVertices, additions, selections}
+use Rattle.trellis.specs.Selections.{allVertices, additions, selections}
 use Rattle.trellis.specs.Layout.{qOf, nOf, statesOf, vertexCountOf, edgeCountOf, joinedUp}
 use Rattle.text.specs.Line.{line}
 use Rattle.text.specs.inner.Put.{Put}

@@ -12,7 +12,7 @@ use Rattle.trellis.specs.Lists.{over}
 use Rattle.trellis.specs.Word.{Word}
 use Rattle.trellis.specs.Witness.{Witness, found, nothing, witness}
 use Rattle.trellis.specs.Outcome.{Outcome, shortMap}
-use Rattle.trellis.specs.Demand.{allVertices, additions, selections}
+use Rattle.trellis.specs.Selections.{allVertices, additions, selections}
 use Rattle.trellis.specs.Layout.{nOf, vertexCountOf, edgeCountOf, joinedUp}
 use Rattle.trellis.specs.Layout.{rootsPlace, goalsPlace, pairsPlace, symbolsPlace, sectionLength, sectionOf}
 use Rattle.trellis.proofs.Lists.{sum-eq}

@@ -12,7 +12,7 @@ use Rattle.trellis.specs.Bounds.{mostSymbols, mostWords, mostBytes}
 use Rattle.trellis.specs.Word.{Word}
 use Rattle.trellis.specs.Witness.{Witness, found, nothing, witness}
 use Rattle.trellis.specs.Outcome.{Outcome, badLength}
-use Rattle.trellis.specs.Demand.{additions, selections}
+use Rattle.trellis.specs.Selections.{additions, selections}
 use Rattle.trellis.specs.Layout.{qOf, nOf, statesOf, vertexCountOf, edgeCountOf, edgesBefore, joinedUp, sectionOf}
 use Rattle.trellis.proofs.OwnLaid.{own-q, own-n, own-states}
 use Rattle.table.specs.File.{TableFile, refused, accepted, tableFile}

@@ -8,7 +8,7 @@ use Rattle.trellis.specs.Bounds.{mostBytes}
 use Rattle.trellis.specs.Word.{Word}
 use Rattle.trellis.specs.Witness.{Witness, found, nothing, witness}
 use Rattle.trellis.specs.Outcome.{Outcome, badLength, notRectangular}
-use Rattle.trellis.specs.Demand.{additions, selections}
+use Rattle.trellis.specs.Selections.{additions, selections}
 use Rattle.trellis.specs.Layout.{qOf, nOf, statesOf, vertexCountOf, edgeCountOf, joinedUp, sectionOf}
 use Rattle.table.specs.File.{TableFile, refused, accepted, tableFile}
 use Rattle.text.specs.Line.{line}

@@ -1,3 +1,4 @@
-pub mod Answer
+-- What merging leaves, and its answer.
 pub mod Merging
+pub mod Answer
 pub mod inner

@@ -11,8 +11,8 @@ use Rattle.trellis.specs.Label.{symbol}
 use Rattle.trellis.specs.Word.{Word, Table, Rectangular}
 use Rattle.trellis.specs.Own.{vertexOf, vertexCount, edgeOf, edgeCount}
 use Rattle.trellis.proofs.ThreeNumbers.{sameEdge}
-use Rattle.trellis.specs.Drawn.{PathOf, DrawnFor}
-use Rattle.trellis.specs.Demand.{allVertices, additions, selections, verticesOf, edgesOf}
+use Rattle.trellis.specs.Drawn.{PathOf, DrawnFor, verticesOf, edgesOf}
+use Rattle.trellis.specs.Selections.{allVertices, additions, selections}
 use Rattle.trellis.proofs.Ours.{ours, OursLeast}
 use Rattle.trellis.proofs.Lists.{length-run}
 use Rattle.trellis.proofs.Distinct.{length-distinct, upto, in-upto, from-upto}

@@ -11,8 +11,8 @@ use lib.ListN.{length}
 use Rattle.trellis.specs.Lists.{_∈_, sum}
 use Rattle.trellis.specs.Word.{Word, wordAt, Table}
 use Rattle.trellis.specs.Own.{edge}
-use Rattle.trellis.specs.Drawn.{Drawing, DrawnFor}
-use Rattle.trellis.specs.Demand.{allVertices, additions, selections, verticesOf, edgesOf, NoFewer}
+use Rattle.trellis.specs.Drawn.{Drawing, DrawnFor, verticesOf, edgesOf, NoFewer}
+use Rattle.trellis.specs.Selections.{allVertices, additions, selections}
 use Rattle.trellis.proofs.Lists.{sum-le, sum-eq, sum-suc}
 use Rattle.trellis.proofs.Distinct.{distinct}
 use Rattle.trellis.proofs.Words.{word-in}

@@ -6,8 +6,7 @@ use lib.ListN.{getD}
 use Rattle.trellis.specs.Lists.{each}
 use Rattle.trellis.specs.Word.{Word}
 use Rattle.trellis.specs.Own.{keys, vertexCount, edgesAt}
-use Rattle.trellis.specs.Drawn.{Drawing, DrawnFor}
-use Rattle.trellis.specs.Demand.{verticesOf, edgesOf, NoFewer}
+use Rattle.trellis.specs.Drawn.{Drawing, DrawnFor, verticesOf, edgesOf, NoFewer}
 
 -- our section as a drawing: vertex v of depth t is the number v, and stands for the state number v
 unfoldable pub ours : ℕ → List Word → Drawing

@@ -1,13 +1,17 @@
--- A section drawn by another hand, for demand 3: vertices listed for each depth and edges listed for each step. Inner vertices may be any
+-- A section drawn by another hand, for demand 3: vertices listed for each depth and edges listed for each step; and what it is for it to
+-- have no fewer of anything than a section in numbers. Inner vertices may be any
 -- number and may be twins, a word may have several paths, symbols may be any numbers, and nothing here asks for our layout or bounds. Step
 -- t + 1 of document 01 is step t.
 use mathlib.Core.Path.{_≡_}
 use mathlib.Core.List.{List}
 use Prim.Native.Nat.{ℕ, suc, _≤_, _<_}
-use Rattle.trellis.specs.Lists.{_∈_, Once}
+use lib.ListN.{length}
+use Rattle.trellis.specs.Lists.{_∈_, Once, each}
 use Rattle.trellis.specs.Label.{symbol}
 use Rattle.trellis.specs.Word.{Word}
 use Rattle.trellis.specs.Own.{Edge, edge}
+use Rattle.trellis.specs.Selections.{selections}
+use Rattle.trellis.specs.Layout.{vertexCountOf, rootState, goalState, stepEdges}
 
 -- vertices are named by numbers; a vertex of depth 0 stands for a root, one of depth n for a goal
 pub record Drawing : Type 0 where
@@ -80,3 +84,26 @@ pub record DrawnFor (n : ℕ) (table : List Word) (D : Drawing) : Type 0 where
   -- drawn "for an accepted table": "its words ... are taken as above", off its paths, and are the table's, no more and no fewer
   pub noMore : (x a : ℕ → ℕ) → IsPath n D x a → WordOf n D table x a
   pub noFewer : (w : Word) → w ∈ table → PathOf n D w
+
+-- ---- sections compared
+
+-- a section in numbers as a drawing: vertex v of depth t is the number v
+unfoldable pub drawingOf : List ℕ → Drawing
+drawingOf l = record {
+  vertices = λ t. each (λ v. v) (vertexCountOf l t);
+  edges = stepEdges l;
+  rootOf = rootState l;
+  goalOf = goalState l;
+}
+
+abbrev pub verticesOf : Drawing → ℕ → ℕ
+verticesOf D t = length (D .vertices t)
+
+abbrev pub edgesOf : Drawing → ℕ → ℕ
+edgesOf D t = length (D .edges t)
+
+-- D has no fewer vertices at any depth, no fewer edges at any step, no fewer selections in all than the counts v and e
+pub record NoFewer (n : ℕ) (v e : ℕ → ℕ) (D : Drawing) : Type 0 where
+  pub vertices : (t : ℕ) → t ≤ n → v t ≤ verticesOf D t
+  pub edges : (t : ℕ) → t < n → e t ≤ edgesOf D t
+  pub selected : selections n v e ≤ selections n (verticesOf D) (edgesOf D)

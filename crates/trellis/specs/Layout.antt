@@ -7,7 +7,6 @@ use lib.ListN.{getD}
 use Rattle.trellis.specs.Lists.{run, each, sum}
 use Rattle.trellis.specs.Word.{Word}
 use Rattle.trellis.specs.Own.{Edge, edge, keys, vertexCount, edgesAt, edgeCount}
-use Rattle.trellis.specs.Drawn.{Drawing}
 use Rattle.trellis.specs.Section.{wordsOf}
 
 -- ---- read
@@ -70,15 +69,6 @@ module _ (l : List ℕ) where
   -- the section's words, read off its paths
   unfoldable pub sectionWords : List Word
   sectionWords = wordsOf nOf stepEdges (each (λ v. v) (vertexCountOf 0)) rootState goalState
-
-  -- the section as a drawing
-  unfoldable pub drawingOf : Drawing
-  drawingOf = record {
-    vertices = λ t. each (λ v. v) (vertexCountOf t);
-    edges = stepEdges;
-    rootOf = rootState;
-    goalOf = goalState;
-  }
 
 -- ---- written
 

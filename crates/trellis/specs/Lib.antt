@@ -4,10 +4,10 @@ pub mod Lists
 pub mod Label
 pub mod Word
 pub mod Own
-pub mod Drawn
-pub mod Demand
+pub mod Selections
 pub mod Section
 pub mod Layout
+pub mod Drawn
 pub mod Witness
 pub mod Outcome
 pub mod inner
