@@ -12,13 +12,13 @@ use trellis::MOST_STATES;
 use trellis::MOST_SYMBOLS;
 
 // What is known of an outer depth: its states as marks, and how many there are.
-pub struct Depth {
+pub struct OuterDepth {
     pub marks: [u8; MOST_STATES],
     pub count: u16,
 }
 
 // The vertices of an outer depth into the map, from place `place` on.
-fn put_depth(words: &[u8], map: &mut [u16], place: usize) -> Depth
+fn put_depth(words: &[u8], map: &mut [u16], place: usize) -> OuterDepth
     requires { ⌜ Few (now words) × (place + length (now words) ≤ length (now map)) ⌝ }
     ensures { λ r. ⌜ RowPut (now (words .entry)) (now (map .entry)) place (now (map .exit)) (r .marks) (r .count) ⌝ }
 {
@@ -27,7 +27,7 @@ fn put_depth(words: &[u8], map: &mut [u16], place: usize) -> Depth
     let ranks = numbers.ranks;
     let count = numbers.count;
     states::put_row(words, &ranks, map, place);
-    Depth { marks, count }
+    OuterDepth { marks, count }
 }
 
 // Both outer depths, and the vertex counts of all depths.

@@ -46,17 +46,17 @@ module _ (map section : List ℕ) where
     unfolding written isIn
     at-end =
         ends Kept (ltb (length section) (length (sectionOf q n states table)))
-        (record { listed = is-in 7 _ tt; sectionKept = λ h. refl; mapKept = λ m. absurd (not-in 7 (1 ∷ 2 ∷ 3 ∷ 4 ∷ 5 ∷ []) (λ t. t) m) })
+        (record { listed = is-in 7 _ tt; sectionKept = λ h. refl; mapKept = λ m. absurd (not-in 7 _ (λ t. t) m) })
         (record {
           listed = is-in 0 _ tt;
           sectionKept = λ h. absurd (not-suc-le-zero h);
-          mapKept = λ m. absurd (not-in 0 (1 ∷ 2 ∷ 3 ∷ 4 ∷ 5 ∷ []) (λ t. t) m);
+          mapKept = λ m. absurd (not-in 0 _ (λ t. t) m);
         })
 
     by-witness : (w : Witness) → Kept (merged q n states table map section w)
     unfolding merged isIn
     by-witness (found t i j k) =
-        record { listed = is-in 6 _ tt; sectionKept = λ h. refl; mapKept = λ m. absurd (not-in 6 (1 ∷ 2 ∷ 3 ∷ 4 ∷ 5 ∷ []) (λ t. t) m) }
+        record { listed = is-in 6 _ tt; sectionKept = λ h. refl; mapKept = λ m. absurd (not-in 6 _ (λ t. t) m) }
     by-witness nothing = at-end
 
     by-table : Kept (mergedTable q n states table map section)
@@ -103,12 +103,12 @@ module _ (sections : List ℕ) (k : ℕ) (indices received erased : List ℕ) (s
     listed = is-in 11 _ tt;
     wordsKept = λ h. (refl, refl);
     costsKept =
-        λ m. absurd (not-in 11 (8 ∷ 9 ∷ 10 ∷ []) (λ t. t) m);
+        λ m. absurd (not-in 11 _ (λ t. t) m);
   }
   by-path (some d ws) = record {
     listed = is-in 0 _ tt;
     wordsKept = λ h. absurd (not-suc-le-zero h);
-    costsKept = λ m. absurd (not-in 0 (8 ∷ 9 ∷ 10 ∷ []) (λ t. t) m);
+    costsKept = λ m. absurd (not-in 0 _ (λ t. t) m);
   }
 
   -- a refusal that keeps all three
