@@ -72,7 +72,7 @@ module _ (words : ℕ → List Word) (ends : ℕ → Bool) (dist : ℕ → Word 
       behind-by k b (C .member)
       (extended _ _ _ (ap (extend (dist b (C .member)) (λ vs. C .member ∷ vs)) (sym (ahead-is k (suc b) (C .member .goal))) ∙ C .offers))
 
-  -- and there is none
+  -- where no path is best there is none
   pub none-listed : (k b s : ℕ) → bestPath words ends dist k b s ≡ none → chainPaths words ends k b s ≡ []
   unfolding bestPath
   none-listed k b s e = best-none (pathDistance dist b) (chainPaths words ends k b s) e

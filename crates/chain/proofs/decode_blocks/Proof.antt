@@ -1,6 +1,6 @@
 -- `chain::decode_blocks` meets its contract: a short buffer is answered as in the definition. Where none is short,
 -- every check is passed, so the two passes leave the definition's cost table and, where the start state's place in
--- it is not top, its first path of least distance.
+-- it is not unreached, its first path of least distance.
 use borrow.Author.Needs.{needs}
 use Rattle.chain.proofs.Buffers.{Room, room-of}
 use Rattle.chain.proofs.Faults.{ends-short}
