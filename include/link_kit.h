@@ -53,6 +53,13 @@ extern "C" {
 #define LINK_ANY_SECTION 24724u                                       /* numbers */
 #define LINK_ANY_TEXT 1024u                                           /* bytes */
 
+/* Stack, in bytes: what a call takes of its thread's stack, with all that it calls. A program whose loader binds memcpy and memset only when they are
+ * first called needs some 4,096 bytes more for that one call. */
+#define LINK_MERGE_STACK 35840u
+#define LINK_READ_BACK_STACK 19456u
+#define LINK_DECODE_STACK 149504u
+#define LINK_LISTING_STACK 105472u
+
 /* Merges a table file. Success returns the section's length; the map's place t W + i is then the vertex of word i at depth t.
  * Outcomes 0 to 7, checked in the order 1, 2, 3, 4, 5, 6, 7. */
 uint32_t link_merge(const uint8_t *file, size_t file_len, uint16_t *map, size_t map_len, uint16_t *section, size_t section_len,

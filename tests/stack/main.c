@@ -1,0 +1,88 @@
+/* Calls each function of the archive on a stack of just as many bytes as the header says that it takes, with a page behind it that may not be touched:
+ * a call that takes more ends this program. The calls go along every branch that has arrays of its own. It also says where the header asks for over a
+ * page too much: the stack is painted before the call, so it shows how deep the call went. */
+#define _GNU_SOURCE
+#include "link_kit.h"
+#include <stdio.h>
+#include <string.h>
+#include <sys/mman.h>
+#include <ucontext.h>
+
+enum { PAGE = 4096, PAINT = 0xA5 };
+
+/* Two words, 00 and 11; and three words that force a fourth. */
+static const uint8_t table[] = {2, 2, 1, 2, 0, 0, 0, 0, 0, 0, 0, 5, 0};
+static const uint8_t broken[] = {2, 2, 1, 3, 0, 0, 0, 0, 0, 0, 0, 0, 0, 1, 0, 4, 0};
+
+static uint8_t file[LINK_ANY_FILE], text[LINK_ANY_TEXT];
+static uint16_t map[LINK_ANY_MAP], section[LINK_ANY_SECTION];
+static uint8_t indices[LINK_MOST_BLOCKS], erased[LINK_MOST_BLOCKS], goals[LINK_MOST_BLOCKS];
+static uint16_t received[LINK_MOST_BLOCKS], labels[LINK_MOST_BLOCKS];
+static uint32_t costs[LINK_COSTS_LEN(LINK_MOST_BLOCKS)], values[4], outcome;
+
+static void merge_table(void) {
+    outcome = link_merge(table, sizeof table, map, LINK_ANY_MAP, section, LINK_ANY_SECTION, values);
+}
+
+static void merge_broken(void) {
+    outcome = link_merge(broken, sizeof broken, map, LINK_ANY_MAP, section, LINK_ANY_SECTION, values);
+}
+
+static void read_section(void) {
+    outcome = link_read_back(section, 22, file, LINK_ANY_FILE, values);
+}
+
+static void decode_frame(void) {
+    outcome = link_decode(section, 22, 1, indices, LINK_MOST_BLOCKS, received, LINK_MOST_BLOCKS, erased, LINK_MOST_BLOCKS, 0, 0, costs,
+                          LINK_COSTS_LEN(LINK_MOST_BLOCKS), labels, LINK_MOST_BLOCKS, goals, LINK_MOST_BLOCKS, values);
+}
+
+static void list_table(void) {
+    outcome = link_listing(table, sizeof table, text, LINK_ANY_TEXT, values);
+}
+
+static void list_broken(void) {
+    outcome = link_listing(broken, sizeof broken, text, LINK_ANY_TEXT, values);
+}
+
+/* Runs a call on a stack of `size` bytes above a page that may not be touched, and gives how many of them it used. */
+static size_t used_by(void (*call)(void), size_t size) {
+    static ucontext_t here, there;
+    size_t whole = (size + PAGE - 1) / PAGE * PAGE, used = size;
+    unsigned char *guard = mmap(NULL, PAGE + whole, PROT_READ | PROT_WRITE, MAP_PRIVATE | MAP_ANONYMOUS, -1, 0);
+    unsigned char *stack = guard + PAGE;
+    if (guard == MAP_FAILED || mprotect(guard, PAGE, PROT_NONE) != 0 || getcontext(&there) != 0)
+        return 0;
+    memset(stack, PAINT, size);
+    there.uc_stack.ss_sp = stack;
+    there.uc_stack.ss_size = size;
+    there.uc_link = &here;
+    makecontext(&there, call, 0);
+    swapcontext(&here, &there);
+    while (used > 0 && stack[size - used] == PAINT)
+        used--;
+    munmap(guard, PAGE + whole);
+    return used;
+}
+
+static void show(const char *name, void (*call)(void), size_t size) {
+    size_t used = used_by(call, size);
+    printf("%s: outcome %u within the header's %zu bytes\n", name, (unsigned)outcome, size);
+    if (used == 0 || used + PAGE < size)
+        printf("    the header asks for over a page more than that\n");
+}
+
+int main(void) {
+    /* What is bound at its first call is bound here, on a stack that has room for it. */
+    merge_table();
+    read_section();
+    decode_frame();
+    list_table();
+    show("link_merge, accepted", merge_table, LINK_MERGE_STACK);
+    show("link_read_back", read_section, LINK_READ_BACK_STACK);
+    show("link_decode", decode_frame, LINK_DECODE_STACK);
+    show("link_merge, not rectangular", merge_broken, LINK_MERGE_STACK);
+    show("link_listing, accepted", list_table, LINK_LISTING_STACK);
+    show("link_listing, not rectangular", list_broken, LINK_LISTING_STACK);
+    return 0;
+}
