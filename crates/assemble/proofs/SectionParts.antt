@@ -18,7 +18,7 @@ use Rattle.trellis.proofs.Lists.{length-run}
 use Rattle.trellis.proofs.Write.{wrote-then, wrote-length}
 use Rattle.layout.specs.inner.States.{marksBelow, markedBelow, Bits}
 use Rattle.layout.specs.inner.Pieces.{stepTakers, stepPairs, stepSymbols}
-use Rattle.layout.proofs.AllPieces.{pairs-size, symbols-size}
+use Rattle.layout.proofs.AllPieces.{pairs-size}
 use Rattle.assemble.specs.inner.Numbers.{firstNumbers, numbersOf, Parts}
 
 regroup : (h a b c d e f : List ℕ) → (((((h ++ a) ++ b) ++ c) ++ d) ++ e) ++ f ≡ h ++ (a ++ (b ++ (c ++ (d ++ (e ++ f)))))
@@ -56,9 +56,6 @@ module _ {n : ℕ} {counts edgeCounts rootMarks goalMarks m labels words b0 : Li
 
   pairs-long : length (joinedUp (stepPairs m labels n) n) ≡ 2 * total
   pairs-long = joined-size (stepPairs m labels n) (stepTakers m labels n) 2 n (pairs-size m labels n)
-
-  symbols-long : length (joinedUp (stepSymbols m labels n) n) ≡ 1 * total
-  symbols-long = joined-size (stepSymbols m labels n) (stepTakers m labels n) 1 n (symbols-size m labels n)
 
   roots-long : length (markedBelow rootMarks mostStates) ≡ marksBelow rootMarks mostStates
   roots-long = marked-length rootMarks (P .rootBits) mostStates (omega arith)

@@ -7,13 +7,14 @@ use Prim.Native.Nat.{ℕ, suc, _+_, _-_, _*_, _/_, _%_, _≤_, _<_}
 use native.Mathlib.Nat.{zero-add}
 use native.Mathlib.Decide.{decLt}
 use native.Mathlib.Omega.{arith}
-use lib.ListN.{length, getD, drop, length-map, List·getD-map, List·getD-append}
+use lib.ListN.{length, getD, length-map, List·getD-map}
 use Rattle.trellis.specs.Bounds.{mostStates, costsABlock}
 use Rattle.trellis.specs.Lists.{_∈_, first, over}
 use Rattle.trellis.specs.Word.{Word, word, wordAt, Before}
 use Rattle.trellis.specs.Layout.{sectionWords}
 use Rattle.trellis.specs.Outcome.{Outcome, success, noPath}
 use Rattle.trellis.proofs.Lists.{length-run, each-at}
+use Rattle.trellis.proofs.Buffers.{over-front}
 use Rattle.paths.specs.Choice.{Choice, none, some}
 use Rattle.paths.specs.Chain.{endsIn, costTable}
 use Rattle.paths.specs.inner.Ordered.{Ordered}
@@ -99,9 +100,6 @@ module _ (sections : List ℕ) (k : ℕ) (indices received erased : List ℕ) (s
 
   -- ---- the buffers
 
-  front : (vs l : List ℕ) (j : ℕ) → j < length vs → getD (over vs l) j 0 ≡ getD vs j 0
-  front vs l j h = List·getD-append vs (drop (length vs) l) 0 j h
-
   tabled : Tabled sections indices received erased start end (over (tableOf sections k indices received erased start end) costs)
   unfolding tableOf
   tabled = record { at = at }
@@ -116,7 +114,7 @@ module _ (sections : List ℕ) (k : ℕ) (indices received erased : List ℕ) (s
           let n = length-run place 0 (costsABlock * length indices) in
           let e : (costsABlock * b + s) / costsABlock ≡ b = omega arith in
           let f : (costsABlock * b + s) % costsABlock ≡ s = omega arith in
-          front (tableOf sections k indices received erased start end) costs (costsABlock * b + s) (omega arith)
+          over-front (tableOf sections k indices received erased start end) costs (costsABlock * b + s) (omega arith)
           ∙ each-at place (costsABlock * length indices) (costsABlock * b + s) 0 (omega arith)
           ∙ ap₂ (leastDistance sections indices received erased start end) e f
 
@@ -145,7 +143,7 @@ module _ (sections : List ℕ) (k : ℕ) (indices received erased : List ℕ) (s
       → getD (over (map f ws) old) b 0 ≡ f (wordAt ws b)
   written f blank ws old b h =
       let l = length-map ws f in
-      front (map f ws) old b (omega arith) ∙ ap (getD (map f ws) b) (sym blank) ∙ List·getD-map f ws b (word 0 0 0)
+      over-front (map f ws) old b (omega arith) ∙ ap (getD (map f ws) b) (sym blank) ∙ List·getD-map f ws b (word 0 0 0)
 
   some-right : Passed → {d : ℕ} {ws : List Word} → best ≡ some d ws
       → Won sections indices received erased start end d (foundWith (some d ws))

@@ -2,7 +2,7 @@
 -- lost in the shift as it is in the remainder. Of a label of fewer than eight symbols nothing is lost, so s is the last symbol and the
 -- label stands in front.
 use mathlib.Core.Path.{_≡_, sym, _∙_, ap₂}
-use Prim.Native.Nat.{ℕ, suc, _+_, _-_, _*_, _/_, _%_, _^_, _<_, _≤_}
+use Prim.Native.Nat.{ℕ, suc, _+_, _*_, _/_, _%_, _^_, _<_, _≤_}
 use native.Mathlib.Omega.{arith}
 use native.Mathlib.Nat.{pow-suc, pow-le-pow-right, mod-eq-of-lt, lt-of-lt-of-le}
 use lib.Arith.{mod-mul, digits-div, digits-mod}
@@ -46,9 +46,3 @@ module _ (n label s : ℕ) (short : label < 4 ^ n) (room : n < 8) (small : s < 4
   appended-before t l =
       let e : (label * 4 + s) / 4 ≡ label = omega arith in
       symbol-drop n t (appended label s) l ∙ rw (appended-is, e)
-
-  pub appended-front : front (suc n) n (appended label s) ≡ label
-  unfolding front
-  appended-front =
-      let e : suc n - n ≡ 1 = omega arith in
-      rw (appended-is, e) (omega arith)

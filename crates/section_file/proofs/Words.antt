@@ -3,23 +3,22 @@
 -- states ascend.
 use mathlib.Core.Path.{_≡_, sym, ap, subst, _∙_}
 use mathlib.Core.Bool.{Bool}
-use mathlib.Core.List.{List, [], _∷_, map, Memᴰ·of-map}
+use mathlib.Core.List.{List, map, Memᴰ·of-map}
 use Prim.Native.Nat.{ℕ, zero, suc, _+_, _*_, _^_, _≤_, _<_}
 use native.Mathlib.Omega.{arith}
-use native.Mathlib.Nat.{not-suc-le-zero, add-zero, zero-add, pow-succ', mul-assoc}
-use lib.ListN.{length}
+use native.Mathlib.Nat.{add-zero, zero-add, pow-succ', mul-assoc}
 use lib.Dec.{T}
-use Rattle.trellis.specs.Lists.{_∈_, Once, run, each}
-use Rattle.trellis.specs.Word.{Word, word, wordAt, Before, Table}
+use Rattle.trellis.specs.Lists.{_∈_, run, each}
+use Rattle.trellis.specs.Word.{Word, word, Before}
 use Rattle.trellis.specs.Own.{Edge, edgeLess}
 use Rattle.trellis.specs.Section.{Path, pathsFrom, packOnto, wordOf, wordsOf}
 use Rattle.trellis.specs.Layout.{nOf, statesOf, vertexCountOf, edgeCountOf, edgesBefore, rootState, goalState}
 use Rattle.trellis.specs.Layout.{edgeNumber, stepEdges, sectionWords}
-use Rattle.trellis.proofs.Lists.{From, of-run, of-each, in-place}
+use Rattle.trellis.proofs.Lists.{From, of-run, of-each}
 use Rattle.trellis.proofs.Ascending.{Ascends}
-use Rattle.trellis.proofs.ThreeNumbers.{lower-of, lower-never}
+use Rattle.trellis.proofs.ThreeNumbers.{lower-of}
 use Rattle.paths.proofs.Ordered.{of-flatMap, run-ordered}
-use Rattle.paths.specs.inner.Ordered.{Ordered, leads}
+use Rattle.paths.specs.inner.Ordered.{Ordered}
 use Rattle.paths.proofs.Ascent.{Orderly, Symbols, no-more, one-more, Bounded, PathFits}
 use Rattle.paths.proofs.Words.{whole-fits, words-ordered}
 use Rattle.section_file.specs.Usable.{stepEdge}
@@ -47,17 +46,6 @@ run-ascends {A} less f at (suc count) h = (
         subst (λ x. T (less x y)) (ap f (add-zero at))
         (subst (λ x. T (less (f (at + 0)) x)) (ap f (shift (F .at)) ∙ sym (F .is))
         (h 0 (suc (F .at)) (omega arith) (omega (arith, F .below))))
-
--- an ordered list has no repeats, and its places ascend
-pub ordered-once : (l : List Word) → Ordered Before l → Once l
-ordered-once [] o = tt
-ordered-once (x ∷ l) (leads f o) = (λ m. lower-never _ _ _ (f x m), ordered-once l o)
-
-pub ordered-places : (l : List Word) → Ordered Before l → (i j : ℕ) → i < j → j < length l → Before (wordAt l i) (wordAt l j)
-ordered-places [] o i j a b = absurd (not-suc-le-zero b)
-ordered-places (x ∷ l) (leads f o) i zero a b = absurd (not-suc-le-zero a)
-ordered-places (x ∷ l) (leads f o) zero (suc j) a b = f (wordAt l j) (in-place (word 0 0 0) l j (omega arith))
-ordered-places (x ∷ l) (leads f o) (suc i) (suc j) a b = ordered-places l o i j (omega arith) (omega arith)
 
 -- ---- labels of n symbols
 
@@ -145,16 +133,6 @@ module _ {l : List ℕ} (s : Sound l) where
         fits = whole-fits (stepEdges l) (nOf l) (vertexCountOf l (nOf l)) bounded (s .nFrom) (z .source) (x .0) (x .1);
         is = sym (x .2);
       }
-
-  pub words-table : Table (nOf l) (sectionWords l)
-  words-table = record {
-    some = s .nFrom;
-    fits = λ w m. let r = read-of w m in let e = ap (λ (v : Word). v .label) (r .is) in omega (arith, pack-short (r .fits .symbols-fit) 0);
-    ascends = ordered-places (sectionWords l) words-ascend;
-  }
-
-  pub words-once : Once (sectionWords l)
-  words-once = ordered-once (sectionWords l) words-ascend
 
   pub root-below : (w : Word) → w ∈ sectionWords l → w .root < statesOf l
   root-below w m = let r = read-of w m in omega (arith, ap (λ (v : Word). v .root) (r .is), s .rootsBelow (r .vertex) (r .below))

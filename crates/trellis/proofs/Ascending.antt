@@ -251,10 +251,6 @@ ranked (x ∷ l) s a m = go (λ u. ranked l s (a .1) u) (List·Memᴰ·cases-con
         let p = there (after s u) (r u) (ltb x s) refl in
         record { below = p .0; is = p .1 }
 
--- so equal ranks are of equal elements
-pub rank-same : (l : List ℕ) (s z : ℕ) → Ascends ltb l → s ∈ l → z ∈ l → rank s l ≡ rank z l → s ≡ z
-rank-same l s z a m k e = sym (ranked l s a m .is) ∙ ap (λ r. getD l r 0) e ∙ ranked l z a k .is
-
 -- and place v has the element of rank v
 pub rank-at : (l : List ℕ) (v : ℕ) → Ascends ltb l → v < length l → rank (getD l v 0) l ≡ v
 unfolding rank

@@ -8,7 +8,7 @@ use lib.ListN.{length, getD, drop, length-append, length-drop, List·getD-append
 use lib.Seq.{ext-getD, getD-append-add, getD-drop}
 use Rattle.trellis.specs.Lists.{over}
 
-over-front : (vs l : List ℕ) (j : ℕ) → j < length vs → getD (over vs l) j 0 ≡ getD vs j 0
+pub over-front : (vs l : List ℕ) (j : ℕ) → j < length vs → getD (over vs l) j 0 ≡ getD vs j 0
 over-front vs l j h = List·getD-append vs (drop (length vs) l) 0 j h
 
 over-behind : (vs l : List ℕ) (j : ℕ) → length vs ≤ j → getD (over vs l) j 0 ≡ getD l j 0

@@ -50,20 +50,6 @@ module _ {A : Type 0} (eq : A → A → Bool) where
         go true e = inr (record { none = ap unless e; seen = in-yes eq ok rf x l (subst T (sym e) tt) })
         go false e = inl (record { one = ap unless e; never = λ m. subst T e (in-of eq ok rf x l m) })
 
-    pub new-le : (x : A) (l : List A) → new x l ≤ 1
-    new-le x l = go (look x l)
-      where
-        go : Known x l → new x l ≤ 1
-        go (inl f) = omega arith
-        go (inr s) = omega arith
-
-    pub new-of : (x : A) (l : List A) → (x ∈ l → ⊥) → new x l ≡ 1
-    new-of x l h = go (look x l)
-      where
-        go : Known x l → new x l ≡ 1
-        go (inl f) = f .one
-        go (inr s) = absurd (h (s .seen))
-
     pub stale-of : (x : A) (l : List A) → x ∈ l → new x l ≡ 0
     stale-of x l m = go (look x l)
       where

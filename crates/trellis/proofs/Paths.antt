@@ -74,14 +74,6 @@ module _ (s c : ℕ → ℕ → ℕ) where
   abbrev pub ecount : ℕ → ℕ → ℕ
   ecount m t = distinct sameEdge (upto (step t) m)
 
-  pub vcount-suc : (m t : ℕ) → vcount (suc m) t ≡ vnew t m + vcount m t
-  unfolding upto distinct
-  vcount-suc m t = refl
-
-  pub ecount-suc : (m t : ℕ) → ecount (suc m) t ≡ enew t m + ecount m t
-  unfolding upto distinct
-  ecount-suc m t = refl
-
   to-old : (t i : ℕ) → step t i ∈ upto (step t) i → c (suc t) i ∈ upto (c (suc t)) i
   to-old t i m = let w = from-upto (step t) i (step t i) m in
       in-upto (c (suc t)) i (w .at) (c (suc t) i) (w .below) (ap (λ (e : Edge). e .to) (w .is))
