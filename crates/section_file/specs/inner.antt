@@ -2,4 +2,5 @@
 pub mod Steps
 pub mod Sound
 pub mod Places
+pub mod View
 pub mod Answer

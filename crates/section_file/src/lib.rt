@@ -45,6 +45,19 @@ struct Edge {
     to: u16,
 }
 
+// A section's q and n, the places where its root states, its goal states, its pairs (from, to) and its symbols begin, how many edges it
+// has, and where it ends.
+pub struct View {
+    pub q: u16,
+    pub n: usize,
+    pub roots: usize,
+    pub goals: usize,
+    pub pairs: usize,
+    pub symbols: usize,
+    pub edges: usize,
+    pub end: usize,
+}
+
 // Where the root states, the goal states, the pairs (from, to) and the symbols begin, and where the section ends.
 struct Places {
     roots: usize,
