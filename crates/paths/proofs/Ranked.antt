@@ -1,4 +1,4 @@
--- One number for a distance and a word. Label and goal together stay below 4294967296, so the number divided by it is the distance, and
+-- One number for a distance and a word. Label and goal together stay below 2^22, so the number divided by it is the distance, and
 -- a smaller distance always gives a smaller number. Symbol by symbol the costs add up to the distance, and the symbols, each at its
 -- place, to the label; what is added behind the block brings the goal. So the least number over the words of a root has the least
 -- distance; among the words of that distance it belongs to the one with the least label and goal, and as the words ascend, that is the
@@ -22,7 +22,7 @@ use Rattle.trellis.specs.Section.{Path, leaving, pathsFrom, packOnto, wordOf, w
 use Rattle.paths.specs.Chain.{rootedAt}
 use Rattle.paths.specs.inner.Costs.{plus, minAll, least, firstWith}
 use Rattle.paths.specs.inner.Sections.{sectionLeast}
-use Rattle.paths.specs.inner.Ranked.{ranked, topRank, rankedCost, rankedRest}
+use Rattle.paths.specs.inner.Ranked.{labelUnit, distanceUnit, ranked, topRank, rankedCost, rankedRest}
 use Rattle.paths.specs.inner.Ordered.{Ordered, leads, ended}
 use Rattle.paths.proofs.Sections.{costFrom, sectionTrace}
 use Rattle.paths.proofs.Ordered.{ordered-keep, ordered-as}
@@ -55,7 +55,7 @@ pack-fits {k = suc k} {us = a ∷ rest} (one-more p s) =
 
 -- what the symbols add together: their cost, and their label
 ranked-from : (n : ℕ) (cost : ℕ → ℕ → ℕ) {k : ℕ} {us : List ℕ} → Symbols k us → (t : ℕ) → t + k ≡ n
-    → costFrom (rankedCost n cost) t us ≡ costFrom cost t us * 4294967296 + packOnto 0 us * 65536
+    → costFrom (rankedCost n cost) t us ≡ costFrom cost t us * distanceUnit + packOnto 0 us * labelUnit
 unfolding costFrom packOnto rankedCost ranked
 ranked-from n cost no-more t h = refl
 ranked-from n cost {k = suc k} {us = a ∷ rest} (one-more p s) t h =
@@ -66,26 +66,26 @@ ranked-from n cost {k = suc k} {us = a ∷ rest} (one-more p s) t h =
 -- ---- one word: its distance f, its label and goal in one number K, and all three in one number F
 
 record Ranks (f F K : ℕ) : Type 0 where
-  front : F / 4294967296 ≡ f
-  whole : f < 4294967295 → F ≡ f * 4294967296 + K
-  small : K < 4294967296
+  front : F / distanceUnit ≡ f
+  whole : f < 4294967295 → F ≡ f * distanceUnit + K
+  small : K < distanceUnit
 
-ranks : (rest : ℕ → ℕ) (d label goal : ℕ) → rest goal ≤ 4294967295 → label < 65536 → goal < 65536
-    → Ranks (plus 4294967295 d (rest goal)) (plus topRank (d * 4294967296 + label * 65536) (rankedRest rest goal)) (label * 65536 + goal)
+ranks : (rest : ℕ → ℕ) (d label goal : ℕ) → rest goal ≤ 4294967295 → label < 65536 → goal < labelUnit
+    → Ranks (plus 4294967295 d (rest goal)) (plus topRank (d * distanceUnit + label * labelUnit) (rankedRest rest goal)) (label * labelUnit + goal)
 unfolding plus rankedRest ranked
 ranks rest d label goal h l g = go (ltb (rest goal) 4294967295) refl
   where
     go : (b : Bool) → ltb (rest goal) 4294967295 ≡ b
         → Ranks (min 4294967295 (d + rest goal))
-        (min topRank (d * 4294967296 + label * 65536 + cond b (rest goal * 4294967296 + (0 * 65536 + goal)) topRank)) (label * 65536 + goal)
+        (min topRank (d * distanceUnit + label * labelUnit + cond b (rest goal * distanceUnit + (0 * labelUnit + goal)) topRank)) (label * labelUnit + goal)
     go true e = let k = ltb-true (rest goal) 4294967295 e in record { front = omega arith; whole = λ z. omega arith; small = omega arith }
     go false e = let k = ltb-false (rest goal) 4294967295 e in record { front = omega arith; whole = λ z. omega arith; small = omega arith }
 
 -- what is not cheaper, and comes no sooner where it is as cheap
-above : {f F K : ℕ} → Ranks f F K → (c k : ℕ) → c < 4294967295 → k < 4294967296 → c ≤ f → k ≤ K → c * 4294967296 + k ≤ F
+above : {f F K : ℕ} → Ranks f F K → (c k : ℕ) → c < 4294967295 → k < distanceUnit → c ≤ f → k ≤ K → c * distanceUnit + k ≤ F
 above {f} {F} {K} r c k h s l j = go (decLe f c)
   where
-    go : Dec (f ≤ c) → c * 4294967296 + k ≤ F
+    go : Dec (f ≤ c) → c * distanceUnit + k ≤ F
     go (yes a) = let w = r .whole (omega arith) in omega arith
     go (no a) = let w = r .front in omega arith
 
@@ -107,7 +107,7 @@ least-under top f (y ∷ xs) x m =
 
 module _ {A : Type 0} {f F K : A → ℕ} where
   -- the distance of the least number is the least distance
-  least-front : (xs : List A) → ((x : A) → x ∈ xs → Ranks (f x) (F x) (K x)) → minAll topRank F xs / 4294967296 ≡ minAll 4294967295 f xs
+  least-front : (xs : List A) → ((x : A) → x ∈ xs → Ranks (f x) (F x) (K x)) → minAll topRank F xs / distanceUnit ≡ minAll 4294967295 f xs
   unfolding minAll
   least-front [] r = omega arith
   least-front (x ∷ xs) r =
@@ -118,21 +118,21 @@ module _ {A : Type 0} {f F K : A → ℕ} where
   -- the first of those with the least distance has the least number
   least-first : {xs : List A} → Ordered (λ x y. K x < K y) xs → ((x : A) → x ∈ xs → Ranks (f x) (F x) (K x))
       → (c : ℕ) → c < 4294967295 → ((x : A) → x ∈ xs → c ≤ f x)
-      → (w : A) → K w < 4294967296 → firstWith (λ x. eqb (f x) c) xs ≡ just w → minAll topRank F xs ≡ c * 4294967296 + K w
+      → (w : A) → K w < distanceUnit → firstWith (λ x. eqb (f x) c) xs ≡ just w → minAll topRank F xs ≡ c * distanceUnit + K w
   unfolding firstWith minAll
   least-first ended r c h l w k e = let z : _≡_ {A = ℕ} 0 1 = cc in absurd (omega arith)
   least-first (leads {x = x} {xs = xs} a o) r c h l w k e =
       go (eqb (f x) c) refl (least-first o (λ y m. r y (List·Memᴰ·tail m)) c h (λ y m. l y (List·Memᴰ·tail m)) w k) e
     where
-      go : (b : Bool) → eqb (f x) c ≡ b → (firstWith (λ x. eqb (f x) c) xs ≡ just w → minAll topRank F xs ≡ c * 4294967296 + K w)
-          → cond b (just x) (firstWith (λ x. eqb (f x) c) xs) ≡ just w → min (F x) (minAll topRank F xs) ≡ c * 4294967296 + K w
+      go : (b : Bool) → eqb (f x) c ≡ b → (firstWith (λ x. eqb (f x) c) xs ≡ just w → minAll topRank F xs ≡ c * distanceUnit + K w)
+          → cond b (just x) (firstWith (λ x. eqb (f x) c) xs) ≡ just w → min (F x) (minAll topRank F xs) ≡ c * distanceUnit + K w
       go true t i e =
           let q : x ≡ w = cc in
           let j = ap K q in
           let u = eqb-true (f x) c t in
           let v = r x (List·Memᴰ·head refl) .whole (omega arith) in
           let s
-          = least-from topRank F xs (c * 4294967296 + K w) (omega arith)
+          = least-from topRank F xs (c * distanceUnit + K w) (omega arith)
           (λ y m. let z = a y m in above (r y (List·Memᴰ·tail m)) c (K w) h k (l y (List·Memᴰ·tail m)) (omega arith)) in
           omega arith
       go false t i e =
@@ -169,13 +169,13 @@ pub record Rankable (edges : ℕ → List Edge) (n goals : ℕ) (roots : List �
 -- the number of a distance, a label and a goal, and what can be read off it
 pub record Reads (rank d label goal : ℕ) : Type 0 where
   pub is : rank ≡ ranked d label goal
-  pub below : rank % 4294967296 ≡ label * 65536 + goal
-  pub label-is : rank % 4294967296 / 65536 ≡ label
-  pub goal-is : rank % 4294967296 % 65536 ≡ goal
+  pub below : rank % distanceUnit ≡ label * labelUnit + goal
+  pub label-is : rank % distanceUnit / labelUnit ≡ label
+  pub goal-is : rank % distanceUnit % labelUnit ≡ goal
   pub label-lt : label < 65536
   pub goal-lt : goal < mostStates
 
-reads : {rank : ℕ} (d label goal : ℕ) → rank ≡ d * 4294967296 + (label * 65536 + goal) → label < 65536 → goal < mostStates
+reads : {rank : ℕ} (d label goal : ℕ) → rank ≡ d * distanceUnit + (label * labelUnit + goal) → label < 65536 → goal < mostStates
     → Reads rank d label goal
 unfolding ranked
 reads d label goal e l g = record { is = e; below = omega arith; label-is = omega arith; goal-is = omega arith; label-lt = l; goal-lt = g }
@@ -190,7 +190,7 @@ module _ {words : ℕ → List Word} {dist : ℕ → Word → ℕ} {b : ℕ} {ed
   mine v = map (spell v) (pathsFrom edges n 0 v)
 
   abbrev distRanked : Word → ℕ
-  distRanked w = dist b w * 4294967296 + w .label * 65536
+  distRanked w = dist b w * distanceUnit + w .label * labelUnit
 
   abbrev restRanked : ℕ → ℕ
   restRanked s = min topRank (rankedRest rest s)
@@ -203,7 +203,7 @@ module _ {words : ℕ → List Word} {dist : ℕ → Word → ℕ} {b : ℕ} {ed
   unfolding wordOf
   spells-ranked v =
       record {
-        same-cost = λ p m. ap (λ d. d * 4294967296 + packOnto 0 (p .symbols) * 65536) (U .same-cost v p m)
+        same-cost = λ p m. ap (λ d. d * distanceUnit + packOnto 0 (p .symbols) * labelUnit) (U .same-cost v p m)
             ∙ sym (ranked-from n cost (whole-fits edges n goals (R .fits) (R .some) v p m .symbols-fit) 0 (omega arith));
         same-goal = λ p. refl;
       }
@@ -233,7 +233,7 @@ module _ {words : ℕ → List Word} {dist : ℕ → Word → ℕ} {b : ℕ} {ed
   onRank w = plus topRank (distRanked w) (restRanked (w .goal))
 
   abbrev key : Word → ℕ
-  key w = w .label * 65536 + w .goal
+  key w = w .label * labelUnit + w .goal
 
   mine-ranks : (v : ℕ) (w : Word) → w ∈ mine v → Ranks (onWord w) (onRank w) (key w)
   mine-ranks v w m =
@@ -276,8 +276,8 @@ module _ {words : ℕ → List Word} {dist : ℕ → Word → ℕ} {b : ℕ} {ed
       (least-capped edges (rankedCost n cost) topRank (λ g. rankedRest rest (goalOf g)) (n - 1) 0 v))
 
   -- the least number has the least distance
-  pub ranked-cost : (v : ℕ) → rankFrom v / 4294967296 ≡ leastFrom v
-  ranked-cost v = ap (λ x. x / 4294967296) (sym (rank-is v)) ∙ least-front (mine v) (mine-ranks v) ∙ distance-is v
+  pub ranked-cost : (v : ℕ) → rankFrom v / distanceUnit ≡ leastFrom v
+  ranked-cost v = ap (λ x. x / distanceUnit) (sym (rank-is v)) ∙ least-front (mine v) (mine-ranks v) ∙ distance-is v
 
   -- and below it the label and the goal of the word that the distances name
   pub ranked-word : (v : ℕ) → v ∈ roots → leastFrom v < 4294967295

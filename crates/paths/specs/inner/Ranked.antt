@@ -4,13 +4,19 @@ use mathlib.Core.Bool.{cond}
 use Prim.Native.Nat.{ℕ, suc, _+_, _-_, _*_, _^_}
 use lib.Dec.{ltb}
 
--- label and goal take 16 bits each, the distance what is above them
-unfoldable pub ranked : ℕ → ℕ → ℕ → ℕ
-ranked d label goal = d * 4294967296 + (label * 65536 + goal)
+-- the goal takes 6 bits, the label the 16 above them, the distance what is above both
+abbrev pub labelUnit : ℕ
+labelUnit = 64
 
--- no path: its distance is 4294967295
+abbrev pub distanceUnit : ℕ
+distanceUnit = 4194304
+
+unfoldable pub ranked : ℕ → ℕ → ℕ → ℕ
+ranked d label goal = d * distanceUnit + (label * labelUnit + goal)
+
+-- no path: its distance is 4294967295. Numbers up to it have 54 bits, so that no sum of two of them wraps
 abbrev pub topRank : ℕ
-topRank = 18446744073709551615
+topRank = 18014398509481983
 
 -- what the symbol a adds as symbol t of n: its cost, and its place in the label
 unfoldable pub rankedCost : ℕ → (ℕ → ℕ → ℕ) → ℕ → ℕ → ℕ
