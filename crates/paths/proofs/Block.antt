@@ -5,7 +5,7 @@ use mathlib.Core.Path.{_≡_, refl, sym, ap, ap₂, _∙_}
 use mathlib.Core.Bool.{Bool, true, false, cond, not}
 use mathlib.Core.List.{List, [], _∷_, map}
 use mathlib.Core.Option.{some as just}
-use Prim.Native.Nat.{ℕ, suc, _≤_, _<_, min}
+use Prim.Native.Nat.{ℕ, _≤_, _<_, min}
 use native.Mathlib.Omega.{arith}
 use lib.Dec.{eqb, ltb, ltb→lt, nltb→le, T}
 use Rattle.trellis.specs.Lists.{_∈_}
@@ -13,16 +13,13 @@ use Rattle.trellis.specs.Word.{Word}
 use Rattle.trellis.specs.Own.{Edge}
 use Rattle.trellis.specs.Section.{Path, pathsFrom}
 use Rattle.paths.specs.Choice.{Choice, none, some}
-use Rattle.paths.specs.Chain.{rootedAt}
-use Rattle.paths.specs.inner.Costs.{plus, minAll, least, firstWith, next, orStop, trace}
+use Rattle.paths.specs.inner.Costs.{plus, minAll, firstWith}
 use Rattle.paths.specs.inner.Sections.{sectionLeast}
-use Rattle.paths.specs.inner.Chains.{chainGraph, atEnd, chainLeast, chainTrace}
 use Rattle.paths.proofs.Choose.{chooseAll}
 use Rattle.paths.proofs.First.{all-chosen}
 use Rattle.paths.proofs.Capped.{capped-extend, capped-all, capped-had, min-same-in, capped}
 use Rattle.paths.proofs.Trace.{chosen-first, extended}
 use Rattle.paths.proofs.Sections.{pathOffer, section-least, section-trace, costFrom, sectionTrace}
-use Rattle.paths.proofs.Chain.{least-le}
 
 -- a number as an offer
 unfoldable pub known : ℕ → ℕ → Choice (Unit {0})
@@ -100,37 +97,3 @@ module _ {cost : ℕ → ℕ → ℕ} {state : ℕ → ℕ} {dist : Word → ℕ
       first-map (λ w. eqb (onWord w) c) spell (pathsFrom edges n 0 v) (C .member)
       (chosen-first top (pathOffer cost final 0) (λ p. onWord (spell p)) on-path C h)
       ∙ ap (λ p. just (spell p)) (sym (section-trace edges cost final top (λ g. rest (state g)) number-is n 0 v o h ∙ q))
-
-module _ (words : ℕ → List Word) (ends : ℕ → Bool) (dist : ℕ → Word → ℕ) (top : ℕ) where
-  module _ {cost : ℕ → ℕ → ℕ} {state : ℕ → ℕ} {spell : Path → Word} (edges : ℕ → List Edge) (n v k b s : ℕ)
-      (S : Spells cost state (dist b) spell (pathsFrom edges n 0 v)) (same : rootedAt s (words b) ≡ map spell (pathsFrom edges n 0 v)) where
-    -- the numbers before block b follow along the edges of its section from those behind it
-    pub least-block : chainLeast words ends dist top (suc k) b s
-        ≡ sectionLeast edges cost top (λ g. chainLeast words ends dist top k (suc b) (state g)) n 0 v
-    unfolding chainLeast least
-    least-block =
-        ap (minAll top (λ w. plus top (dist b w) (chainLeast words ends dist top k (suc b) (w .goal)))) same
-        ∙ block-cost edges n v S top (chainLeast words ends dist top k (suc b)) (least-le words ends dist top k (suc b))
-
-    word-found : chainLeast words ends dist top (suc k) b s < top
-        → next (chainGraph words ends) dist top (atEnd top ends) k b s
-        ≡ just (spell (sectionTrace edges cost top (λ g. chainLeast words ends dist top k (suc b) (state g)) n 0 v))
-    unfolding next chainLeast
-    word-found h =
-        ap (firstWith
-        (λ w. eqb (plus top (dist b w) (chainLeast words ends dist top k (suc b) (w .goal)))
-        (chainLeast words ends dist top (suc k) b s))) same
-        ∙ block-word edges n v S top (chainLeast words ends dist top k (suc b)) (least-le words ends dist top k (suc b))
-        (chainLeast words ends dist top (suc k) b s) (sym least-block) h
-
-    -- and the word of the block is that of the path that they name there
-    pub trace-block : chainLeast words ends dist top (suc k) b s < top
-        → chainTrace words ends dist top (suc k) b s
-        ≡ spell (sectionTrace edges cost top (λ g. chainLeast words ends dist top k (suc b) (state g)) n 0 v)
-        ∷ chainTrace words ends dist top k (suc b)
-        (state (sectionTrace edges cost top (λ g. chainLeast words ends dist top k (suc b) (state g)) n 0 v .end))
-    unfolding chainTrace trace orStop
-    trace-block h =
-        let p = sectionTrace edges cost top (λ g. chainLeast words ends dist top k (suc b) (state g)) n 0 v in
-        ap (orStop [] (λ w. w ∷ chainTrace words ends dist top k (suc b) (w .goal))) (word-found h)
-        ∙ ap (λ g. spell p ∷ chainTrace words ends dist top k (suc b) g) (S .same-goal p)

@@ -3,16 +3,19 @@
 use mathlib.Core.Path.{_≡_, refl, sym, ap, ap₂, _∙_}
 use mathlib.Core.Bool.{Bool, true, false, cond}
 use mathlib.Core.List.{List, [], _∷_, map, flatMap}
+use mathlib.Core.Option.{some as just}
 use Prim.Native.Nat.{ℕ, zero, suc, _+_, _*_, _≤_, _<_}
 use native.Mathlib.Omega.{arith}
 use Rattle.trellis.specs.Word.{Word}
 use Rattle.paths.specs.Choice.{Choice, none, some, choose, best}
 use Rattle.paths.specs.Chain.{unreached, rootedAt, chainPaths, pathDistance, bestPath, costTable}
+use Rattle.paths.specs.inner.Costs.{least, next, trace, orStop}
 use Rattle.paths.specs.inner.Chains.{chainGraph, atEnd, chainLeast, chainTrace}
+use Rattle.paths.specs.inner.OneBlock.{leastOver, firstOver}
 use Rattle.paths.proofs.Choose.{extend, chooseAll, best-all}
 use Rattle.paths.proofs.First.{all-chosen, best-none}
 use Rattle.paths.proofs.Walk.{paths, Prices, ahead, ahead-best}
-use Rattle.paths.proofs.Capped.{capped, least-ahead, capped-had, capped-is, capped-paid, capped-none, capped-le, AtMost}
+use Rattle.paths.proofs.Capped.{capped, least-ahead, capped-had, capped-paid, capped-none, capped-le, AtMost}
 use Rattle.paths.proofs.Capped.{ahead-at-most}
 use Rattle.paths.proofs.Trace.{Extended, extended, trace-best}
 
@@ -113,15 +116,16 @@ module _ (words : ℕ → List Word) (ends : ℕ → Bool) (dist : ℕ → Word 
         (omega arith) in
         H .is ∙ ap₂ some (sym e) (sym t)
 
-    -- by whose first word they drop
-    pub least-drops : (k b s : ℕ) {w : Word} {ws : List Word} → chainLeast words ends dist top (suc k) b s < top
-        → chainTrace words ends dist top (suc k) b s ≡ w ∷ ws
-        → chainLeast words ends dist top (suc k) b s ≡ dist b w + chainLeast words ends dist top k (suc b) (w .goal)
-    least-drops k b s {w} {ws} h e =
-        let B = behind k b s (best-traced (suc k) b s h ∙ ap (some (chainLeast words ends dist top (suc k) b s)) e) in
-        let a = B .adds-up in
-        let r = least-best k (suc b) (w .goal) ∙ capped-is top (bestPath words ends dist k (suc b) (w .goal)) (B .best-is) (omega arith) in
-        omega arith
+    -- one block: the numbers before it follow from those behind it, and so does the word that they name
+    pub least-block : (k b s : ℕ)
+        → chainLeast words ends dist top (suc k) b s ≡ leastOver (words b) (dist b) top (chainLeast words ends dist top k (suc b)) s
+    unfolding chainLeast least leastOver
+    least-block k b s = refl
+
+    pub trace-block : (k b s : ℕ) {w : Word} → firstOver (words b) (dist b) top (chainLeast words ends dist top k (suc b)) s ≡ just w
+        → chainTrace words ends dist top (suc k) b s ≡ w ∷ chainTrace words ends dist top k (suc b) (w .goal)
+    unfolding chainTrace trace orStop chainLeast next firstOver leastOver least
+    trace-block k b s e = ap (orStop [] (λ w. w ∷ chainTrace words ends dist top k (suc b) (w .goal))) e
 
   -- ---- where no distance of a word is above d
 

@@ -16,13 +16,14 @@ use lib.Dec.{eqb, ltb, lit<}
 use borrow.Author.Tests.{ltb-true, ltb-false, eqb-true, eqb-false}
 use Rattle.trellis.specs.Bounds.{mostStates, mostSymbols}
 use Rattle.trellis.specs.Lists.{_∈_, byFirst, bySecond, byThird}
-use Rattle.trellis.specs.Word.{Word, Before}
+use Rattle.trellis.specs.Word.{Word, word, Before}
 use Rattle.trellis.specs.Own.{Edge}
 use Rattle.trellis.specs.Section.{Path, leaving, pathsFrom, packOnto, wordOf, wordsOf}
-use Rattle.paths.specs.Chain.{rootedAt}
+use Rattle.paths.specs.Chain.{unreached, rootedAt}
 use Rattle.paths.specs.inner.Costs.{plus, minAll, least, firstWith}
 use Rattle.paths.specs.inner.Sections.{sectionLeast}
-use Rattle.paths.specs.inner.Ranked.{labelUnit, distanceUnit, ranked, topRank, rankedCost, rankedRest}
+use Rattle.paths.specs.inner.OneBlock.{onward, leastOver, firstOver}
+use Rattle.paths.specs.inner.Ranked.{labelUnit, distanceUnit, ranked, topRank, rankedCost, rankedRest, Pick}
 use Rattle.paths.specs.inner.Ordered.{Ordered, leads, ended}
 use Rattle.paths.proofs.Sections.{costFrom, sectionTrace}
 use Rattle.paths.proofs.Ordered.{ordered-keep, ordered-as}
@@ -30,8 +31,8 @@ use Rattle.paths.proofs.Ascent.{Symbols, no-more, one-more, Bounded}
 use Rattle.paths.proofs.Capped.{min-same}
 use Rattle.paths.proofs.Trace.{of-first}
 use Rattle.paths.proofs.Words.{rooted-words, whole-fits}
-use Rattle.paths.proofs.Block.{Spells, block-cost, block-word}
-use Rattle.paths.proofs.Blocks.{Uses}
+use Rattle.paths.proofs.Block.{Spells, block-cost}
+use Rattle.paths.proofs.Blocks.{Uses, rooted, first-root}
 
 -- ---- symbols
 
@@ -166,40 +167,31 @@ pub record Rankable (edges : ℕ → List Edge) (n goals : ℕ) (roots : List �
   pub small : (g : ℕ) → g < goals → goalOf g < mostStates
   pub ordered : Ordered Before (wordsOf n edges roots rootOf goalOf)
 
--- the number of a distance, a label and a goal, and what can be read off it
-pub record Reads (rank d label goal : ℕ) : Type 0 where
-  pub is : rank ≡ ranked d label goal
-  pub below : rank % distanceUnit ≡ label * labelUnit + goal
-  pub label-is : rank % distanceUnit / labelUnit ≡ label
-  pub goal-is : rank % distanceUnit % labelUnit ≡ goal
-  pub label-lt : label < 65536
-  pub goal-lt : goal < mostStates
+-- a number of 22 bits with a label and a goal in it
+record Reads (pick label goal : ℕ) : Type 0 where
+  label-is : label ≡ pick / labelUnit
+  goal-is : goal ≡ pick % labelUnit
 
 reads : {rank : ℕ} (d label goal : ℕ) → rank ≡ d * distanceUnit + (label * labelUnit + goal) → label < 65536 → goal < mostStates
-    → Reads rank d label goal
-unfolding ranked
-reads d label goal e l g = record { is = e; below = omega arith; label-is = omega arith; goal-is = omega arith; label-lt = l; goal-lt = g }
+    → Reads (rank % distanceUnit) label goal
+reads d label goal e l g = record { label-is = omega arith; goal-is = omega arith }
 
-module _ {words : ℕ → List Word} {dist : ℕ → Word → ℕ} {b : ℕ} {edges : ℕ → List Edge} {n goals : ℕ} {roots : List ℕ}
-    {rootOf goalOf : ℕ → ℕ} {cost : ℕ → ℕ → ℕ} (U : Uses words dist b edges n roots rootOf goalOf cost)
-    (R : Rankable edges n goals roots rootOf goalOf) (rest : ℕ → ℕ) (bound : (s : ℕ) → rest s ≤ 4294967295) where
+module _ {ws : List Word} {price : Word → ℕ} {edges : ℕ → List Edge} {n goals : ℕ} {roots : List ℕ} {rootOf goalOf : ℕ → ℕ}
+    {cost : ℕ → ℕ → ℕ} (U : Uses ws price edges n roots rootOf goalOf cost)
+    (R : Rankable edges n goals roots rootOf goalOf) (left : ℕ → ℕ) (bound : (s : ℕ) → left s ≤ unreached) where
   abbrev spell : ℕ → Path → Word
   spell v p = wordOf rootOf goalOf v p
 
   abbrev mine : ℕ → List Word
   mine v = map (spell v) (pathsFrom edges n 0 v)
 
-  abbrev distRanked : Word → ℕ
-  distRanked w = dist b w * distanceUnit + w .label * labelUnit
+  abbrev priceRanked : Word → ℕ
+  priceRanked w = price w * distanceUnit + w .label * labelUnit
 
-  abbrev restRanked : ℕ → ℕ
-  restRanked s = min topRank (rankedRest rest s)
+  abbrev leftRanked : ℕ → ℕ
+  leftRanked s = min topRank (rankedRest left s)
 
-  spells : (v : ℕ) → Spells cost goalOf (dist b) (spell v) (pathsFrom edges n 0 v)
-  unfolding wordOf
-  spells v = record { same-cost = U .same-cost v; same-goal = λ p. refl }
-
-  spells-ranked : (v : ℕ) → Spells (rankedCost n cost) goalOf distRanked (spell v) (pathsFrom edges n 0 v)
+  spells-ranked : (v : ℕ) → Spells (rankedCost n cost) goalOf priceRanked (spell v) (pathsFrom edges n 0 v)
   unfolding wordOf
   spells-ranked v =
       record {
@@ -208,8 +200,8 @@ module _ {words : ℕ → List Word} {dist : ℕ → Word → ℕ} {b : ℕ} {ed
         same-goal = λ p. refl;
       }
 
-  rest-ranked-le : (s : ℕ) → restRanked s ≤ topRank
-  rest-ranked-le s = omega arith
+  left-ranked-le : (s : ℕ) → leftRanked s ≤ topRank
+  left-ranked-le s = omega arith
 
   -- a word of vertex v
   record Mine (v : ℕ) (w : Word) : Type 0 where
@@ -227,10 +219,10 @@ module _ {words : ℕ → List Word} {dist : ℕ → Word → ℕ} {b : ℕ} {ed
       (record { root-is = refl; label-lt = lt-of-lt-of-le (pack-fits (P .symbols-fit)) h; goal-lt = R .small (x .0 .end) (P .end-fits) })
 
   abbrev onWord : Word → ℕ
-  onWord w = plus 4294967295 (dist b w) (rest (w .goal))
+  onWord w = onward ws price unreached left w
 
   abbrev onRank : Word → ℕ
-  onRank w = plus topRank (distRanked w) (restRanked (w .goal))
+  onRank w = plus topRank (priceRanked w) (leftRanked (w .goal))
 
   abbrev key : Word → ℕ
   key w = w .label * labelUnit + w .goal
@@ -238,8 +230,8 @@ module _ {words : ℕ → List Word} {dist : ℕ → Word → ℕ} {b : ℕ} {ed
   mine-ranks : (v : ℕ) (w : Word) → w ∈ mine v → Ranks (onWord w) (onRank w) (key w)
   mine-ranks v w m =
       let M = mine-is v w m in
-      subst (λ x. Ranks (onWord w) x (key w)) (plus-capped topRank (distRanked w) (rankedRest rest (w .goal)))
-      (ranks rest (dist b w) (w .label) (w .goal) (bound (w .goal)) (M .label-lt) (omega (arith, M .goal-lt)))
+      subst (λ x. Ranks (onWord w) x (key w)) (plus-capped topRank (priceRanked w) (rankedRest left (w .goal)))
+      (ranks left (price w) (w .label) (w .goal) (bound (w .goal)) (M .label-lt) (omega (arith, M .goal-lt)))
 
   -- the words of a vertex ascend by label and goal
   mine-ascend : (v : ℕ) → v ∈ roots → Ordered (λ x y. key x < key y) (mine v)
@@ -254,46 +246,55 @@ module _ {words : ℕ → List Word} {dist : ℕ → Word → ℕ} {b : ℕ} {ed
       rises x y X Y (bySecond p q) = let i = X .goal-lt in omega arith
       rises x y X Y (byThird p q r) = omega arith
 
-  -- the least distance from vertex v, the path that the distances name, and the least number
-  abbrev pub leastFrom : ℕ → ℕ
-  leastFrom v = sectionLeast edges cost 4294967295 (λ g. rest (goalOf g)) n 0 v
-
-  abbrev pub named : ℕ → Path
-  named v = sectionTrace edges cost 4294967295 (λ g. rest (goalOf g)) n 0 v
-
+  -- the least number from vertex v
   abbrev pub rankFrom : ℕ → ℕ
-  rankFrom v = sectionLeast edges (rankedCost n cost) topRank (λ g. rankedRest rest (goalOf g)) n 0 v
-
-  distance-is : (v : ℕ) → minAll 4294967295 onWord (mine v) ≡ leastFrom v
-  distance-is v = block-cost edges n v (spells v) 4294967295 rest bound
+  rankFrom v = sectionLeast edges (rankedCost n cost) topRank (λ g. rankedRest left (goalOf g)) n 0 v
 
   rank-is : (v : ℕ) → minAll topRank onRank (mine v) ≡ rankFrom v
   rank-is v =
       let e : suc (n - 1) ≡ n = omega (arith, R .some) in
-      block-cost edges n v (spells-ranked v) topRank restRanked rest-ranked-le
-      ∙ sym (subst (λ k. sectionLeast edges (rankedCost n cost) topRank (λ g. rankedRest rest (goalOf g)) k 0 v
-      ≡ sectionLeast edges (rankedCost n cost) topRank (λ g. restRanked (goalOf g)) k 0 v) e
-      (least-capped edges (rankedCost n cost) topRank (λ g. rankedRest rest (goalOf g)) (n - 1) 0 v))
+      block-cost edges n v (spells-ranked v) topRank leftRanked left-ranked-le
+      ∙ sym (subst (λ k. sectionLeast edges (rankedCost n cost) topRank (λ g. rankedRest left (goalOf g)) k 0 v
+      ≡ sectionLeast edges (rankedCost n cost) topRank (λ g. leftRanked (goalOf g)) k 0 v) e
+      (least-capped edges (rankedCost n cost) topRank (λ g. rankedRest left (goalOf g)) (n - 1) 0 v))
 
-  -- the least number has the least distance
-  pub ranked-cost : (v : ℕ) → rankFrom v / distanceUnit ≡ leastFrom v
-  ranked-cost v = ap (λ x. x / distanceUnit) (sym (rank-is v)) ∙ least-front (mine v) (mine-ranks v) ∙ distance-is v
+  over-mine : (v : ℕ) → v ∈ roots → minAll unreached onWord (mine v) ≡ leastOver ws price unreached left (rootOf v)
+  unfolding leastOver
+  over-mine v m = sym (ap (minAll unreached onWord) (rooted U v m))
 
-  -- and below it the label and the goal of the word that the distances name
-  pub ranked-word : (v : ℕ) → v ∈ roots → leastFrom v < 4294967295
-      → Reads (rankFrom v) (leastFrom v) (wordOf rootOf goalOf v (named v) .label) (wordOf rootOf goalOf v (named v) .goal)
-  ranked-word v m h =
-      let w = spell v (named v) in
-      let e = block-word edges n v (spells v) 4294967295 rest bound (leastFrom v) refl h in
-      let i = of-first (λ x. eqb (onWord x) (leastFrom v)) (mine v) e .0 in
-      let l : (x : Word) → x ∈ mine v → leastFrom v ≤ onWord x
-      = λ x k. subst (λ z. z ≤ onWord x) (distance-is v) (least-under 4294967295 onWord (mine v) x k) in
-      let M = mine-is v w i in
-      let q = least-first (mine-ascend v m) (mine-ranks v) (leastFrom v) h l w (mine-ranks v w i .small) e in
-      reads (leastFrom v) (w .label) (w .goal) (sym (rank-is v) ∙ q) (M .label-lt) (M .goal-lt)
+  -- it has the least cost
+  pub ranked-least : (v : ℕ) → v ∈ roots → rankFrom v / distanceUnit ≡ leastOver ws price unreached left (rootOf v)
+  ranked-least v m = ap (λ x. x / distanceUnit) (sym (rank-is v)) ∙ least-front (mine v) (mine-ranks v) ∙ over-mine v m
 
-  -- which are the path's symbols, packed, and the state where it ends
-  pub ranked-path : (v : ℕ) → v ∈ roots → leastFrom v < 4294967295
-      → Reads (rankFrom v) (leastFrom v) (packOnto 0 (named v .symbols)) (goalOf (named v .end))
-  unfolding wordOf
-  ranked-path v m h = ranked-word v m h
+  -- and below it the label and the goal of the first word of that cost
+  pub ranked-pick : (v : ℕ) → v ∈ roots → leastOver ws price unreached left (rootOf v) < unreached
+      → Pick ws price left (rootOf v) (rankFrom v % distanceUnit)
+  unfolding firstOver wordOf
+  ranked-pick v m h = record { goal-lt = subst (λ x. x < mostStates) (K .goal-is) (M .goal-lt); first = first ∙ ap just same }
+    where
+      c : ℕ
+      c = leastOver ws price unreached left (rootOf v)
+
+      w : Word
+      w = spell v (sectionTrace edges cost unreached (λ g. left (goalOf g)) n 0 v)
+
+      first : firstOver ws price unreached left (rootOf v) ≡ just w
+      first = first-root U unreached left bound v m h
+
+      named : firstWith (λ x. eqb (onWord x) c) (mine v) ≡ just w
+      named = sym (ap (firstWith (λ x. eqb (onWord x) c)) (rooted U v m)) ∙ first
+
+      M : Mine v w
+      M = mine-is v w (of-first (λ x. eqb (onWord x) c) (mine v) named .0)
+
+      least : (x : Word) → x ∈ mine v → c ≤ onWord x
+      least x k = subst (λ z. z ≤ onWord x) (over-mine v m) (least-under unreached onWord (mine v) x k)
+
+      K : Reads (rankFrom v % distanceUnit) (w .label) (w .goal)
+      K =
+          reads c (w .label) (w .goal)
+          (sym (rank-is v) ∙ least-first (mine-ascend v m) (mine-ranks v) c h least w (mine-ranks v w (of-first (λ x. eqb (onWord x) c) (mine v) named .0) .small) named)
+          (M .label-lt) (M .goal-lt)
+
+      same : w ≡ word (rootOf v) (rankFrom v % distanceUnit / labelUnit) (rankFrom v % distanceUnit % labelUnit)
+      same = λ i. word (rootOf v) (K .label-is i) (K .goal-is i)

@@ -3,5 +3,6 @@ pub mod Graph
 pub mod Costs
 pub mod Sections
 pub mod Chains
+pub mod OneBlock
 pub mod Ranked
 pub mod Ordered

@@ -1,8 +1,15 @@
 -- A distance and a word in one number: the distance counts most, then the label, then the goal, so that the least number is that of the
--- first word of least distance. Everything here computes.
+-- first word of least distance. Everything but the last computes.
+use mathlib.Core.Path.{_≡_}
 use mathlib.Core.Bool.{cond}
-use Prim.Native.Nat.{ℕ, suc, _+_, _-_, _*_, _^_}
+use mathlib.Core.Option.{some as just}
+use mathlib.Core.List.{List}
+use Prim.Native.Nat.{ℕ, suc, _+_, _-_, _*_, _/_, _%_, _^_, _<_}
 use lib.Dec.{ltb}
+use Rattle.trellis.specs.Bounds.{mostStates}
+use Rattle.trellis.specs.Word.{Word, word}
+use Rattle.paths.specs.Chain.{unreached}
+use Rattle.paths.specs.inner.OneBlock.{firstOver}
 
 -- the goal takes 6 bits, the label the 16 above them, the distance what is above both
 abbrev pub labelUnit : ℕ
@@ -25,3 +32,8 @@ rankedCost n cost t a = ranked (cost t a) (a * 4 ^ (n - suc t)) 0
 -- what is added behind the block, in the state s: the distance from there on, and the goal
 unfoldable pub rankedRest : (ℕ → ℕ) → ℕ → ℕ
 rankedRest rest s = cond (ltb (rest s) 4294967295) (ranked (rest s) 0 s) topRank
+
+-- the first word of least cost from state s has the label and the goal that are in this number
+pub record Pick (ws : List Word) (price : Word → ℕ) (left : ℕ → ℕ) (s pick : ℕ) : Type 0 where
+  pub goal-lt : pick % labelUnit < mostStates
+  pub first : firstOver ws price unreached left s ≡ just (word s (pick / labelUnit) (pick % labelUnit))
