@@ -1,4 +1,2 @@
--- Laws of the loops over a section, lowest first.
-pub mod Edges
+-- Why the rows are right: one row, and all of them.
 pub mod Lowering
-pub mod Sweeping

@@ -1,27 +1,20 @@
-// The costs of one section, over its edges and never over its words: row by row from the last depth to the first, the least cost from each
-// vertex. What a symbol costs and what it costs to end in a vertex are the caller's.
+// The least costs of one section, over its edges and never over its words: depth by depth from the last to the first, the least cost from each
+// vertex. Only two rows are kept, one for the even depths and one for the odd. What a symbol costs and what it costs to end in a vertex are
+// the caller's.
 ghost use mathlib.Core.Path.{_≡_};
-ghost use Prim.Native.Nat.{_+_, _*_, _<_, _≤_, min};
+ghost use Prim.Native.Nat.{suc, _+_, _*_, _<_, _≤_, min};
 ghost use lib.ListN.{length};
-ghost use Rattle.trellis.specs.Bounds.{mostWords, mostSymbols};
-ghost use Rattle.trellis.specs.Layout.{allEdges};
-ghost use Rattle.paths.specs.inner.Costs.{plus};
-ghost use Rattle.sweep.specs.inner.Rows.{noCost, Fits, Placed, Swept};
-ghost use Rattle.sweep.specs.inner.Loops.{InStep, Reads, EdgeAt, RowCleared, Clear, Lowered};
+ghost use Rattle.trellis.specs.Bounds.{mostWords};
+ghost use Rattle.trellis.specs.Layout.{nOf, edgesBefore};
+ghost use Rattle.section_file.specs.inner.View.{Seen};
+ghost use Rattle.sweep.specs.inner.Rows.{Asked, Swept, side};
+ghost use Rattle.sweep.specs.inner.Loops.{EdgeRead, Cleared, StepAsked, Lowered, DepthAsked, DepthDone};
 use numbers::wide;
-use trellis::MOST_Q;
-use trellis::MOST_SYMBOLS;
+use section_file::View;
 use trellis::MOST_WORDS;
 
 // No path.
-pub const TOP: u64 = 18446744073709551615;
-
-// d more to pay; from TOP on there is no path.
-fn pay(d: u64, x: u64) -> u64
-    ensures { λ r. ⌜ r ≡ plus noCost d x ⌝ }
-{
-    if x > TOP - d { TOP } else { d + x }
-}
+pub const TOP: u64 = 18014398509481983;
 
 fn lesser(x: u64, y: u64) -> u64
     ensures { λ r. ⌜ r ≡ min x y ⌝ }
@@ -29,112 +22,123 @@ fn lesser(x: u64, y: u64) -> u64
     if y < x { y } else { x }
 }
 
-// Where the parts of a section stand, and how many edges it has.
-pub struct Places {
-    pub n: usize,
-    pub roots: usize,
-    pub goals: usize,
-    pub pairs: usize,
-    pub symbols: usize,
-    pub edges: usize,
-}
-
-// Worked out from the section's own counts.
-pub fn places_of(l: &[u16]) -> Places
-    requires { ⌜ Fits (now l) ⌝ }
-    ensures { λ r. ⌜ Placed (now (l .entry)) (r .n) (r .roots) (r .goals) (r .pairs) (r .symbols) (r .edges) ⌝ }
-{
-    let n = wide(l[1]);
-    let edges = numbers::total(l, 4 + n, n);
-    let roots = 4 + 2 * n;
-    let goals = roots + wide(l[3]);
-    let pairs = goals + wide(l[3 + n]);
-    let symbols = pairs + 2 * edges;
-    Places {
-        n,
-        roots,
-        goals,
-        pairs,
-        symbols,
-        edges,
-    }
-}
-
 struct Edge {
     from: usize,
-    symbol: u16,
+    symbol: usize,
     to: usize,
 }
 
-fn edge_at(l: &[u16], pairs: usize, symbols: usize, i: usize) -> Edge
-    requires { ⌜ Reads (now l) pairs symbols × (i < allEdges (now l)) ⌝ }
-    ensures { λ r. ⌜ EdgeAt (now (l .entry)) i (r .from) (r .symbol) (r .to) ⌝ }
+// Edge k of those whose pairs (from, to) and symbols begin at the front of two slices.
+fn edge_at(pairs: &[u16], symbols: &[u16], k: usize) -> Edge
+    requires { ⌜ (2 * k + 1 < length (now pairs)) × (k < length (now symbols)) ⌝ }
+    ensures { λ r. ⌜ EdgeRead (now (pairs .entry)) (now (symbols .entry)) k (r .from) (r .symbol) (r .to) ⌝ }
 {
-    let from = wide(l[pairs + 2 * i]);
-    let symbol = l[symbols + i];
-    let to = wide(l[pairs + 2 * i + 1]);
-    Edge { from, symbol, to }
+    Edge {
+        from: wide(pairs[2 * k]),
+        symbol: wide(symbols[k]),
+        to: wide(pairs[2 * k + 1]),
+    }
 }
 
-// No path yet from the first vertices of depth t.
-fn clear(t: usize, count: usize, rows: &mut [u64; (MOST_SYMBOLS + 1) * MOST_WORDS])
-    requires { ⌜ (t ≤ mostSymbols) × (count ≤ mostWords) × (length (now rows) ≡ 9216) ⌝ }
-    ensures { λ _. ⌜ RowCleared t count (now (rows .entry)) (now (rows .exit)) count ⌝ }
+// No path yet from the first vertices of a depth.
+fn clear(count: usize, row: &mut [u64; MOST_WORDS])
+    requires { ⌜ (count ≤ mostWords) × (length (now row) ≡ mostWords) ⌝ }
+    ensures { λ _. ⌜ Cleared (now (row .exit)) count ⌝ }
 {
     let mut v: usize = 0;
     while v < count {
-        rows[MOST_WORDS * t + v] = TOP;
+        row[v] = TOP;
         v += 1;
     }
 }
 
-// Lowers row t to the least that its edges give, over row t + 1.
+// Lowers the row of a depth to the least that the edges of its step give: the price of an edge's symbol, and what the row behind has where the
+// edge leads. No sum wraps, since both are at most TOP, and none above TOP stays, since the row is at most TOP before.
 fn lower(
-    l: &[u16],
-    pairs: usize,
-    symbols: usize,
-    lo: usize,
-    hi: usize,
-    t: usize,
-    prices: &[u64; MOST_Q * MOST_SYMBOLS],
-    rows: &mut [u64; (MOST_SYMBOLS + 1) * MOST_WORDS],
+    pairs: &[u16],
+    symbols: &[u16],
+    count: usize,
+    prices: &[u64],
+    behind: &[u64; MOST_WORDS],
+    row: &mut [u64; MOST_WORDS],
 )
-    requires { ⌜ Reads (now l) pairs symbols × InStep (now l) t lo hi × Clear (now l) t (now rows) ⌝ }
-    ensures { λ _. ⌜ Lowered (now (l .entry)) (now (prices .entry)) t lo hi (now (rows .entry)) (now (rows .exit)) ⌝ }
+    requires { ⌜ StepAsked (now pairs) (now symbols) count (now prices) (now behind) (now row) ⌝ }
+    ensures { λ _. ⌜ Lowered (now (pairs .entry)) (now (symbols .entry)) count (now (prices .entry)) (now (behind .entry))
+        (now (row .entry)) (now (row .exit)) ⌝ }
 {
-    let mut i = lo;
-    while i < hi {
-        let e = edge_at(l, pairs, symbols, i);
-        let from = MOST_WORDS * t + e.from;
-        let symbol = 4 * t + wide(e.symbol);
-        let to = MOST_WORDS * (t + 1) + e.to;
-        let here = pay(prices[symbol], rows[to]);
-        rows[from] = lesser(rows[from], here);
-        i += 1;
+    let mut k: usize = 0;
+    while k < count {
+        let e = edge_at(pairs, symbols, k);
+        let from = e.from;
+        let symbol = e.symbol;
+        let to = e.to;
+        row[from] = lesser(row[from], prices[symbol] + behind[to]);
+        k += 1;
     }
 }
 
-// All rows, from the row of depth n.
+// The row of depth t from the row behind it. The edges of the step begin behind the `before` edges of the steps before it.
+fn lower_depth(
+    l: &[u16],
+    at: View,
+    t: usize,
+    before: usize,
+    prices: &[u64],
+    behind: &[u64; MOST_WORDS],
+    row: &mut [u64; MOST_WORDS],
+)
+    requires { ⌜ Seen (now l) at × DepthAsked (now l) t before (now prices) (now behind) (now row) ⌝ }
+    ensures { λ _. ⌜ DepthDone (now (l .entry)) t (now (prices .entry)) (now (behind .entry)) (now (row .exit)) ⌝ }
+{
+    let pairs = at.pairs + 2 * before;
+    let symbols = at.symbols + before;
+    let first = 4 * t;
+    clear(wide(l[3 + t]), row);
+    lower(&l[pairs..], &l[symbols..], wide(l[4 + at.n + t]), &prices[first..], behind, row);
+}
+
+// The same, where the rows of even depths stand in one array and those of odd depths in the other.
+fn lower_side(
+    l: &[u16],
+    at: View,
+    t: usize,
+    before: usize,
+    prices: &[u64],
+    even: &mut [u64; MOST_WORDS],
+    odd: &mut [u64; MOST_WORDS],
+)
+    requires { ⌜ Seen (now l) at
+        × DepthAsked (now l) t before (now prices) (side (suc t) (now even) (now odd)) (side t (now even) (now odd))
+        × (length (now even) ≡ mostWords) × (length (now odd) ≡ mostWords) ⌝ }
+    ensures { λ _. ⌜ DepthDone (now (l .entry)) t (now (prices .entry)) (side (suc t) (now (even .entry)) (now (odd .entry)))
+        (side t (now (even .exit)) (now (odd .exit)))
+        × (length (now (even .exit)) ≡ mostWords) × (length (now (odd .exit)) ≡ mostWords) ⌝ }
+{
+    if t % 2 == 0 {
+        lower_depth(l, at, t, before, prices, odd, even);
+        return;
+    }
+    lower_depth(l, at, t, before, prices, even, odd);
+}
+
+// From the row of depth n to the row of depth 0, which is left in `even`.
 pub fn sweep(
     l: &[u16],
-    at: Places,
-    prices: &[u64; MOST_Q * MOST_SYMBOLS],
-    rows: &mut [u64; (MOST_SYMBOLS + 1) * MOST_WORDS],
+    at: View,
+    prices: &[u64],
+    even: &mut [u64; MOST_WORDS],
+    odd: &mut [u64; MOST_WORDS],
 )
-    requires { ⌜ Fits (now l) × Placed (now l) (at .n) (at .roots) (at .goals) (at .pairs) (at .symbols) (at .edges)
-        × (length (now rows) ≡ 9216) ⌝ }
-    ensures { λ _. ⌜ Swept (now (l .entry)) (now (prices .entry)) (now (rows .entry)) (now (rows .exit)) ⌝ }
+    requires { ⌜ Seen (now l) at × Asked (now l) (now prices) (now even) (now odd) ⌝ }
+    ensures { λ _. ⌜ Swept (now (l .entry)) (now (prices .entry)) (now (even .entry)) (now (odd .entry)) (now (even .exit))
+        (now (odd .exit)) ⌝ }
 {
     let n = at.n;
-    let pairs = at.pairs;
-    let symbols = at.symbols;
     let mut t = n;
-    let mut hi = at.edges;
+    let mut before = at.edges;
     while t > 0 {
         t -= 1;
-        let lo = hi - wide(l[4 + n + t]);
-        clear(t, wide(l[3 + t]), rows);
-        lower(l, pairs, symbols, lo, hi, t, prices, rows);
-        hi = lo;
+        before -= wide(l[4 + n + t]);
+        lower_side(l, at, t, before, prices, even, odd);
     }
 }

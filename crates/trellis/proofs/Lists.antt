@@ -5,15 +5,21 @@ use mathlib.Core.Bool.{Bool, true, false, cond, _||_}
 use mathlib.Core.Logic.{_⊎_, inl, inr}
 use mathlib.Core.List.{List, [], _∷_, _++_, map, flatMap, append-assoc, List·Memᴰ·head, List·Memᴰ·tail, List·Memᴰ·not-nil}
 use mathlib.Core.List.{List·Memᴰ·cases-cons}
-use Prim.Native.Nat.{ℕ, zero, suc, _+_, _*_, _≤_, _<_}
+use Prim.Native.Nat.{ℕ, zero, suc, _+_, _-_, _*_, _≤_, _<_}
 use native.Mathlib.Omega.{arith}
 use native.Mathlib.Nat.{not-suc-le-zero, add-zero, add-suc, suc-add, zero-add, le-antisymm, le-of-eq}
 use native.Mathlib.Decide.{decLt}
-use lib.ListN.{length, getD, length-append}
+use lib.ListN.{length, getD, take, drop, length-append, length-drop}
+use lib.Seq.{take-all}
 use lib.Dec.{T}
 use borrow.Author.Tests.{lt-ltb, le-ltb}
 use Rattle.trellis.specs.Lists.{_∈_, run, each, sum, first, isIn, rank}
 use Rattle.trellis.proofs.Bools.{holds, fails}
+
+-- ---- the rest of a list, as the code lends it
+
+pub rest-of : {A : Type 0} (l : List A) (at : ℕ) → take (length l - at) (drop at l) ≡ drop at l
+rest-of l at = take-all (length l - at) (drop at l) (le-of-eq (length-drop at l))
 
 -- ---- runs
 
@@ -31,14 +37,18 @@ run-at f at (suc count) (suc k) d h = run-at f (suc at) count k d (omega arith) 
 pub each-at : {A : Type 0} (f : ℕ → A) (count k : ℕ) (d : A) → k < count → getD (each f count) k d ≡ f k
 each-at f count k d h = run-at f 0 count k d h ∙ ap f (zero-add k)
 
--- values that agree
-pub run-same : {A : Type 0} (f g : ℕ → A) (at count : ℕ) → ((k : ℕ) → k < count → f (at + k) ≡ g (at + k)) → run f at count ≡ run g at count
+-- values that agree, from wherever each run begins
+pub run-shift : {A : Type 0} (f g : ℕ → A) (at to count : ℕ) → ((k : ℕ) → k < count → f (at + k) ≡ g (to + k))
+    → run f at count ≡ run g to count
 unfolding run
-run-same f g at zero h = refl
-run-same f g at (suc count) h =
-    ap₂ (λ x l. x ∷ l) (ap f (sym (add-zero at)) ∙ h 0 (omega arith) ∙ ap g (add-zero at))
-    (run-same f g (suc at) count
-    (λ k l. ap f (rw (suc-add at k, add-suc at k)) ∙ h (suc k) (omega arith) ∙ ap g (rw (suc-add at k, add-suc at k))))
+run-shift f g at to zero h = refl
+run-shift f g at to (suc count) h =
+    ap₂ (λ x l. x ∷ l) (ap f (sym (add-zero at)) ∙ h 0 (omega arith) ∙ ap g (add-zero to))
+    (run-shift f g (suc at) (suc to) count
+    (λ k l. ap f (rw (suc-add at k, add-suc at k)) ∙ h (suc k) (omega arith) ∙ ap g (rw (suc-add to k, add-suc to k))))
+
+pub run-same : {A : Type 0} (f g : ℕ → A) (at count : ℕ) → ((k : ℕ) → k < count → f (at + k) ≡ g (at + k)) → run f at count ≡ run g at count
+run-same f g at count h = run-shift f g at at count h
 
 pub each-same : {A : Type 0} (f g : ℕ → A) (count more : ℕ) → count ≡ more → ((k : ℕ) → k < count → f k ≡ g k) → each f count ≡ each g more
 each-same f g count more e h = run-same f g 0 count (λ k l. ap f (zero-add k) ∙ h k l ∙ sym (ap g (zero-add k))) ∙ ap (each g) e

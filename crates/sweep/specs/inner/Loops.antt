@@ -1,70 +1,68 @@
--- What the loops over a section keep, over raw lists and numbers.
+-- What the functions on one step ask and leave, over raw lists and numbers: `pairs` and `symbols` have the edges of the step at their fronts.
 use mathlib.Core.Path.{_≡_}
 use mathlib.Core.List.{List}
-use Prim.Native.Nat.{ℕ, suc, _+_, _-_, _*_, _≤_, _<_}
+use Prim.Native.Nat.{ℕ, suc, _+_, _*_, _≤_, _<_}
 use lib.ListN.{length, getD}
 use Rattle.trellis.specs.Bounds.{mostWords}
 use Rattle.trellis.specs.Lists.{run}
-use Rattle.trellis.specs.Own.{Edge}
+use Rattle.trellis.specs.Own.{Edge, edge}
 use Rattle.trellis.specs.Section.{leaving}
-use Rattle.trellis.specs.Layout.{nOf, vertexCountOf, edgesBefore, allEdges, pairsPlace, symbolsPlace, edgeNumber}
-use Rattle.paths.specs.inner.Costs.{plus, minAll}
-use Rattle.sweep.specs.inner.Rows.{noCost, Fits}
+use Rattle.trellis.specs.Layout.{nOf, vertexCountOf, edgesBefore}
+use Rattle.paths.specs.inner.Costs.{minAll}
+use Rattle.paths.specs.inner.Ranked.{topRank}
+use Rattle.sweep.specs.inner.Rows.{Priced, Row}
 
--- ---- edges
+-- edge k
+abbrev pub edgeIn : List ℕ → List ℕ → ℕ → Edge
+edgeIn pairs symbols k = edge (getD pairs (2 * k) 0) (getD symbols k 0) (getD pairs (2 * k + 1) 0)
 
--- the edges numbered lo to hi
-abbrev pub between : List ℕ → ℕ → ℕ → List Edge
-between l lo hi = run (edgeNumber l) lo (hi - lo)
+-- as it is read
+pub record EdgeRead (pairs symbols : List ℕ) (k from symbol to : ℕ) : Type 0 where
+  pub from-is : from ≡ edgeIn pairs symbols k .from
+  pub symbol-is : symbol ≡ edgeIn pairs symbols k .symbol
+  pub to-is : to ≡ edgeIn pairs symbols k .to
 
--- the edges lo to hi are those of step t, or its last ones
-pub record InStep (l : List ℕ) (t lo hi : ℕ) : Type 0 where
+-- the first v places have no path
+pub record Cleared (row : List ℕ) (v : ℕ) : Type 0 where
+  pub long : length row ≡ mostWords
+  pub at : (u : ℕ) → u < v → getD row u 0 ≡ topRank
+
+-- the edges are there, lead from places to places of the rows by symbols that have prices, and no sum wraps
+pub record StepAsked (pairs symbols : List ℕ) (count : ℕ) (prices behind row : List ℕ) : Type 0 where
+  pub few : count ≤ mostWords
+  pub pairsIn : 2 * count ≤ length pairs
+  pub symbolsIn : count ≤ length symbols
+  pub pricesIn : 4 ≤ length prices
+  pub behindLong : length behind ≡ mostWords
+  pub rowLong : length row ≡ mostWords
+  pub fromSmall : (k : ℕ) → k < count → getD pairs (2 * k) 0 < mostWords
+  pub symbolSmall : (k : ℕ) → k < count → getD symbols k 0 < 4
+  pub toSmall : (k : ℕ) → k < count → getD pairs (2 * k + 1) 0 < mostWords
+  pub priceSmall : (a : ℕ) → getD prices a 0 ≤ topRank
+  pub behindSmall : (k : ℕ) → k < count → getD behind (getD pairs (2 * k + 1) 0) 0 ≤ topRank
+
+-- what an edge gives
+abbrev pub through : List ℕ → List ℕ → Edge → ℕ
+through prices behind e = getD prices (e .symbol) 0 + getD behind (e .to) 0
+
+-- each place has the least of what it had and of what the edges of its vertex give
+pub record Lowered (pairs symbols : List ℕ) (count : ℕ) (prices behind old new : List ℕ) : Type 0 where
+  pub long : length new ≡ mostWords
+  pub at : (v : ℕ) → v < mostWords
+      → getD new v 0 ≡ minAll (getD old v 0) (through prices behind) (leaving v (run (edgeIn pairs symbols) 0 count))
+
+-- the row behind depth t has numbers small enough, and the steps before have `before` edges
+pub record DepthAsked (l : List ℕ) (t before : ℕ) (prices behind row : List ℕ) : Type 0 where
   pub inside : t < nOf l
-  pub from : edgesBefore l t ≤ lo
-  pub lo-le : lo ≤ hi
-  pub hi-is : hi ≡ edgesBefore l (suc t)
-  pub hi-le : hi ≤ allEdges l
+  pub beforeIs : before ≡ edgesBefore l t
+  pub pricesLong : length prices ≡ 32
+  pub pricesSmall : (i : ℕ) → getD prices i 0 ≤ topRank
+  pub behindLong : length behind ≡ mostWords
+  pub rowLong : length row ≡ mostWords
+  pub small : (v : ℕ) → v < vertexCountOf l (suc t) → getD behind v 0 ≤ topRank
 
--- where edges are read
-pub record Reads (l : List ℕ) (pairs symbols : ℕ) : Type 0 where
-  pub fits : Fits l
-  pub pairsIs : pairs ≡ pairsPlace l
-  pub symbolsIs : symbols ≡ symbolsPlace l
-  pub near : symbols + allEdges l ≤ 100000
-  pub pairs-near : pairs + 2 * allEdges l ≤ 100000
-  pub pairs-in : pairs + 2 * allEdges l ≤ length l
-  pub symbols-in : symbols + allEdges l ≤ length l
-
--- edge i
-pub record EdgeAt (l : List ℕ) (i from symbol to : ℕ) : Type 0 where
-  pub from-is : from ≡ edgeNumber l i .from
-  pub symbol-is : symbol ≡ edgeNumber l i .symbol
-  pub to-is : to ≡ edgeNumber l i .to
-  pub from-lt : from < mostWords
-  pub symbol-lt : symbol < 4
-  pub to-lt : to < mostWords
-
--- what an edge of step t gives, from the prices and the row of the next depth
-abbrev pub through : List ℕ → List ℕ → ℕ → Edge → ℕ
-through prices rows t e = plus noCost (getD prices (4 * t + e .symbol) 0) (getD rows (mostWords * suc t + e .to) 0)
-
--- ---- the loops
-
--- row t has no path so far, at its first v vertices
-pub record RowCleared (t count : ℕ) (old rows : List ℕ) (v : ℕ) : Type 0 where
-  pub v-le : v ≤ count
-  pub long : length rows ≡ 9216
-  pub cleared : (u : ℕ) → u < v → getD rows (mostWords * t + u) 0 ≡ noCost
-  pub kept : (j : ℕ) → mostWords * suc t ≤ j → getD rows j 0 ≡ getD old j 0
-
--- row t has no path so far
-pub record Clear (l : List ℕ) (t : ℕ) (rows : List ℕ) : Type 0 where
-  pub long : length rows ≡ 9216
-  pub cleared : (v : ℕ) → v < vertexCountOf l t → getD rows (mostWords * t + v) 0 ≡ noCost
-
--- row t as it is left: each place has the least that the edges of its vertex give
-pub record Lowered (l prices : List ℕ) (t lo hi : ℕ) (old rows : List ℕ) : Type 0 where
-  pub long : length rows ≡ 9216
-  pub kept : (j : ℕ) → mostWords * suc t ≤ j → getD rows j 0 ≡ getD old j 0
-  pub at : (v : ℕ) → v < vertexCountOf l t
-      → getD rows (mostWords * t + v) 0 ≡ minAll noCost (through prices old t) (leaving v (between l lo hi))
+-- the row of depth t follows from the row behind it
+pub record DepthDone (l : List ℕ) (t : ℕ) (prices behind row : List ℕ) : Type 0 where
+  pub long : length row ≡ mostWords
+  pub small : (v : ℕ) → v < vertexCountOf l t → getD row v 0 ≤ topRank
+  pub done : (cost : ℕ → ℕ → ℕ) (number : ℕ → ℕ) → Priced l prices cost → Row l cost number (suc t) behind → Row l cost number t row
