@@ -15,7 +15,8 @@ use Rattle.trellis.specs.Layout.{qOf, nOf, statesOf, vertexCountOf, edgeCountOf
 use Rattle.trellis.specs.Layout.{rootsPlace, goalsPlace, pairsPlace, symbolsPlace}
 use Rattle.section_file.specs.Usable.{stepEdge, sizesRight, countsRight, rising, statesRight, edgesAscend}
 use Rattle.section_file.specs.inner.Steps.{higher, stateRight, inside, above}
-use Rattle.section_file.specs.inner.Places.{PlacesOf, Counted}
+use Rattle.section_file.specs.inner.Places.{Counted}
+use Rattle.section_file.specs.inner.View.{viewOf}
 use Rattle.section_file.specs.inner.Answer.{edgeAt, heldEdge, meantEdge}
 use Rattle.section_file.specs.declared.Edge.{Edge}
 use Rattle.section_file.proofs.Tests.{all-both, all-next}
@@ -72,24 +73,34 @@ module _ (l : List ℕ) {n : ℕ} {a : Bool} (n-is : n ≡ nOf l) (a-is : a ≡ 
 
 -- ---- places
 
-pub places-are : (l : List ℕ) {n edges x v y w : ℕ} → n ≡ nOf l → n ≤ mostSymbols
+pub view-is : (l : List ℕ) {n q edges x v y w : ℕ} → Counted l n → q ≡ getD l 0 0
     → (edges ≡ sum (λ t. getD l (4 + n + t) 0) 0 n) × (edges ≤ 65535 * n)
     → x ≡ getD l 3 0 → (v ≡ x) × (v < 65536) → y ≡ getD l (3 + n) 0 → (w ≡ y) × (w < 65536)
-    → PlacesOf l (4 + 2 * n) (4 + 2 * n + v) (4 + 2 * n + v + w) (4 + 2 * n + v + w + 2 * edges) (4 + 2 * n + v + w + 2 * edges + edges)
-unfolding rootsPlace goalsPlace pairsPlace symbolsPlace sectionLength edgesBefore vertexCountOf edgeCountOf
-places-are l {n} {edges} {x} {v} {y} {w} n-is small e x-is v-is y-is w-is =
-    let r : 4 + 2 * n ≡ rootsPlace l = rw (← n-is) in
+    → record {
+      q = q;
+      n = n;
+      roots = 4 + 2 * n;
+      goals = 4 + 2 * n + v;
+      pairs = 4 + 2 * n + v + w;
+      symbols = 4 + 2 * n + v + w + 2 * edges;
+      edges = edges;
+      end = 4 + 2 * n + v + w + 2 * edges + edges;
+    } ≡ viewOf l
+unfolding viewOf rootsPlace goalsPlace pairsPlace symbolsPlace sectionLength edgesBefore vertexCountOf edgeCountOf
+view-is l {n} {q} {edges} {x} {v} {y} {w} c q-is e x-is v-is y-is w-is =
+    let r = c .nIs in
     let f : v ≡ getD l 3 0 = v-is .0 ∙ x-is in
-    let g : w ≡ getD l (3 + nOf l) 0 = w-is .0 ∙ y-is ∙ rw n-is in
-    let k : edges ≡ sum (λ t. getD l (4 + nOf l + t) 0) 0 (nOf l) = e .0 ∙ rw n-is in
-    record {
-      rootsIs = r;
-      goalsIs = rw (← n-is, f);
-      pairsIs = rw (f, g) (rw n-is);
-      symbolsIs = rw (f, g, k) (rw n-is);
-      endIs = rw (f, g, k) (rw n-is);
-      near = omega (arith, v-is .1, w-is .1, e .1);
-      order = (omega arith, omega arith, omega arith, omega arith);
+    let g : w ≡ getD l (3 + nOf l) 0 = w-is .0 ∙ y-is ∙ rw r in
+    let k : edges ≡ sum (λ t. getD l (4 + nOf l + t) 0) 0 (nOf l) = e .0 ∙ rw r in
+    λ i. record {
+      q = q-is i;
+      n = r i;
+      roots = 4 + 2 * r i;
+      goals = 4 + 2 * r i + f i;
+      pairs = 4 + 2 * r i + f i + g i;
+      symbols = 4 + 2 * r i + f i + g i + 2 * k i;
+      edges = k i;
+      end = 4 + 2 * r i + f i + g i + 2 * k i + k i;
     }
 
 -- a count that was read, small enough

@@ -9,7 +9,8 @@ ghost use Rattle.trellis.specs.Layout.{nOf, pairsPlace, symbolsPlace};
 ghost use Rattle.section_file.specs.Usable.{sizesRight, countsRight};
 ghost use Rattle.section_file.specs.inner.Steps.{inside, above, stepRight};
 ghost use Rattle.trellis.specs.Lists.{all, within};
-ghost use Rattle.section_file.specs.inner.Places.{PlacesOf, Counted, StepAt};
+ghost use Rattle.section_file.specs.inner.Places.{Counted, StepAt};
+ghost use Rattle.section_file.specs.inner.View.{viewOf};
 ghost use Rattle.section_file.specs.inner.Answer.{partOf, edgeAt, heldEdge, meantEdge};
 
 mod states;
@@ -33,9 +34,9 @@ const MOST_STATES: u16 = trellis::MOST_STATES as u16;
 
 const MOST_WORDS: u16 = trellis::MOST_WORDS as u16;
 
-// What stands at a place of a slice: a usable section, with the length of its part, or none.
+// What stands at a place of a slice: a usable section, of which this is the view, or none.
 pub enum Part {
-    Usable(usize),
+    Usable(View),
     Unusable,
 }
 
@@ -56,15 +57,6 @@ pub struct View {
     pub symbols: usize,
     pub edges: usize,
     pub end: usize,
-}
-
-// Where the root states, the goal states, the pairs (from, to) and the symbols begin, and where the section ends.
-struct Places {
-    roots: usize,
-    goals: usize,
-    pairs: usize,
-    symbols: usize,
-    end: usize,
 }
 
 fn is_within(low: u16, high: u16, x: u16) -> bool
@@ -110,21 +102,26 @@ fn counts_right(l: &[u16], n: usize) -> bool
     all_counts(l, 4 + n, n)
 }
 
-fn places_of(l: &[u16], n: usize) -> Places
-    requires { ⌜ (n ≡ nOf (now l)) × (n ≤ mostSymbols) ⌝ }
-    ensures { λ r. ⌜ PlacesOf (now (l .entry)) (r .roots) (r .goals) (r .pairs) (r .symbols) (r .end) ⌝ }
+// Each part stands behind the one before it.
+fn view_of(l: &[u16], n: usize) -> View
+    requires { ⌜ Counted (now l) n ⌝ }
+    ensures { λ r. ⌜ r ≡ viewOf (now (l .entry)) ⌝ }
 {
+    let q = number(l, 0);
     let edges = total(l, 4 + n, n);
     let roots = 4 + 2 * n;
     let goals = roots + wide(number(l, 3));
     let pairs = goals + wide(number(l, 3 + n));
     let symbols = pairs + 2 * edges;
     let end = symbols + edges;
-    Places {
+    View {
+        q,
+        n,
         roots,
         goals,
         pairs,
         symbols,
+        edges,
         end,
     }
 }
@@ -260,8 +257,7 @@ fn step_right(l: &[u16], n: usize, t: usize, pairs: usize, symbols: usize) -> bo
 
 // All steps; the edges of a step stand behind those of the steps before it.
 fn steps_right(l: &[u16], n: usize, pairs: usize, symbols: usize) -> bool
-    requires { ⌜ Counted (now l) n × (pairs ≡ pairsPlace (now l)) × (symbols ≡ symbolsPlace (now l))
-        × (pairs ≤ 2000000) × (symbols ≤ 2000000) ⌝ }
+    requires { ⌜ Counted (now l) n × (pairs ≡ pairsPlace (now l)) × (symbols ≡ symbolsPlace (now l)) ⌝ }
     ensures { λ r. ⌜ r ≡ all (stepRight (now (l .entry))) n ⌝ }
 {
     let mut before: usize = 0;
@@ -287,7 +283,7 @@ fn front_part(l: &[u16]) -> Part
     if !counts_right(l, n) {
         return Part::Unusable;
     }
-    let at = places_of(l, n);
+    let at = view_of(l, n);
     if l.len() < at.end {
         return Part::Unusable;
     }
@@ -297,13 +293,13 @@ fn front_part(l: &[u16]) -> Part
     if !steps_right(l, n, at.pairs, at.symbols) {
         return Part::Unusable;
     }
-    Part::Usable(at.end)
+    Part::Usable(at)
 }
 
-// Whether the section that starts at a place of the slice is usable, and if so how long its part is. For every slice and every place the
-// answer is the definition's: usable exactly if document 01's conditions hold of the numbers from that place on, with the length that the
-// section's own counts give. A section that is cut short is unusable, and so is one that would start past the end of the slice. Nothing is
-// written.
+// Whether the section that starts at a place of the slice is usable, and if so its view, whose places count from there. For every slice and
+// every place the answer is the definition's: usable exactly if document 01's conditions hold of the numbers from that place on, with the
+// sizes and places that the section's own counts give. A section that is cut short is unusable, and so is one that would start past the end
+// of the slice. Nothing is written.
 pub fn usable_at(s: &[u16], at: usize) -> Part
     ensures { λ r. ⌜ r ≡ partOf (drop at (now (s .entry))) ⌝ }
 {

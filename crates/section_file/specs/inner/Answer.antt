@@ -4,15 +4,15 @@ use mathlib.Core.List.{List}
 use Prim.Native.Nat.{ℕ, _+_, _*_}
 use lib.ListN.{getD}
 use Rattle.trellis.specs.Own as own
-use Rattle.trellis.specs.Layout.{sectionLength}
 use Rattle.section_file.specs.Usable.{usable}
+use Rattle.section_file.specs.inner.View.{viewOf}
 use Rattle.section_file.specs.declared.Part.{Part}
 use Rattle.section_file.specs.declared.Part.the-variants.{Usable, Unusable}
 use Rattle.section_file.specs.declared.Edge.{Edge}
 
--- the section at the front of a list: usable, with its length, or not
+-- the section at the front of a list: usable, with its view, or not
 unfoldable pub partOf : List ℕ → Part
-partOf l = cond (usable l) (Usable (sectionLength l)) Unusable
+partOf l = cond (usable l) (Usable (viewOf l)) Unusable
 
 -- edge k of those whose pairs begin at one place and whose symbols begin at another
 abbrev pub edgeAt : List ℕ → ℕ → ℕ → ℕ → own.Edge
