@@ -1,13 +1,16 @@
 -- What the numbers of a section give whoever reads it. Its parts stand one behind another by its own counts, and counts in bounds bring its
 -- end near. End states that ascend strictly below a bound are no more than the bound. Edges are counted over all steps, and each belongs to
 -- one step, whose bounds it keeps.
-use mathlib.Core.Path.{_≡_, refl, ap, subst}
+use mathlib.Core.Path.{_≡_, refl, ap, subst, _∙_}
 use mathlib.Core.List.{List}
 use Prim.Native.Nat.{ℕ, zero, suc, _+_, _-_, _*_, _≤_, _<_}
 use native.Mathlib.Decide.{decLt}
+use native.Mathlib.Nat.{le-of-eq}
 use native.Mathlib.Omega.{arith}
-use lib.ListN.{length}
+use lib.ListN.{length, getD, take, drop, length-drop}
+use lib.Seq.{take-all, getD-drop}
 use Rattle.trellis.specs.Bounds.{mostStates, mostWords, mostQ}
+use Rattle.trellis.specs.Own as own
 use Rattle.trellis.specs.Layout.{qOf, nOf, vertexCountOf, edgeCountOf, edgesBefore, allEdges, sectionLength, edgeNumber}
 use Rattle.trellis.specs.Layout.{rootsPlace, goalsPlace, pairsPlace, symbolsPlace}
 use Rattle.trellis.proofs.Laid.{before-none, before-more, before-few}
@@ -15,6 +18,7 @@ use Rattle.section_file.specs.Usable.{stepEdge}
 use Rattle.section_file.specs.inner.Sound.{Sound}
 use Rattle.section_file.specs.inner.Places.{Counted}
 use Rattle.section_file.specs.inner.View.{viewOf}
+use Rattle.section_file.specs.inner.Answer.{edgeIn}
 use Rattle.section_file.specs.declared.View.{View}
 
 -- ---- places
@@ -61,6 +65,39 @@ counts-near {l} {n} c =
     let e = c .nIs in
     let few = before-few l {n = nOf l} {most = mostWords} (λ t h. c .edgesTo t (omega arith)) (nOf l) (omega arith) in
     omega (arith, c .nTo, c .verticesTo 0 (omega arith), c .verticesTo (nOf l) (omega arith))
+
+-- ---- a slice from a place on
+
+module _ (l : List ℕ) (a : ℕ) where
+  pub from-is : take (length l - a) (drop a l) ≡ drop a l
+  from-is = take-all (length l - a) (drop a l) (le-of-eq (length-drop a l))
+
+  from-at : (i : ℕ) → getD (take (length l - a) (drop a l)) i 0 ≡ getD l (a + i) 0
+  from-at i = ap (λ m. getD m i 0) from-is ∙ getD-drop a l i 0
+
+  pub from-length : length (take (length l - a) (drop a l)) ≡ length l - a
+  from-length = ap length from-is ∙ length-drop a l
+
+-- the edges from edge i on, read from where their pairs and their symbols begin
+module _ (l : List ℕ) (i : ℕ) {pairs symbols : ℕ} (p : pairs ≡ pairsPlace l + 2 * i) (s : symbols ≡ symbolsPlace l + i) where
+  pub edges-from : edgeIn (take (length l - pairs) (drop pairs l)) (take (length l - symbols) (drop symbols l)) ≡ (λ k. edgeNumber l (i + k))
+  unfolding edgeNumber
+  edges-from = λ j k. own.edge (first k j) (second k j) (third k j)
+    where
+      first : (k : ℕ) → getD (take (length l - pairs) (drop pairs l)) (2 * k) 0 ≡ getD l (pairsPlace l + 2 * (i + k)) 0
+      first k = let e : pairs + 2 * k ≡ pairsPlace l + 2 * (i + k) = omega arith in from-at l pairs (2 * k) ∙ ap (λ x. getD l x 0) e
+
+      second : (k : ℕ) → getD (take (length l - symbols) (drop symbols l)) k 0 ≡ getD l (symbolsPlace l + (i + k)) 0
+      second k = let e : symbols + k ≡ symbolsPlace l + (i + k) = omega arith in from-at l symbols k ∙ ap (λ x. getD l x 0) e
+
+      third : (k : ℕ) → getD (take (length l - pairs) (drop pairs l)) (2 * k + 1) 0 ≡ getD l (pairsPlace l + 2 * (i + k) + 1) 0
+      third k =
+          let e : pairs + (2 * k + 1) ≡ pairsPlace l + 2 * (i + k) + 1 = omega arith in
+          from-at l pairs (2 * k + 1) ∙ ap (λ x. getD l x 0) e
+
+  pub edges-there : (k : ℕ) → sectionLength l ≤ length l → i + k < allEdges l
+      → (2 * k + 1 < length (take (length l - pairs) (drop pairs l))) × (k < length (take (length l - symbols) (drop symbols l)))
+  edges-there k w h = let P = parts l in (omega (arith, from-length l pairs), omega (arith, from-length l symbols))
 
 -- ---- end states
 

@@ -6,10 +6,9 @@ use mathlib.Core.Bool.{Bool, true, false, not, _||_}
 use mathlib.Core.List.{List, []}
 use Prim.Native.Nat.{ℕ, _+_, _-_, _*_, _≤_, _<_}
 use native.Mathlib.Omega.{arith}
-use native.Mathlib.Nat.{zero-add, le-of-eq}
+use native.Mathlib.Nat.{zero-add}
 use native.Mathlib.Numerals.{add-one}
-use lib.ListN.{length, getD, take, drop, length-drop, drop-of-length-le}
-use lib.Seq.{take-all}
+use lib.ListN.{length, getD, take, drop, drop-of-length-le}
 use lib.Dec.{ltb}
 use borrow.Author.Tests.{ltb-true, lt-ltb, leb-true, le-leb}
 use Rattle.trellis.specs.Bounds.{mostWords, mostSymbols, leastQ, mostQ}
@@ -30,7 +29,7 @@ use Rattle.section_file.proofs.Tests.{given, given-of, same-if, holds-b
 use Rattle.section_file.proofs.Tests.{Passed, passed-start, passed-next}
 use Rattle.trellis.proofs.Bools.{is-true, is-false, clash, left-true, right-true}
 use Rattle.section_file.proofs.Reading.{counted-edges, ascend-is}
-use Rattle.section_file.proofs.Seen.{parts, viewed, counts-near}
+use Rattle.section_file.proofs.Seen.{parts, viewed, counts-near, from-is}
 use Rattle.section_file.proofs.Usable.{Step, Conditions, Inside, usable-says, usable-by, step-says, step-by, inside-says}
 use Rattle.section_file.proofs.Usable.{inside-is, onward-is, inward-is, reached-is, leading-is}
 
@@ -282,4 +281,4 @@ unfolding sizesRight within
 part-past s at h = let e : drop at s ≡ [] = drop-of-length-le s {i = at} (omega arith) in rw e (unusable [] (λ c. clash (sym (c .sizes))))
 
 pub part-from : (s : List ℕ) (at : ℕ) {r : Part} → r ≡ partOf (take (length s - at) (drop at s)) → r ≡ partOf (drop at s)
-part-from s at e = e ∙ ap partOf (take-all (length s - at) (drop at s) (le-of-eq (length-drop at s)))
+part-from s at e = e ∙ ap partOf (from-is s at)

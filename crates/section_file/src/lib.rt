@@ -1,8 +1,8 @@
 // Which sections are usable, by document 01: `usable_at` answers for the section that starts at any place of a slice, whatever numbers the
 // slice has. It looks at each number a few times, and promises an equation with document 01's definition.
 ghost use mathlib.Core.Path.{_≡_};
-ghost use Prim.Native.Nat.{_+_, _≤_};
-ghost use lib.ListN.{getD, drop};
+ghost use Prim.Native.Nat.{_+_, _*_, _<_, _≤_};
+ghost use lib.ListN.{length, getD, drop};
 ghost use Rattle.trellis.specs.Bounds.{mostWords, mostSymbols};
 ghost use Rattle.trellis.specs.Own.{edgeLess};
 ghost use Rattle.trellis.specs.Layout.{nOf, pairsPlace, symbolsPlace};
@@ -11,7 +11,7 @@ ghost use Rattle.section_file.specs.inner.Steps.{inside, above, stepRigh
 ghost use Rattle.trellis.specs.Lists.{all, within};
 ghost use Rattle.section_file.specs.inner.Places.{Counted, StepAt};
 ghost use Rattle.section_file.specs.inner.View.{viewOf};
-ghost use Rattle.section_file.specs.inner.Answer.{partOf, edgeAt, heldEdge, meantEdge};
+ghost use Rattle.section_file.specs.inner.Answer.{partOf, edgeIn, heldEdge, edgeAt, heldNumbers, meantNumbers};
 
 mod states;
 mod twins;
@@ -40,7 +40,14 @@ pub enum Part {
     Unusable,
 }
 
-struct Edge {
+// An edge: the vertices that it joins and its symbol.
+pub struct Edge {
+    pub from: usize,
+    pub symbol: usize,
+    pub to: usize,
+}
+
+struct Numbers {
     from: u16,
     symbol: u16,
     to: u16,
@@ -126,12 +133,24 @@ fn view_of(l: &[u16], n: usize) -> View
     }
 }
 
-// Edge k of those whose pairs and symbols begin at these places.
-fn edge_at(l: &[u16], pairs: usize, symbols: usize, k: usize) -> Edge
-    requires { ⌜ (pairs ≤ 4000000) × (symbols ≤ 4000000) × (k ≤ mostWords) ⌝ }
-    ensures { λ r. ⌜ r ≡ heldEdge (edgeAt (now (l .entry)) pairs symbols k) ⌝ }
+// Edge k of those whose pairs (from, to) and symbols begin at the front of two slices.
+pub fn edge_at(pairs: &[u16], symbols: &[u16], k: usize) -> Edge
+    requires { ⌜ (2 * k + 1 < length (now pairs)) × (k < length (now symbols)) ⌝ }
+    ensures { λ r. ⌜ r ≡ heldEdge (edgeIn (now (pairs .entry)) (now (symbols .entry)) k) ⌝ }
 {
     Edge {
+        from: wide(pairs[2 * k]),
+        symbol: wide(symbols[k]),
+        to: wide(pairs[2 * k + 1]),
+    }
+}
+
+// Edge k of those whose pairs and symbols begin at these places.
+fn numbers_at(l: &[u16], pairs: usize, symbols: usize, k: usize) -> Numbers
+    requires { ⌜ (pairs ≤ 4000000) × (symbols ≤ 4000000) × (k ≤ mostWords) ⌝ }
+    ensures { λ r. ⌜ r ≡ heldNumbers (edgeAt (now (l .entry)) pairs symbols k) ⌝ }
+{
+    Numbers {
         from: number(l, pairs + 2 * k),
         symbol: number(l, symbols + k),
         to: number(l, pairs + 1 + 2 * k),
@@ -150,7 +169,7 @@ fn is_inside(
     requires { ⌜ (pairs ≤ 4000000) × (symbols ≤ 4000000) × (k ≤ mostWords) ⌝ }
     ensures { λ r. ⌜ r ≡ inside (edgeAt (now (l .entry)) pairs symbols) q froms tos k ⌝ }
 {
-    let e = edge_at(l, pairs, symbols, k);
+    let e = numbers_at(l, pairs, symbols, k);
     if e.from >= froms {
         return false;
     }
@@ -182,8 +201,8 @@ fn all_inside(
     true
 }
 
-fn is_less(e: Edge, f: Edge) -> bool
-    ensures { λ r. ⌜ r ≡ edgeLess (meantEdge e) (meantEdge f) ⌝ }
+fn is_less(e: Numbers, f: Numbers) -> bool
+    ensures { λ r. ⌜ r ≡ edgeLess (meantNumbers e) (meantNumbers f) ⌝ }
 {
     if e.from < f.from {
         return true;
@@ -209,8 +228,8 @@ fn is_above(l: &[u16], pairs: usize, symbols: usize, k: usize) -> bool
         return true;
     }
     is_less(
-        edge_at(l, pairs, symbols, k - 1),
-        edge_at(l, pairs, symbols, k),
+        numbers_at(l, pairs, symbols, k - 1),
+        numbers_at(l, pairs, symbols, k),
     )
 }
 
