@@ -21,6 +21,7 @@ use Rattle.section_file.specs.Usable.{usable}
 use Rattle.section_file.specs.declared.Part.{Part}
 use Rattle.section_file.specs.declared.Part.the-variants.{Usable, Unusable}
 use Rattle.section_file.specs.inner.Sound.{Sound}
+use Rattle.section_file.specs.inner.View.{viewOf}
 use Rattle.section_file.specs.inner.Answer.{partOf}
 use Rattle.section_file.proofs.Usable.{usable-sound}
 use Rattle.chain.specs.Sections.{sectionStart, sectionAt, unusable, sectionsBad, badSectionOf}
@@ -31,10 +32,10 @@ use Rattle.chain.proofs.Bounds.{within-of}
 -- ---- the length that was read
 
 pub part-length : (l : List ℕ) {p : Part} {n : ℕ} → p ≡ partOf l → n ≡ partLength p → n ≡ cond (usable l) (sectionLength l) 0
-unfolding partOf
+unfolding partOf viewOf
 part-length l e h = h ∙ ap partLength e ∙ go (usable l)
   where
-    go : (b : Bool) → partLength (cond b (Usable (sectionLength l)) Unusable) ≡ cond b (sectionLength l) 0
+    go : (b : Bool) → partLength (cond b (Usable (viewOf l)) Unusable) ≡ cond b (sectionLength l) 0
     go true = refl
     go false = refl
 

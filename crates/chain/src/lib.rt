@@ -63,7 +63,7 @@ fn length_of(part: Part) -> usize
     ensures { λ r. ⌜ r ≡ partLength part ⌝ }
 {
     match part {
-        Part::Usable(length) => length,
+        Part::Usable(view) => view.end,
         Part::Unusable => 0,
     }
 }

@@ -17,9 +17,12 @@ use Rattle.trellis.specs.Layout.{sectionLength, edgeNumber, stepEdges}
 use Rattle.section_file.specs.Usable.{stepEdge, usable}
 use Rattle.section_file.specs.inner.Sound.{EdgeBefore, Sound}
 use Rattle.section_file.specs.inner.Answer.{edgeAt, partOf}
+use Rattle.section_file.specs.inner.View.{viewOf}
+use Rattle.section_file.specs.declared.View.{View}
 use Rattle.section_file.specs.declared.Part.the-variants.{Usable, Unusable}
 use Rattle.trellis.proofs.Bools.{left-true, right-true}
 use Rattle.trellis.proofs.Laid.{before-few}
+use Rattle.section_file.proofs.Seen.{viewed}
 use Rattle.section_file.proofs.Steps.{edges-at}
 use Rattle.read_back.specs.ReadingBack.{isSection}
 use Rattle.read_back.specs.inner.Growing.{StepIn, FilledPlaces}
@@ -103,18 +106,19 @@ pub section-sound : (s : List ℕ) {b : Bool} → b ≡ isSection s → not b �
 unfolding isSection
 section-sound s {b} e f = let u = sym e ∙ not-false b f in (left-true _ _ u, eqb-true _ _ (right-true (usable s) _ u))
 
-pub is-usable : (s : List ℕ) (k : ℕ) → Usable k ≡ partOf (drop 0 s) → eqb k (length s) ≡ isSection s
+pub is-usable : (s : List ℕ) (at : View) → Usable at ≡ partOf (drop 0 s) → eqb (at .end) (length s) ≡ isSection s
 unfolding isSection partOf
-is-usable s k e = go (usable s) e
+is-usable s at e = go (usable s) e
   where
-    go : (b : Bool) → Usable k ≡ cond b (Usable (sectionLength s)) Unusable → eqb k (length s) ≡ (b && eqb (sectionLength s) (length s))
-    go true q = let d : k ≡ sectionLength s = cc in ap (λ m. eqb m (length s)) d
+    go : (b : Bool) → Usable at ≡ cond b (Usable (viewOf s)) Unusable
+        → eqb (at .end) (length s) ≡ (b && eqb (sectionLength s) (length s))
+    go true q = let d : at ≡ viewOf s = cc in ap (λ m. eqb m (length s)) (viewed d .end-is)
     go false q = absurd (let z : _≡_ {A = ℕ} 0 1 = cc in omega arith)
 
 pub not-usable : (s : List ℕ) → Unusable ≡ partOf (drop 0 s) → false ≡ isSection s
 unfolding isSection partOf
 not-usable s e = go (usable s) e
   where
-    go : (b : Bool) → Unusable ≡ cond b (Usable (sectionLength s)) Unusable → false ≡ (b && eqb (sectionLength s) (length s))
+    go : (b : Bool) → Unusable ≡ cond b (Usable (viewOf s)) Unusable → false ≡ (b && eqb (sectionLength s) (length s))
     go true q = absurd (let z : _≡_ {A = ℕ} 0 1 = cc in omega arith)
     go false q = refl

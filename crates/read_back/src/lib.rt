@@ -297,7 +297,7 @@ fn is_section(s: &[u16]) -> bool
 {
     let part = usable_at(s, 0);
     match part {
-        Part::Usable(length) => length == s.len(),
+        Part::Usable(at) => at.end == s.len(),
         Part::Unusable => false,
     }
 }

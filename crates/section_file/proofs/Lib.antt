@@ -4,6 +4,7 @@ pub mod Reading
 pub mod Marking
 pub mod Steps
 pub mod Usable
+pub mod Seen
 pub mod Words
 pub mod Own
 pub mod OwnWords

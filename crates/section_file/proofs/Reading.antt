@@ -15,9 +15,10 @@ use Rattle.trellis.specs.Layout.{qOf, nOf, statesOf, vertexCountOf, edgeCountOf
 use Rattle.trellis.specs.Layout.{rootsPlace, goalsPlace, pairsPlace, symbolsPlace}
 use Rattle.section_file.specs.Usable.{stepEdge, sizesRight, countsRight, rising, statesRight, edgesAscend}
 use Rattle.section_file.specs.inner.Steps.{higher, stateRight, inside, above}
-use Rattle.section_file.specs.inner.Places.{PlacesOf, Counted}
-use Rattle.section_file.specs.inner.Answer.{edgeAt, heldEdge, meantEdge}
-use Rattle.section_file.specs.declared.Edge.{Edge}
+use Rattle.section_file.specs.inner.Places.{Counted}
+use Rattle.section_file.specs.inner.View.{viewOf}
+use Rattle.section_file.specs.inner.Answer.{edgeIn, heldEdge, edgeAt, heldNumbers, meantNumbers}
+use Rattle.section_file.specs.declared.Numbers.{Numbers}
 use Rattle.section_file.proofs.Tests.{all-both, all-next}
 use Rattle.trellis.proofs.Bools.{holds, is-true}
 use Rattle.trellis.proofs.ThreeNumbers.{lower-yes, lower-of, lower-chain}
@@ -72,24 +73,34 @@ module _ (l : List ℕ) {n : ℕ} {a : Bool} (n-is : n ≡ nOf l) (a-is : a ≡ 
 
 -- ---- places
 
-pub places-are : (l : List ℕ) {n edges x v y w : ℕ} → n ≡ nOf l → n ≤ mostSymbols
+pub view-is : (l : List ℕ) {n q edges x v y w : ℕ} → Counted l n → q ≡ getD l 0 0
     → (edges ≡ sum (λ t. getD l (4 + n + t) 0) 0 n) × (edges ≤ 65535 * n)
     → x ≡ getD l 3 0 → (v ≡ x) × (v < 65536) → y ≡ getD l (3 + n) 0 → (w ≡ y) × (w < 65536)
-    → PlacesOf l (4 + 2 * n) (4 + 2 * n + v) (4 + 2 * n + v + w) (4 + 2 * n + v + w + 2 * edges) (4 + 2 * n + v + w + 2 * edges + edges)
-unfolding rootsPlace goalsPlace pairsPlace symbolsPlace sectionLength edgesBefore vertexCountOf edgeCountOf
-places-are l {n} {edges} {x} {v} {y} {w} n-is small e x-is v-is y-is w-is =
-    let r : 4 + 2 * n ≡ rootsPlace l = rw (← n-is) in
+    → record {
+      q = q;
+      n = n;
+      roots = 4 + 2 * n;
+      goals = 4 + 2 * n + v;
+      pairs = 4 + 2 * n + v + w;
+      symbols = 4 + 2 * n + v + w + 2 * edges;
+      edges = edges;
+      end = 4 + 2 * n + v + w + 2 * edges + edges;
+    } ≡ viewOf l
+unfolding viewOf rootsPlace goalsPlace pairsPlace symbolsPlace sectionLength edgesBefore vertexCountOf edgeCountOf
+view-is l {n} {q} {edges} {x} {v} {y} {w} c q-is e x-is v-is y-is w-is =
+    let r = c .nIs in
     let f : v ≡ getD l 3 0 = v-is .0 ∙ x-is in
-    let g : w ≡ getD l (3 + nOf l) 0 = w-is .0 ∙ y-is ∙ rw n-is in
-    let k : edges ≡ sum (λ t. getD l (4 + nOf l + t) 0) 0 (nOf l) = e .0 ∙ rw n-is in
-    record {
-      rootsIs = r;
-      goalsIs = rw (← n-is, f);
-      pairsIs = rw (f, g) (rw n-is);
-      symbolsIs = rw (f, g, k) (rw n-is);
-      endIs = rw (f, g, k) (rw n-is);
-      near = omega (arith, v-is .1, w-is .1, e .1);
-      order = (omega arith, omega arith, omega arith, omega arith);
+    let g : w ≡ getD l (3 + nOf l) 0 = w-is .0 ∙ y-is ∙ rw r in
+    let k : edges ≡ sum (λ t. getD l (4 + nOf l + t) 0) 0 (nOf l) = e .0 ∙ rw r in
+    λ i. record {
+      q = q-is i;
+      n = r i;
+      roots = 4 + 2 * r i;
+      goals = 4 + 2 * r i + f i;
+      pairs = 4 + 2 * r i + f i + g i;
+      symbols = 4 + 2 * r i + f i + g i + 2 * k i;
+      edges = k i;
+      end = 4 + 2 * r i + f i + g i + 2 * k i + k i;
     }
 
 -- a count that was read, small enough
@@ -163,54 +174,58 @@ module _ (l : List ℕ) {n roots goals s : ℕ} (c : Counted l n) (r-is : roots 
 
 -- ---- edges
 
+pub edge-held : (pairs symbols : List ℕ) (k : ℕ) {x a y : ℕ} → (x ≡ getD pairs (2 * k) 0) × (x < 65536) → (a ≡ getD symbols k 0) × (a < 65536)
+    → (y ≡ getD pairs (2 * k + 1) 0) × (y < 65536) → record { from = x; symbol = a; to = y } ≡ heldEdge (edgeIn pairs symbols k)
+edge-held pairs symbols k p q r = let a = p .0 in let b = q .0 in let c = r .0 in simp (a, b, c)
+
 pub edge-is : (l : List ℕ) (pairs symbols k : ℕ) {x a y : ℕ} → x ≡ getD l (pairs + 2 * k) 0 → a ≡ getD l (symbols + k) 0
-    → y ≡ getD l (pairs + 1 + 2 * k) 0 → record { from = x; symbol = a; to = y } ≡ heldEdge (edgeAt l pairs symbols k)
+    → y ≡ getD l (pairs + 1 + 2 * k) 0 → record { from = x; symbol = a; to = y } ≡ heldNumbers (edgeAt l pairs symbols k)
 edge-is l pairs symbols k p q r = simp (p, q, r)
 
-module _ (l : List ℕ) (pairs symbols q froms tos k : ℕ) {e : Edge} (is : e ≡ heldEdge (edgeAt l pairs symbols k)) where
+module _ (l : List ℕ) (pairs symbols q froms tos k : ℕ) {e : Numbers} (is : e ≡ heldNumbers (edgeAt l pairs symbols k)) where
   pub from-outside : froms ≤ e .from → false ≡ inside (edgeAt l pairs symbols) q froms tos k
   unfolding inside
   from-outside h = rw is at (outside e h)
     where
-      outside : (e : Edge) → froms ≤ e .from → false ≡ (ltb (e .from) froms && (ltb (e .to) tos && ltb (e .symbol) q))
+      outside : (e : Numbers) → froms ≤ e .from → false ≡ (ltb (e .from) froms && (ltb (e .to) tos && ltb (e .symbol) q))
       outside e h = simp (le-ltb _ _ h)
 
   pub to-outside : e .from < froms → tos ≤ e .to → false ≡ inside (edgeAt l pairs symbols) q froms tos k
   unfolding inside
   to-outside h g = rw is at (outside e h g)
     where
-      outside : (e : Edge) → e .from < froms → tos ≤ e .to → false ≡ (ltb (e .from) froms && (ltb (e .to) tos && ltb (e .symbol) q))
+      outside : (e : Numbers) → e .from < froms → tos ≤ e .to → false ≡ (ltb (e .from) froms && (ltb (e .to) tos && ltb (e .symbol) q))
       outside e h g = simp (lt-ltb _ _ h, le-ltb _ _ g)
 
   pub inside-by-symbol : e .from < froms → e .to < tos → ltb (e .symbol) q ≡ inside (edgeAt l pairs symbols) q froms tos k
   unfolding inside
   inside-by-symbol h g = rest e h g ∙ rw is
     where
-      rest : (e : Edge) → e .from < froms → e .to < tos
+      rest : (e : Numbers) → e .from < froms → e .to < tos
           → ltb (e .symbol) q ≡ (ltb (e .from) froms && (ltb (e .to) tos && ltb (e .symbol) q))
       rest e h g = simp (lt-ltb _ _ h, lt-ltb _ _ g)
 
-module _ (e f : Edge) where
-  pub from-less : e .from < f .from → true ≡ own.edgeLess (meantEdge e) (meantEdge f)
+module _ (e f : Numbers) where
+  pub from-less : e .from < f .from → true ≡ own.edgeLess (meantNumbers e) (meantNumbers f)
   unfolding lower
   from-less h = simp (lt-ltb _ _ h)
 
   module _ (h : f .from ≤ e .from) where
-    pub from-other : (e .from ≡ f .from → ⊥) → false ≡ own.edgeLess (meantEdge e) (meantEdge f)
+    pub from-other : (e .from ≡ f .from → ⊥) → false ≡ own.edgeLess (meantNumbers e) (meantNumbers f)
     unfolding lower
     from-other d = simp (le-ltb _ _ h, ne-eqb _ _ d)
 
     module _ (d : e .from ≡ f .from) where
-      pub symbol-less : e .symbol < f .symbol → true ≡ own.edgeLess (meantEdge e) (meantEdge f)
+      pub symbol-less : e .symbol < f .symbol → true ≡ own.edgeLess (meantNumbers e) (meantNumbers f)
       unfolding lower
       symbol-less k = simp (le-ltb _ _ h, eq-eqb _ _ d, lt-ltb _ _ k)
 
       module _ (k : f .symbol ≤ e .symbol) where
-        pub symbol-other : (e .symbol ≡ f .symbol → ⊥) → false ≡ own.edgeLess (meantEdge e) (meantEdge f)
+        pub symbol-other : (e .symbol ≡ f .symbol → ⊥) → false ≡ own.edgeLess (meantNumbers e) (meantNumbers f)
         unfolding lower
         symbol-other g = simp (le-ltb _ _ h, eq-eqb _ _ d, le-ltb _ _ k, ne-eqb _ _ g)
 
-        pub less-by-to : e .symbol ≡ f .symbol → ltb (e .to) (f .to) ≡ own.edgeLess (meantEdge e) (meantEdge f)
+        pub less-by-to : e .symbol ≡ f .symbol → ltb (e .to) (f .to) ≡ own.edgeLess (meantNumbers e) (meantNumbers f)
         unfolding lower
         less-by-to g = simp (le-ltb _ _ h, eq-eqb _ _ d, le-ltb _ _ k, eq-eqb _ _ g)
 
@@ -219,8 +234,8 @@ module _ (l : List ℕ) (pairs symbols : ℕ) where
   unfolding above
   no-edge-before e = rw e
 
-  pub above-is : (k : ℕ) {e f : Edge} {b : Bool} → (k ≡ 0 → ⊥) → e ≡ heldEdge (edgeAt l pairs symbols (k - 1))
-      → f ≡ heldEdge (edgeAt l pairs symbols k) → b ≡ own.edgeLess (meantEdge e) (meantEdge f)
+  pub above-is : (k : ℕ) {e f : Numbers} {b : Bool} → (k ≡ 0 → ⊥) → e ≡ heldNumbers (edgeAt l pairs symbols (k - 1))
+      → f ≡ heldNumbers (edgeAt l pairs symbols k) → b ≡ own.edgeLess (meantNumbers e) (meantNumbers f)
       → b ≡ above (edgeAt l pairs symbols) k
   unfolding above
   above-is zero h d g i = absurd (h refl)

@@ -6,10 +6,9 @@ use mathlib.Core.Bool.{Bool, true, false, not, _||_}
 use mathlib.Core.List.{List, []}
 use Prim.Native.Nat.{ℕ, _+_, _-_, _*_, _≤_, _<_}
 use native.Mathlib.Omega.{arith}
-use native.Mathlib.Nat.{zero-add, le-of-eq}
+use native.Mathlib.Nat.{zero-add}
 use native.Mathlib.Numerals.{add-one}
-use lib.ListN.{length, getD, take, drop, length-drop, drop-of-length-le}
-use lib.Seq.{take-all}
+use lib.ListN.{length, getD, take, drop, drop-of-length-le}
 use lib.Dec.{ltb}
 use borrow.Author.Tests.{ltb-true, lt-ltb, leb-true, le-leb}
 use Rattle.trellis.specs.Bounds.{mostWords, mostSymbols, leastQ, mostQ}
@@ -20,14 +19,17 @@ use Rattle.trellis.proofs.Lists.{sum-last}
 use Rattle.section_file.specs.Usable.{stepEdge, whole, sizesRight, edgesInside, countsRight, statesRight, edgesAscend}
 use Rattle.section_file.specs.Usable.{onward, inward, noTwinsReached, noTwinsLeading, usable}
 use Rattle.section_file.specs.inner.Steps.{inside, above, covered, noTwins, noTwinsAt, stepRight}
-use Rattle.section_file.specs.inner.Places.{PlacesOf, Counted, StepAt, Vertices, Symbols}
+use Rattle.section_file.specs.inner.Places.{Counted, StepAt, Vertices, Symbols}
+use Rattle.section_file.specs.inner.View.{viewOf}
 use Rattle.section_file.specs.inner.Answer.{partOf, edgeAt}
+use Rattle.section_file.specs.declared.View.{View}
 use Rattle.section_file.specs.declared.Part.{Part}
 use Rattle.section_file.specs.declared.Part.the-variants.{Usable, Unusable}
 use Rattle.section_file.proofs.Tests.{given, given-of, same-if, holds-by, fails-by, to-high, all-at, all-of}
 use Rattle.section_file.proofs.Tests.{Passed, passed-start, passed-next}
 use Rattle.trellis.proofs.Bools.{is-true, is-false, clash, left-true, right-true}
 use Rattle.section_file.proofs.Reading.{counted-edges, ascend-is}
+use Rattle.section_file.proofs.Seen.{parts, viewed, counts-near, from-is}
 use Rattle.section_file.proofs.Usable.{Step, Conditions, Inside, usable-says, usable-by, step-says, step-by, inside-says}
 use Rattle.section_file.proofs.Usable.{inside-is, onward-is, inward-is, reached-is, leading-is}
 
@@ -191,8 +193,8 @@ unfolding edgesBefore sum
 steps-start l n = record { passed = passed-start; beforeIs = refl; small = omega arith }
 
 pub step-at : {l : List ℕ} {n before t pairs symbols : ℕ} → Counted l n → pairs ≡ pairsPlace l → symbols ≡ symbolsPlace l
-    → pairs ≤ 2000000 → symbols ≤ 2000000 → InSteps l n before t → t < n → StepAt l n t (pairs + 2 * before) (symbols + before)
-step-at {l} {n} {before} {t} c p q h k s i = record {
+    → InSteps l n before t → t < n → StepAt l n t (pairs + 2 * before) (symbols + before)
+step-at {l} {n} {before} {t} c p q s i = let P = parts l in let N = counts-near c in record {
   counted = c;
   inside = i;
   pairsIs = omega (arith, s .beforeIs);
@@ -254,29 +256,29 @@ module _ (l : List ℕ) where
   part-steps n-is e t = unusable (λ c.
       fails-by (e ∙ ap (all (stepRight l)) n-is) t (all-of (stepRight l) (nOf l) (λ t h. step-by l t (c .steps t h))))
 
-  module _ {roots goals pairs symbols end : ℕ} (at : PlacesOf l roots goals pairs symbols end) where
-    pub part-cut : length l < end → Unusable ≡ partOf l
+  module _ {at : View} (at-is : at ≡ viewOf l) where
+    pub part-cut : length l < at .end → Unusable ≡ partOf l
     unfolding whole
-    part-cut h = unusable (λ c. let e = leb-true (sectionLength l) (length l) (c .is-whole) in omega (arith, at .endIs))
+    part-cut h = unusable (λ c. let e = leb-true (sectionLength l) (length l) (c .is-whole) in omega (arith, viewed at-is .end-is))
 
     -- none fails
-    pub part-usable : {n : ℕ} {a b d m : Bool} → end ≤ length l → a ≡ sizesRight l → not a ≡ false → b ≡ countsRight l → not b ≡ false
-        → d ≡ statesRight l → not d ≡ false → n ≡ nOf l → m ≡ all (stepRight l) n → not m ≡ false → Usable end ≡ partOf l
+    pub part-usable : {n : ℕ} {a b d m : Bool} → at .end ≤ length l → a ≡ sizesRight l → not a ≡ false → b ≡ countsRight l → not b ≡ false
+        → d ≡ statesRight l → not d ≡ false → n ≡ nOf l → m ≡ all (stepRight l) n → not m ≡ false → Usable at ≡ partOf l
     unfolding partOf whole
     part-usable h e a-yes f b-yes g d-yes n-is i m-yes =
         let steps : all (stepRight l) (nOf l) ≡ true = holds-by (i ∙ ap (all (stepRight l)) n-is) m-yes in
         let u : usable l ≡ true = usable-by l (record {
-          is-whole = le-leb (sectionLength l) (length l) (omega (arith, at .endIs));
+          is-whole = le-leb (sectionLength l) (length l) (omega (arith, viewed at-is .end-is));
           sizes = holds-by e a-yes;
           counts = holds-by f b-yes;
           states = holds-by g d-yes;
           steps = λ t h. step-says l t (all-at (stepRight l) (nOf l) t steps h);
         }) in
-        rw u (ap Usable (at .endIs))
+        rw u (ap Usable at-is)
 
 pub part-past : (s : List ℕ) (at : ℕ) → length s < at → Unusable ≡ partOf (drop at s)
 unfolding sizesRight within
 part-past s at h = let e : drop at s ≡ [] = drop-of-length-le s {i = at} (omega arith) in rw e (unusable [] (λ c. clash (sym (c .sizes))))
 
 pub part-from : (s : List ℕ) (at : ℕ) {r : Part} → r ≡ partOf (take (length s - at) (drop at s)) → r ≡ partOf (drop at s)
-part-from s at e = e ∙ ap partOf (take-all (length s - at) (drop at s) (le-of-eq (length-drop at s)))
+part-from s at e = e ∙ ap partOf (from-is s at)

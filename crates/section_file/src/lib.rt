@@ -1,16 +1,17 @@
 // Which sections are usable, by document 01: `usable_at` answers for the section that starts at any place of a slice, whatever numbers the
 // slice has. It looks at each number a few times, and promises an equation with document 01's definition.
 ghost use mathlib.Core.Path.{_≡_};
-ghost use Prim.Native.Nat.{_+_, _≤_};
-ghost use lib.ListN.{getD, drop};
+ghost use Prim.Native.Nat.{_+_, _*_, _<_, _≤_};
+ghost use lib.ListN.{length, getD, drop};
 ghost use Rattle.trellis.specs.Bounds.{mostWords, mostSymbols};
 ghost use Rattle.trellis.specs.Own.{edgeLess};
 ghost use Rattle.trellis.specs.Layout.{nOf, pairsPlace, symbolsPlace};
 ghost use Rattle.section_file.specs.Usable.{sizesRight, countsRight};
 ghost use Rattle.section_file.specs.inner.Steps.{inside, above, stepRight};
 ghost use Rattle.trellis.specs.Lists.{all, within};
-ghost use Rattle.section_file.specs.inner.Places.{PlacesOf, Counted, StepAt};
-ghost use Rattle.section_file.specs.inner.Answer.{partOf, edgeAt, heldEdge, meantEdge};
+ghost use Rattle.section_file.specs.inner.Places.{Counted, StepAt};
+ghost use Rattle.section_file.specs.inner.View.{viewOf};
+ghost use Rattle.section_file.specs.inner.Answer.{partOf, edgeIn, heldEdge, edgeAt, heldNumbers, meantNumbers};
 
 mod states;
 mod twins;
@@ -33,13 +34,20 @@ const MOST_STATES: u16 = trellis::MOST_STATES as u16;
 
 const MOST_WORDS: u16 = trellis::MOST_WORDS as u16;
 
-// What stands at a place of a slice: a usable section, with the length of its part, or none.
+// What stands at a place of a slice: a usable section, of which this is the view, or none.
 pub enum Part {
-    Usable(usize),
+    Usable(View),
     Unusable,
 }
 
-struct Edge {
+// An edge: the vertices that it joins and its symbol.
+pub struct Edge {
+    pub from: usize,
+    pub symbol: usize,
+    pub to: usize,
+}
+
+struct Numbers {
     from: u16,
     symbol: u16,
     to: u16,
@@ -56,15 +64,6 @@ pub struct View {
     pub symbols: usize,
     pub edges: usize,
     pub end: usize,
-}
-
-// Where the root states, the goal states, the pairs (from, to) and the symbols begin, and where the section ends.
-struct Places {
-    roots: usize,
-    goals: usize,
-    pairs: usize,
-    symbols: usize,
-    end: usize,
 }
 
 fn is_within(low: u16, high: u16, x: u16) -> bool
@@ -110,31 +109,48 @@ fn counts_right(l: &[u16], n: usize) -> bool
     all_counts(l, 4 + n, n)
 }
 
-fn places_of(l: &[u16], n: usize) -> Places
-    requires { ⌜ (n ≡ nOf (now l)) × (n ≤ mostSymbols) ⌝ }
-    ensures { λ r. ⌜ PlacesOf (now (l .entry)) (r .roots) (r .goals) (r .pairs) (r .symbols) (r .end) ⌝ }
+// Each part stands behind the one before it.
+fn view_of(l: &[u16], n: usize) -> View
+    requires { ⌜ Counted (now l) n ⌝ }
+    ensures { λ r. ⌜ r ≡ viewOf (now (l .entry)) ⌝ }
 {
+    let q = number(l, 0);
     let edges = total(l, 4 + n, n);
     let roots = 4 + 2 * n;
     let goals = roots + wide(number(l, 3));
     let pairs = goals + wide(number(l, 3 + n));
     let symbols = pairs + 2 * edges;
     let end = symbols + edges;
-    Places {
+    View {
+        q,
+        n,
         roots,
         goals,
         pairs,
         symbols,
+        edges,
         end,
     }
 }
 
-// Edge k of those whose pairs and symbols begin at these places.
-fn edge_at(l: &[u16], pairs: usize, symbols: usize, k: usize) -> Edge
-    requires { ⌜ (pairs ≤ 4000000) × (symbols ≤ 4000000) × (k ≤ mostWords) ⌝ }
-    ensures { λ r. ⌜ r ≡ heldEdge (edgeAt (now (l .entry)) pairs symbols k) ⌝ }
+// Edge k of those whose pairs (from, to) and symbols begin at the front of two slices.
+pub fn edge_at(pairs: &[u16], symbols: &[u16], k: usize) -> Edge
+    requires { ⌜ (2 * k + 1 < length (now pairs)) × (k < length (now symbols)) ⌝ }
+    ensures { λ r. ⌜ r ≡ heldEdge (edgeIn (now (pairs .entry)) (now (symbols .entry)) k) ⌝ }
 {
     Edge {
+        from: wide(pairs[2 * k]),
+        symbol: wide(symbols[k]),
+        to: wide(pairs[2 * k + 1]),
+    }
+}
+
+// Edge k of those whose pairs and symbols begin at these places.
+fn numbers_at(l: &[u16], pairs: usize, symbols: usize, k: usize) -> Numbers
+    requires { ⌜ (pairs ≤ 4000000) × (symbols ≤ 4000000) × (k ≤ mostWords) ⌝ }
+    ensures { λ r. ⌜ r ≡ heldNumbers (edgeAt (now (l .entry)) pairs symbols k) ⌝ }
+{
+    Numbers {
         from: number(l, pairs + 2 * k),
         symbol: number(l, symbols + k),
         to: number(l, pairs + 1 + 2 * k),
@@ -153,7 +169,7 @@ fn is_inside(
     requires { ⌜ (pairs ≤ 4000000) × (symbols ≤ 4000000) × (k ≤ mostWords) ⌝ }
     ensures { λ r. ⌜ r ≡ inside (edgeAt (now (l .entry)) pairs symbols) q froms tos k ⌝ }
 {
-    let e = edge_at(l, pairs, symbols, k);
+    let e = numbers_at(l, pairs, symbols, k);
     if e.from >= froms {
         return false;
     }
@@ -185,8 +201,8 @@ fn all_inside(
     true
 }
 
-fn is_less(e: Edge, f: Edge) -> bool
-    ensures { λ r. ⌜ r ≡ edgeLess (meantEdge e) (meantEdge f) ⌝ }
+fn is_less(e: Numbers, f: Numbers) -> bool
+    ensures { λ r. ⌜ r ≡ edgeLess (meantNumbers e) (meantNumbers f) ⌝ }
 {
     if e.from < f.from {
         return true;
@@ -212,8 +228,8 @@ fn is_above(l: &[u16], pairs: usize, symbols: usize, k: usize) -> bool
         return true;
     }
     is_less(
-        edge_at(l, pairs, symbols, k - 1),
-        edge_at(l, pairs, symbols, k),
+        numbers_at(l, pairs, symbols, k - 1),
+        numbers_at(l, pairs, symbols, k),
     )
 }
 
@@ -260,8 +276,7 @@ fn step_right(l: &[u16], n: usize, t: usize, pairs: usize, symbols: usize) -> bo
 
 // All steps; the edges of a step stand behind those of the steps before it.
 fn steps_right(l: &[u16], n: usize, pairs: usize, symbols: usize) -> bool
-    requires { ⌜ Counted (now l) n × (pairs ≡ pairsPlace (now l)) × (symbols ≡ symbolsPlace (now l))
-        × (pairs ≤ 2000000) × (symbols ≤ 2000000) ⌝ }
+    requires { ⌜ Counted (now l) n × (pairs ≡ pairsPlace (now l)) × (symbols ≡ symbolsPlace (now l)) ⌝ }
     ensures { λ r. ⌜ r ≡ all (stepRight (now (l .entry))) n ⌝ }
 {
     let mut before: usize = 0;
@@ -287,7 +302,7 @@ fn front_part(l: &[u16]) -> Part
     if !counts_right(l, n) {
         return Part::Unusable;
     }
-    let at = places_of(l, n);
+    let at = view_of(l, n);
     if l.len() < at.end {
         return Part::Unusable;
     }
@@ -297,13 +312,13 @@ fn front_part(l: &[u16]) -> Part
     if !steps_right(l, n, at.pairs, at.symbols) {
         return Part::Unusable;
     }
-    Part::Usable(at.end)
+    Part::Usable(at)
 }
 
-// Whether the section that starts at a place of the slice is usable, and if so how long its part is. For every slice and every place the
-// answer is the definition's: usable exactly if document 01's conditions hold of the numbers from that place on, with the length that the
-// section's own counts give. A section that is cut short is unusable, and so is one that would start past the end of the slice. Nothing is
-// written.
+// Whether the section that starts at a place of the slice is usable, and if so its view, whose places count from there. For every slice and
+// every place the answer is the definition's: usable exactly if document 01's conditions hold of the numbers from that place on, with the
+// sizes and places that the section's own counts give. A section that is cut short is unusable, and so is one that would start past the end
+// of the slice. Nothing is written.
 pub fn usable_at(s: &[u16], at: usize) -> Part
     ensures { λ r. ⌜ r ≡ partOf (drop at (now (s .entry))) ⌝ }
 {

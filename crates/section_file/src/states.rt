@@ -48,7 +48,7 @@ fn is_rising(l: &[u16], at: usize, count: usize, bound: u16) -> bool
 
 // Whether the end states ascend strictly and are below S.
 pub fn states_right(l: &[u16], n: usize, roots: usize, goals: usize) -> bool
-    requires { ⌜ Counted (now l) n × (roots ≡ rootsPlace (now l)) × (goals ≡ goalsPlace (now l)) × (goals ≤ 4000000) × (roots ≤ 4000000) ⌝ }
+    requires { ⌜ Counted (now l) n × (roots ≡ rootsPlace (now l)) × (goals ≡ goalsPlace (now l)) ⌝ }
     ensures { λ r. ⌜ r ≡ statesRight (now (l .entry)) ⌝ }
 {
     let states = number(l, 2);

@@ -25,5 +25,5 @@ pub record FirstUnusable (sections starts : List ℕ) (k r : ℕ) : Type 0 where
 
 -- the length of a part of the sections, 0 where it is unusable
 abbrev pub partLength : Part → ℕ
-partLength (Usable length) = length
+partLength (Usable view) = view .end
 partLength Unusable = 0

@@ -15,8 +15,8 @@ enum-told : tie.Need-enum-told
 enum-told c = search needs
 
 returns : tie.Need-returns
-returns c = let u = c .before .before .before in
-    is-usable (u .before .before .args .s .now) (c .before .part .given .0 .0) (sym (c .before .part .given .1) ∙ u .usable-at .ensures)
+returns c = let p = c .before .before in let u = p .before .before in
+    is-usable (u .before .before .args .s .now) (p .part .given .0 .0) (sym (p .part .given .1) ∙ u .usable-at .ensures)
 
 returns-2 : tie.Need-returns-2
 returns-2 c = let u = c .before .before in

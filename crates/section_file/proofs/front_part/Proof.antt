@@ -1,10 +1,10 @@
 -- `section_file::front_part` meets its contract: the first condition that fails decides, and where none fails the section is usable.
 use mathlib.Core.Path.{_≡_, _∙_}
 use Prim.Native.Nat.{_≤_}
-use native.Mathlib.Omega.{arith}
 use Rattle.trellis.specs.Bounds.{mostSymbols}
 use Rattle.trellis.specs.Layout.{nOf}
 use Rattle.section_file.specs.inner.Places.{Counted}
+use Rattle.section_file.proofs.Seen.{viewed}
 use Rattle.section_file.proofs.Steps.{n-few, counted, part-sizes, part-counts, part-cut, part-states, part-steps, part-usable}
 use borrow.Author.Needs.{needs}
 use Rattle.section_file.proofs.front_part.Statement.{statement}
@@ -42,18 +42,17 @@ counts-right-requires c κs = (n-is c, n-small c)
 returns-2 : tie.Need-returns-2
 returns-2 c = part-counts _ (c .before .counts-right .ensures) (c .if2 .taken)
 
-places-of-requires : tie.Need-places-of-requires
-places-of-requires c κs = let w = c .before .before in (n-is w, n-small w)
+view-of-requires : tie.Need-view-of-requires
+view-of-requires c κs = counts c
 
 returns-3 : tie.Need-returns-3
-returns-3 c = part-cut _ (c .before .before .places-of .ensures) (c .if3 .taken)
+returns-3 c = part-cut _ (c .before .before .view-of .ensures) (c .if3 .taken)
 
 states-right-requires : tie.Need-states-right-requires
 states-right-requires c κs =
     let p = c .before .before in
-    let q = p .places-of .ensures in
-    let o = q .order in
-    (counts (p .before), q .rootsIs, q .goalsIs, omega (arith, q .near, o .1, o .2, o .3), omega (arith, q .near, o .0, o .1, o .2, o .3))
+    let v = viewed (p .view-of .ensures) in
+    (counts (p .before), v .roots-is, v .goals-is)
 
 returns-4 : tie.Need-returns-4
 returns-4 c = part-states _ (c .before .states-right .ensures) (c .if4 .taken)
@@ -61,8 +60,8 @@ returns-4 c = part-states _ (c .before .states-right .ensures) (c .if4 .taken)
 steps-right-requires : tie.Need-steps-right-requires
 steps-right-requires c κs =
     let p = c .before .before .before .before in
-    let q = p .places-of .ensures in
-    (counts (p .before), q .pairsIs, q .symbolsIs, omega (arith, q .near, q .order .2, q .order .3), omega (arith, q .near, q .order .3))
+    let v = viewed (p .view-of .ensures) in
+    (counts (p .before), v .pairs-is, v .symbols-is)
 
 returns-5 : tie.Need-returns-5
 returns-5 c =
@@ -76,7 +75,7 @@ returns-6 c =
     let e2 = e3 .before .before .before in
     let w = e2 .before .before in
     let e1 = w .before .before in
-    part-usable _ (e3 .before .before .places-of .ensures) (e3 .if3 .left) (e1 .before .sizes-right .ensures) (e1 .if1 .left)
+    part-usable _ (e3 .before .before .view-of .ensures) (e3 .if3 .left) (e1 .before .sizes-right .ensures) (e1 .if1 .left)
     (e2 .before .counts-right .ensures) (e2 .if2 .left) (e4 .before .states-right .ensures) (e4 .if4 .left)
     (n-is w) (c .before .steps-right .ensures) (c .if5 .left)
 
@@ -90,7 +89,7 @@ front-part-spec =
     wide-requires
     counts-right-requires
     returns-2
-    places-of-requires
+    view-of-requires
     returns-3
     states-right-requires
     returns-4

@@ -2,6 +2,8 @@
 -- The measure is what is left.
 use Prim.Native.Nat.{_-_}
 use Rattle.section_file.proofs.Tests.{passed-fails, passed-all}
+use native.Mathlib.Omega.{arith}
+use Rattle.section_file.proofs.Seen.{parts, counts-near}
 use Rattle.section_file.proofs.Steps.{InSteps, steps-start, step-at, steps-next}
 use borrow.Author.Needs.{needs}
 use Rattle.section_file.proofs.steps_right.Statement.{statement}
@@ -20,15 +22,17 @@ mul-step-right : tie.Need-mul-step-right Inv-loop μ-loop
 mul-step-right c = search needs
 
 add-step-right : tie.Need-add-step-right Inv-loop μ-loop
-add-step-right c = search needs
+add-step-right c = let s = c .before .before .before in let N = counts-near (s .pre .0) in let P = parts (s .args .l .now) in
+    record { fits = omega arith }
 
 add-step-right-2 : tie.Need-add-step-right-2 Inv-loop μ-loop
-add-step-right-2 c = search needs
+add-step-right-2 c = let s = c .before .before .before in let N = counts-near (s .pre .0) in let P = parts (s .args .l .now) in
+    record { fits = omega arith }
 
 step-right-requires : tie.Need-step-right-requires Inv-loop μ-loop
 step-right-requires c κs =
     let p = c .before .before .before .pre in
-    step-at (p .0) (p .1) (p .2) (p .3) (p .4) (c .before .loop .inv) (c .loop-test .taken)
+    step-at (p .0) (p .1) (p .2) (c .before .loop .inv) (c .loop-test .taken)
 
 returns : tie.Need-returns Inv-loop μ-loop
 returns c =

@@ -1,4 +1,5 @@
--- Where the parts of a section stand, as the code computes it: the places by the layout, each small enough that no sum of them wraps.
+-- What is known of a section while it is checked: its counts are in bounds, so its places are small enough that no sum of them wraps; and
+-- where the edges of a step stand.
 use mathlib.Core.Path.{_≡_}
 use mathlib.Core.List.{List}
 use Prim.Native.Nat.{ℕ, _+_, _*_, _≤_, _<_}
@@ -6,17 +7,7 @@ use lib.Dec.{eqb}
 use lib.ListN.{length, getD}
 use Rattle.trellis.specs.Bounds.{mostWords, mostSymbols, mostQ}
 use Rattle.trellis.specs.Lists.{one-if, any}
-use Rattle.trellis.specs.Layout.{qOf, nOf, vertexCountOf, edgeCountOf, edgesBefore, sectionLength}
-use Rattle.trellis.specs.Layout.{rootsPlace, goalsPlace, pairsPlace, symbolsPlace}
-
-pub record PlacesOf (l : List ℕ) (roots goals pairs symbols end : ℕ) : Type 0 where
-  pub rootsIs : roots ≡ rootsPlace l
-  pub goalsIs : goals ≡ goalsPlace l
-  pub pairsIs : pairs ≡ pairsPlace l
-  pub symbolsIs : symbols ≡ symbolsPlace l
-  pub endIs : end ≡ sectionLength l
-  pub near : end ≤ 2000000
-  pub order : (roots ≤ goals) × (goals ≤ pairs) × (pairs ≤ symbols) × (symbols ≤ end)
+use Rattle.trellis.specs.Layout.{qOf, nOf, vertexCountOf, edgeCountOf, edgesBefore, pairsPlace, symbolsPlace}
 
 -- a section of n steps whose q and counts are in bounds
 pub record Counted (l : List ℕ) (n : ℕ) : Type 0 where

@@ -1,4 +1,6 @@
 -- `section_file::states::states_right` meets its contract: the root states decide, and else the goal states.
+use native.Mathlib.Omega.{arith}
+use Rattle.section_file.proofs.Seen.{parts, counts-near}
 use Rattle.section_file.proofs.Reading.{counted-at, roots-wrong, states-by-goals}
 use borrow.Author.Needs.{needs}
 use Rattle.section_file.proofs.states.states_right.Statement.{statement}
@@ -15,8 +17,11 @@ wide-requires c κs = search needs
 
 is-rising-requires : tie.Need-is-rising-requires
 is-rising-requires c κs =
-    let p = c .before .before .before .before .pre in
-    (search needs, counted-at 0 (p .0) (search needs) (c .before .number2 .ensures) (c .wide .ensures))
+    let s = c .before .before .before .before in
+    let p = s .pre in
+    let N = counts-near (p .0) in
+    let P = parts (s .args .l .now) in
+    (omega arith, counted-at 0 (p .0) (search needs) (c .before .number2 .ensures) (c .wide .ensures))
 
 returns : tie.Need-returns
 returns c = let w = c .before .before in let n = w .before .before in let p = n .before .before .pre in
@@ -36,8 +41,11 @@ is-rising-requires-2 : tie.Need-is-rising-requires-2
 is-rising-requires-2 c κs =
     let e = c .before .before in
     let w = e .before .before in
-    let p = w .before .before .before .before .pre in
-    (search needs, counted-at _ (p .0) (search needs) (c .before .number3 .ensures) (c .wide2 .ensures))
+    let s = w .before .before .before .before in
+    let p = s .pre in
+    let N = counts-near (p .0) in
+    let P = parts (s .args .l .now) in
+    (omega arith, counted-at _ (p .0) (search needs) (c .before .number3 .ensures) (c .wide2 .ensures))
 
 returns-2 : tie.Need-returns-2
 returns-2 c =

@@ -1,0 +1,178 @@
+-- What the numbers of a section give whoever reads it. Its parts stand one behind another by its own counts, and counts in bounds bring its
+-- end near. End states that ascend strictly below a bound are no more than the bound. Edges are counted over all steps, and each belongs to
+-- one step, whose bounds it keeps.
+use mathlib.Core.Path.{_≡_, refl, ap, subst, _∙_}
+use mathlib.Core.List.{List}
+use Prim.Native.Nat.{ℕ, zero, suc, _+_, _-_, _*_, _≤_, _<_}
+use native.Mathlib.Decide.{decLt}
+use native.Mathlib.Nat.{le-of-eq}
+use native.Mathlib.Omega.{arith}
+use lib.ListN.{length, getD, take, drop, length-drop}
+use lib.Seq.{take-all, getD-drop}
+use Rattle.trellis.specs.Bounds.{mostStates, mostWords, mostQ}
+use Rattle.trellis.specs.Own as own
+use Rattle.trellis.specs.Layout.{qOf, nOf, vertexCountOf, edgeCountOf, edgesBefore, allEdges, sectionLength, edgeNumber}
+use Rattle.trellis.specs.Layout.{rootsPlace, goalsPlace, pairsPlace, symbolsPlace}
+use Rattle.trellis.proofs.Laid.{before-none, before-more, before-few}
+use Rattle.section_file.specs.Usable.{stepEdge}
+use Rattle.section_file.specs.inner.Sound.{Sound}
+use Rattle.section_file.specs.inner.Places.{Counted}
+use Rattle.section_file.specs.inner.View.{viewOf}
+use Rattle.section_file.specs.inner.Answer.{edgeIn}
+use Rattle.section_file.specs.declared.View.{View}
+
+-- ---- places
+
+-- the parts one behind another
+pub record Parts (l : List ℕ) : Type 0 where
+  pub roots-at : rootsPlace l ≡ 4 + 2 * nOf l
+  pub goals-at : rootsPlace l + vertexCountOf l 0 ≡ goalsPlace l
+  pub pairs-at : goalsPlace l + vertexCountOf l (nOf l) ≡ pairsPlace l
+  pub symbols-at : pairsPlace l + 2 * allEdges l ≡ symbolsPlace l
+  pub end-at : symbolsPlace l + allEdges l ≡ sectionLength l
+
+pub parts : (l : List ℕ) → Parts l
+unfolding rootsPlace goalsPlace pairsPlace symbolsPlace sectionLength
+parts l = record { roots-at = refl; goals-at = refl; pairs-at = refl; symbols-at = refl; end-at = refl }
+
+-- a view number by number
+pub record Viewed (l : List ℕ) (at : View) : Type 0 where
+  pub q-is : at .q ≡ qOf l
+  pub n-is : at .n ≡ nOf l
+  pub roots-is : at .roots ≡ rootsPlace l
+  pub goals-is : at .goals ≡ goalsPlace l
+  pub pairs-is : at .pairs ≡ pairsPlace l
+  pub symbols-is : at .symbols ≡ symbolsPlace l
+  pub edges-is : at .edges ≡ allEdges l
+  pub end-is : at .end ≡ sectionLength l
+
+pub viewed : {l : List ℕ} {at : View} → at ≡ viewOf l → Viewed l at
+unfolding viewOf
+viewed e = record {
+  q-is = ap (λ (v : View). v .q) e;
+  n-is = ap (λ (v : View). v .n) e;
+  roots-is = ap (λ (v : View). v .roots) e;
+  goals-is = ap (λ (v : View). v .goals) e;
+  pairs-is = ap (λ (v : View). v .pairs) e;
+  symbols-is = ap (λ (v : View). v .symbols) e;
+  edges-is = ap (λ (v : View). v .edges) e;
+  end-is = ap (λ (v : View). v .end) e;
+}
+
+pub counts-near : {l : List ℕ} {n : ℕ} → Counted l n → sectionLength l ≤ 30000
+counts-near {l} {n} c =
+    let p = parts l in
+    let e = c .nIs in
+    let few = before-few l {n = nOf l} {most = mostWords} (λ t h. c .edgesTo t (omega arith)) (nOf l) (omega arith) in
+    omega (arith, c .nTo, c .verticesTo 0 (omega arith), c .verticesTo (nOf l) (omega arith))
+
+-- ---- a slice from a place on
+
+module _ (l : List ℕ) (a : ℕ) where
+  pub from-is : take (length l - a) (drop a l) ≡ drop a l
+  from-is = take-all (length l - a) (drop a l) (le-of-eq (length-drop a l))
+
+  from-at : (i : ℕ) → getD (take (length l - a) (drop a l)) i 0 ≡ getD l (a + i) 0
+  from-at i = ap (λ m. getD m i 0) from-is ∙ getD-drop a l i 0
+
+  pub from-length : length (take (length l - a) (drop a l)) ≡ length l - a
+  from-length = ap length from-is ∙ length-drop a l
+
+-- the edges from edge i on, read from where their pairs and their symbols begin
+module _ (l : List ℕ) (i : ℕ) {pairs symbols : ℕ} (p : pairs ≡ pairsPlace l + 2 * i) (s : symbols ≡ symbolsPlace l + i) where
+  pub edges-from : edgeIn (take (length l - pairs) (drop pairs l)) (take (length l - symbols) (drop symbols l)) ≡ (λ k. edgeNumber l (i + k))
+  unfolding edgeNumber
+  edges-from = λ j k. own.edge (first k j) (second k j) (third k j)
+    where
+      first : (k : ℕ) → getD (take (length l - pairs) (drop pairs l)) (2 * k) 0 ≡ getD l (pairsPlace l + 2 * (i + k)) 0
+      first k = let e : pairs + 2 * k ≡ pairsPlace l + 2 * (i + k) = omega arith in from-at l pairs (2 * k) ∙ ap (λ x. getD l x 0) e
+
+      second : (k : ℕ) → getD (take (length l - symbols) (drop symbols l)) k 0 ≡ getD l (symbolsPlace l + (i + k)) 0
+      second k = let e : symbols + k ≡ symbolsPlace l + (i + k) = omega arith in from-at l symbols k ∙ ap (λ x. getD l x 0) e
+
+      third : (k : ℕ) → getD (take (length l - pairs) (drop pairs l)) (2 * k + 1) 0 ≡ getD l (pairsPlace l + 2 * (i + k) + 1) 0
+      third k =
+          let e : pairs + (2 * k + 1) ≡ pairsPlace l + 2 * (i + k) + 1 = omega arith in
+          from-at l pairs (2 * k + 1) ∙ ap (λ x. getD l x 0) e
+
+  pub edges-there : (k : ℕ) → sectionLength l ≤ length l → i + k < allEdges l
+      → (2 * k + 1 < length (take (length l - pairs) (drop pairs l))) × (k < length (take (length l - symbols) (drop symbols l)))
+  edges-there k w h = let P = parts l in (omega (arith, from-length l pairs), omega (arith, from-length l symbols))
+
+-- ---- end states
+
+-- numbers that ascend strictly are no smaller than their places
+rising-from : (f : ℕ → ℕ) (count : ℕ) → ((u v : ℕ) → u < v → v < count → f u < f v) → (v : ℕ) → v < count → v ≤ f v
+rising-from f count a zero h = omega arith
+rising-from f count a (suc v) h = omega (arith, rising-from f count a v (omega arith), a v (suc v) (omega arith) h)
+
+rising-few : (f : ℕ → ℕ) (count bound : ℕ) → ((u v : ℕ) → u < v → v < count → f u < f v) → ((v : ℕ) → v < count → f v < bound)
+    → count ≤ bound
+rising-few f zero bound a b = omega arith
+rising-few f (suc v) bound a b = omega (arith, rising-from f (suc v) a v (omega arith), b v (omega arith))
+
+-- ---- edges over all steps
+
+-- the step of an edge
+record StepOf (l : List ℕ) (n i : ℕ) : Type 0 where
+  at : ℕ
+  below : at < n
+  from : edgesBefore l at ≤ i
+  to : i < edgesBefore l (suc at)
+
+step-of : (l : List ℕ) (n i : ℕ) → i < edgesBefore l n → StepOf l n i
+step-of l zero i h = let e = before-none l in absurd (omega arith)
+step-of l (suc n) i h = go (decLt i (edgesBefore l n)) (step-of l n i)
+  where
+    go : Dec (i < edgesBefore l n) → (i < edgesBefore l n → StepOf l n i) → StepOf l (suc n) i
+    go (yes k) r = let S = r k in record { at = S .at; below = omega (arith, S .below); from = S .from; to = S .to }
+    go (no k) r = record { at = n; below = omega arith; from = omega arith; to = h }
+
+-- an edge of a step, by its number in the section
+number-of : (l : List ℕ) (t i : ℕ) → edgesBefore l t ≤ i → stepEdge l t (i - edgesBefore l t) ≡ edgeNumber l i
+unfolding stepEdge
+number-of l t i h = let e : edgesBefore l t + (i - edgesBefore l t) ≡ i = omega arith in ap (edgeNumber l) e
+
+module _ {l : List ℕ} (s : Sound l) where
+  pub counted-of : Counted l (nOf l)
+  counted-of = record { nIs = refl; nTo = s .nTo; qTo = s .qTo; verticesTo = s .verticesTo; edgesTo = s .edgesTo }
+
+  pub section-near : sectionLength l ≤ 30000
+  section-near = counts-near counted-of
+
+  pub symbols-in : symbolsPlace l + allEdges l ≤ length l
+  symbols-in = let p = parts l in omega (arith, s .whole)
+
+  pub roots-few : vertexCountOf l 0 ≤ mostStates
+  roots-few = omega (arith, rising-few _ (vertexCountOf l 0) _ (s .rootsAscend) (s .rootsBelow), s .statesTo)
+
+  pub goals-few : vertexCountOf l (nOf l) ≤ mostStates
+  goals-few = omega (arith, rising-few _ (vertexCountOf l (nOf l)) _ (s .goalsAscend) (s .goalsBelow), s .statesTo)
+
+  -- edge i, of step t
+  module _ (t i : ℕ) (h : t < nOf l) (a : edgesBefore l t ≤ i) (b : i < edgesBefore l (suc t)) where
+    in-step : i - edgesBefore l t < edgeCountOf l t
+    in-step = let m = before-more l t in omega arith
+
+    pub from-below : edgeNumber l i .from < vertexCountOf l t
+    from-below = subst (λ e. e .from < vertexCountOf l t) (number-of l t i a) (s .fromBelow t (i - edgesBefore l t) h in-step)
+
+    pub symbol-below : edgeNumber l i .symbol < qOf l
+    symbol-below = subst (λ e. e .symbol < qOf l) (number-of l t i a) (s .symbolBelow t (i - edgesBefore l t) h in-step)
+
+    pub to-below : edgeNumber l i .to < vertexCountOf l (suc t)
+    to-below = subst (λ e. e .to < vertexCountOf l (suc t)) (number-of l t i a) (s .toBelow t (i - edgesBefore l t) h in-step)
+
+  -- edge i, of whatever step
+  module _ (i : ℕ) (h : i < allEdges l) where
+    T : StepOf l (nOf l) i
+    T = step-of l (nOf l) i h
+
+    pub from-small : edgeNumber l i .from < mostWords
+    from-small = omega (arith, from-below (T .at) i (T .below) (T .from) (T .to), s .verticesTo (T .at) (omega (arith, T .below)))
+
+    pub symbol-small : edgeNumber l i .symbol < mostQ
+    symbol-small = omega (arith, symbol-below (T .at) i (T .below) (T .from) (T .to), s .qTo)
+
+    pub to-small : edgeNumber l i .to < mostWords
+    to-small = omega (arith, to-below (T .at) i (T .below) (T .from) (T .to), s .verticesTo (suc (T .at)) (T .below))
