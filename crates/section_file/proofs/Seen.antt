@@ -17,7 +17,7 @@ use Rattle.trellis.proofs.Laid.{before-none, before-more, before-few}
 use Rattle.section_file.specs.Usable.{stepEdge}
 use Rattle.section_file.specs.inner.Sound.{Sound}
 use Rattle.section_file.specs.inner.Places.{Counted}
-use Rattle.section_file.specs.inner.View.{viewOf}
+use Rattle.section_file.specs.inner.View.{viewOf, Seen}
 use Rattle.section_file.specs.inner.Answer.{edgeIn}
 use Rattle.section_file.specs.declared.View.{View}
 
@@ -176,3 +176,17 @@ module _ {l : List ℕ} (s : Sound l) where
 
     pub to-small : edgeNumber l i .to < mostWords
     to-small = omega (arith, to-below (T .at) i (T .below) (T .from) (T .to), s .verticesTo (suc (T .at)) (T .below))
+
+-- ---- a section and its view
+
+-- the sizes and the counts are there
+pub record Header (l : List ℕ) (at : View) : Type 0 where
+  pub n-is : at .n ≡ nOf l
+  pub n-le : nOf l ≤ 8
+  pub inside : 4 + 2 * nOf l ≤ length l
+
+pub header : {l : List ℕ} {at : View} → Seen l at → Header l at
+header {l} S =
+    let p = parts l in
+    let i = symbols-in (S .sound) in
+    record { n-is = viewed (S .is) .n-is; n-le = S .sound .nTo; inside = omega arith }

@@ -17,7 +17,9 @@ use Rattle.trellis.specs.Own.{Edge}
 use Rattle.trellis.specs.Section.{leaving}
 use Rattle.paths.specs.inner.Costs.{minAll}
 use Rattle.paths.specs.inner.Ranked.{topRank}
-use Rattle.sweep.specs.inner.Loops.{edgeIn, EdgeRead, Cleared, StepAsked, through, Lowered}
+use Rattle.section_file.specs.inner.Answer.{edgeIn, heldEdge}
+use Rattle.section_file.specs.declared.Edge as code
+use Rattle.sweep.specs.inner.Loops.{Cleared, StepAsked, through, Lowered}
 
 -- ---- cleared
 
@@ -78,14 +80,24 @@ pub record Placed (prices behind row : List ℕ) (from symbol to : ℕ) : Type 0
   pub to-lt : to < mostWords
   pub fits : getD prices symbol 0 + getD behind to 0 < 18446744073709551616
 
-pub placed : {pairs symbols prices behind row : List ℕ} {count k from symbol to : ℕ} → StepAsked pairs symbols count prices behind row
-    → k < count → EdgeRead pairs symbols k from symbol to → Placed prices behind row from symbol to
-placed {behind = behind} {k = k} {symbol = symbol} {to} A h R =
+-- number by number
+record Read (pairs symbols : List ℕ) (k : ℕ) (e : code.Edge) : Type 0 where
+  from-is : e .from ≡ getD pairs (2 * k) 0
+  symbol-is : e .symbol ≡ getD symbols k 0
+  to-is : e .to ≡ getD pairs (2 * k + 1) 0
+
+read-of : {pairs symbols : List ℕ} {k : ℕ} {e : code.Edge} → e ≡ heldEdge (edgeIn pairs symbols k) → Read pairs symbols k e
+read-of q = record { from-is = ap (λ e. e .from) q; symbol-is = ap (λ e. e .symbol) q; to-is = ap (λ e. e .to) q }
+
+pub placed : {pairs symbols prices behind row : List ℕ} {count k : ℕ} {e : code.Edge} → StepAsked pairs symbols count prices behind row
+    → k < count → e ≡ heldEdge (edgeIn pairs symbols k) → Placed prices behind row (e .from) (e .symbol) (e .to)
+placed {pairs} {symbols} {behind = behind} {k = k} {e = d} A h q =
+    let R : Read pairs symbols k d = read-of q in
     let a = A .fromSmall k h in
     let b = A .symbolSmall k h in
     let c = A .toSmall k h in
-    let p = A .priceSmall symbol in
-    let q = A .behindSmall k h in
+    let p = A .priceSmall (d .symbol) in
+    let r = A .behindSmall k h in
     let e = ap (λ j. getD behind j 0) (R .to-is) in
     record {
       from-lt = omega (arith, R .from-is);
@@ -94,18 +106,25 @@ placed {behind = behind} {k = k} {symbol = symbol} {to} A h R =
       fits = omega arith;
     }
 
-pub lower-more : {pairs symbols prices behind old row : List ℕ} {count k from symbol to x : ℕ} → StepAsked pairs symbols count prices behind old
-    → InLower pairs symbols count prices behind old row k → k < count → EdgeRead pairs symbols k from symbol to
-    → x ≡ min (getD row from 0) (getD prices symbol 0 + getD behind to 0)
-    → InLower pairs symbols count prices behind old (set row from x) (k + 1)
+pub lower-more : {pairs symbols prices behind old row : List ℕ} {count k x : ℕ} {d : code.Edge}
+    → StepAsked pairs symbols count prices behind old
+    → InLower pairs symbols count prices behind old row k → k < count → d ≡ heldEdge (edgeIn pairs symbols k)
+    → x ≡ min (getD row (d .from) 0) (getD prices (d .symbol) 0 + getD behind (d .to) 0)
+    → InLower pairs symbols count prices behind old (set row (d .from) x) (k + 1)
 unfolding run
-lower-more {pairs} {symbols} {prices} {behind} {old} {row} {count} {k} {from} {symbol} {to} {x} A I h R q =
+lower-more {pairs} {symbols} {prices} {behind} {old} {row} {count} {k} {x} {d} A I h r q =
     record { k-le = omega arith; long = simp length-set (I .long); left = left }
   where
+    from : ℕ
+    from = d .from
+
+    R : Read pairs symbols k d
+    R = read-of r
+
     e : Edge
     e = edgeIn pairs symbols k
 
-    given : getD prices symbol 0 + getD behind to 0 ≡ through prices behind e
+    given : getD prices (d .symbol) 0 + getD behind (d .to) 0 ≡ through prices behind e
     given = ap₂ (λ a g. getD prices a 0 + getD behind g 0) (R .symbol-is) (R .to-is)
 
     es : List Edge

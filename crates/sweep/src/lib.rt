@@ -5,12 +5,12 @@ ghost use mathlib.Core.Path.{_≡_};
 ghost use Prim.Native.Nat.{suc, _+_, _*_, _<_, _≤_, min};
 ghost use lib.ListN.{length};
 ghost use Rattle.trellis.specs.Bounds.{mostWords};
-ghost use Rattle.trellis.specs.Layout.{nOf, edgesBefore};
 ghost use Rattle.section_file.specs.inner.View.{Seen};
 ghost use Rattle.sweep.specs.inner.Rows.{Asked, Swept, side};
-ghost use Rattle.sweep.specs.inner.Loops.{EdgeRead, Cleared, StepAsked, Lowered, DepthAsked, DepthDone};
+ghost use Rattle.sweep.specs.inner.Loops.{Cleared, StepAsked, Lowered, DepthAsked, DepthDone};
 use numbers::wide;
 use section_file::View;
+use section_file::edge_at;
 use trellis::MOST_WORDS;
 
 // No path.
@@ -20,24 +20,6 @@ fn lesser(x: u64, y: u64) -> u64
     ensures { λ r. ⌜ r ≡ min x y ⌝ }
 {
     if y < x { y } else { x }
-}
-
-struct Edge {
-    from: usize,
-    symbol: usize,
-    to: usize,
-}
-
-// Edge k of those whose pairs (from, to) and symbols begin at the front of two slices.
-fn edge_at(pairs: &[u16], symbols: &[u16], k: usize) -> Edge
-    requires { ⌜ (2 * k + 1 < length (now pairs)) × (k < length (now symbols)) ⌝ }
-    ensures { λ r. ⌜ EdgeRead (now (pairs .entry)) (now (symbols .entry)) k (r .from) (r .symbol) (r .to) ⌝ }
-{
-    Edge {
-        from: wide(pairs[2 * k]),
-        symbol: wide(symbols[k]),
-        to: wide(pairs[2 * k + 1]),
-    }
 }
 
 // No path yet from the first vertices of a depth.
@@ -94,7 +76,14 @@ fn lower_depth(
     let symbols = at.symbols + before;
     let first = 4 * t;
     clear(wide(l[3 + t]), row);
-    lower(&l[pairs..], &l[symbols..], wide(l[4 + at.n + t]), &prices[first..], behind, row);
+    lower(
+        &l[pairs..],
+        &l[symbols..],
+        wide(l[4 + at.n + t]),
+        &prices[first..],
+        behind,
+        row,
+    );
 }
 
 // The same, where the rows of even depths stand in one array and those of odd depths in the other.

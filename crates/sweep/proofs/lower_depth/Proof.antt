@@ -1,123 +1,98 @@
+-- `sweep::lower_depth` lends the edges of the step from where they begin: they are there, since the section is, and what they give the cleared
+-- row is the row of the depth.
 use borrow.Author.Needs.{needs}
+use Rattle.sweep.proofs.Sweeping.{Near, near-by, vertices-few, step-asked, depth-done}
 use Rattle.sweep.proofs.lower_depth.Statement.{statement}
 use Rattle.sweep.proofs.lower_depth.Tie as tie
-use Rattle.sweep.proofs.lower_depth.Reads as reads
-use Rattle.sweep.proofs.lower_depth.Lts as lts
-use Rattle.numbers.proofs.wide.Reads as wide-reads
-use Rattle.sweep.proofs.clear.Reads as clear-reads
-use Rattle.sweep.proofs.lower.Reads as lower-reads
 
--- src/lib.rt:93:28
+near : (s : tie.Start) → Near (s .args .l .now) (s .args .at) (s .args .t) (s .args .before)
+near s = near-by (s .pre .0) (s .pre .1 .inside) (s .pre .1 .beforeIs)
+
 mul-pairs : tie.Need-mul-pairs
-mul-pairs c = ?
+mul-pairs c = search (needs, near (c .before .before))
 
--- src/lib.rt:93:17
 add-pairs : tie.Need-add-pairs
-add-pairs c = ?
+add-pairs c = search (needs, near (c .before .before .before))
 
--- src/lib.rt:94:19
 add-symbols : tie.Need-add-symbols
-add-symbols c = ?
+add-symbols c = search (needs, near (c .before .before .before .before))
 
--- src/lib.rt:95:17
 mul-first : tie.Need-mul-first
 mul-first c = search needs
 
--- src/lib.rt:96:18
 add-wide : tie.Need-add-wide
 add-wide c = search needs
 
--- src/lib.rt:96:16
 mul-wide : tie.Need-mul-wide
 mul-wide c = search needs
 
--- src/lib.rt:96:16
 shared-slice-read-wide : tie.Need-shared-slice-read-wide
-shared-slice-read-wide c = ?
+shared-slice-read-wide c = search (needs, near (c .before .before .before .before .before))
 
--- src/lib.rt:96:11
 wide-requires : tie.Need-wide-requires
 wide-requires c κs = search needs
 
--- src/lib.rt:96:5
 clear-requires : tie.Need-clear-requires
-clear-requires c κs = ?
+clear-requires c κs =
+    let s = c .before .before .before .before .before .before .before in
+    (vertices-few (s .pre .0) (search (needs, s .pre .1 .inside)) (c .before .wide .ensures .0), s .pre .1 .rowLong)
 
--- src/lib.rt:97:11
 mul-lower : tie.Need-mul-lower
-mul-lower c = ?
+mul-lower c = search (needs, near (c .before .before .before .before .before .before .before .before))
 
--- src/lib.rt:97:11
 sub-lower : tie.Need-sub-lower
-sub-lower c = ?
+sub-lower c = search (needs, near (c .before .before .before .before .before .before .before .before))
 
--- src/lib.rt:97:11
 part-lower-start : tie.Need-part-lower-start
-part-lower-start c = ?
+part-lower-start c = search (needs, near (c .before .before .before .before .before .before .before .before))
 
--- src/lib.rt:97:11
 part-lower-end : tie.Need-part-lower-end
 part-lower-end c = search needs
 
--- src/lib.rt:97:24
 mul-lower-2 : tie.Need-mul-lower-2
-mul-lower-2 c = ?
+mul-lower-2 c = search (needs, near (c .before .before .before .before .before .before .before .before .before))
 
--- src/lib.rt:97:24
 sub-lower-2 : tie.Need-sub-lower-2
-sub-lower-2 c = ?
+sub-lower-2 c = search (needs, near (c .before .before .before .before .before .before .before .before .before))
 
--- src/lib.rt:97:24
 part-lower-start-2 : tie.Need-part-lower-start-2
-part-lower-start-2 c = ?
+part-lower-start-2 c = search (needs, near (c .before .before .before .before .before .before .before .before .before))
 
--- src/lib.rt:97:24
 part-lower-end-2 : tie.Need-part-lower-end-2
 part-lower-end-2 c = search needs
 
--- src/lib.rt:97:46
 add-wide-2 : tie.Need-add-wide-2
-add-wide-2 c = ?
+add-wide-2 c = search (needs, near (c .before .before .before .before .before .before .before .before .before .before .before))
 
--- src/lib.rt:97:46
 add-wide-3 : tie.Need-add-wide-3
-add-wide-3 c = ?
+add-wide-3 c = search (needs, near (c .before .before .before .before .before .before .before .before .before .before .before))
 
--- src/lib.rt:97:44
 mul-wide-2 : tie.Need-mul-wide-2
-mul-wide-2 c = ?
+mul-wide-2 c = search (needs, near (c .before .before .before .before .before .before .before .before .before .before .before))
 
--- src/lib.rt:97:44
 shared-slice-read-wide-2 : tie.Need-shared-slice-read-wide-2
-shared-slice-read-wide-2 c = ?
+shared-slice-read-wide-2 c = search (needs, near (c .before .before .before .before .before .before .before .before .before .before .before .before))
 
--- src/lib.rt:97:39
 wide-requires-2 : tie.Need-wide-requires-2
 wide-requires-2 c κs = search needs
 
--- src/lib.rt:97:62
 mul-lower-3 : tie.Need-mul-lower-3
 mul-lower-3 c = search needs
 
--- src/lib.rt:97:62
 sub-lower-3 : tie.Need-sub-lower-3
 sub-lower-3 c = search needs
 
--- src/lib.rt:97:62
 part-lower-start-3 : tie.Need-part-lower-start-3
 part-lower-start-3 c = search needs
 
--- src/lib.rt:97:62
 part-lower-end-3 : tie.Need-part-lower-end-3
 part-lower-end-3 c = search needs
 
--- src/lib.rt:97:5
 lower-requires : tie.Need-lower-requires
-lower-requires c κs = ?
+lower-requires c κs = step-asked (c .before .before .before .before .before .before .before .before .before .before .before .before .before .before .before .pre .0) (c .before .before .before .before .before .before .before .before .before .before .before .before .before .before .before .pre .1) (c .before .before .wide2 .ensures .0) (c .before .before .before .before .before .before .before .clear .ensures .long)
 
--- src/lib.rt:81:1
 returns : tie.Need-returns
-returns c = ?
+returns c = depth-done (c .before .before .before .before .before .before .before .before .before .before .before .before .before .before .before .before .pre .0) (c .before .before .before .before .before .before .before .before .before .before .before .before .before .before .before .before .pre .1) (c .before .before .before .before .before .before .before .before .before .before .wide .ensures .0) (c .before .before .before .before .before .before .before .before .clear .ensures) (c .before .before .before .wide2 .ensures .0) (c .lower .ensures)
 
 pub lower-depth-spec : {M : Type 1} → statement M
 lower-depth-spec =

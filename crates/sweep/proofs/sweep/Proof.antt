@@ -1,63 +1,56 @@
+-- `sweep::sweep` makes the rows from the last depth to the first. The loop's invariant: the row of depth t holds the least costs. The measure is
+-- t.
+use borrow.Author.Needs.{needs}
+use Rattle.section_file.proofs.Seen.{header}
+use Rattle.sweep.proofs.Sweeping.{InSweep, sweep-start, sweep-fits, sweep-asked, sweep-more, sweep-end}
 use Rattle.sweep.proofs.sweep.Statement.{statement}
 use Rattle.sweep.proofs.sweep.Tie as tie
-use Rattle.sweep.proofs.sweep.Reads as reads
-use Rattle.sweep.proofs.sweep.Lts as lts
-use Rattle.numbers.proofs.wide.Reads as wide-reads
-use Rattle.sweep.proofs.lower_side.Reads as lower-side-reads
 
 abbrev Inv-loop : tie.InvT-loop
-Inv-loop l at prices even₀ odd₀ n t₀ before₀ even odd t before = ?
+Inv-loop l at prices even₀ odd₀ n t₀ before₀ even odd t before = InSweep l prices even₀ odd₀ even odd t before
 
 abbrev μ-loop : tie.MeasureT-loop
-μ-loop l at prices even₀ odd₀ n t₀ before₀ even odd t before = ?
+μ-loop l at prices even₀ odd₀ n t₀ before₀ even odd t before = t
 
--- src/lib.rt:139:5
 loop-holds : tie.Need-loop-holds Inv-loop μ-loop
-loop-holds c = ?
+loop-holds c = sweep-start (c .before .before .pre .0) (c .before .before .pre .1)
 
--- src/lib.rt:140:9
 sub-t : tie.Need-sub-t Inv-loop μ-loop
-sub-t c = ?
+sub-t c = search needs
 
--- src/lib.rt:141:26
 add-wide : tie.Need-add-wide Inv-loop μ-loop
-add-wide c = ?
+add-wide c = search (needs, header (c .before .before .before .before .pre .0))
 
--- src/lib.rt:141:26
 add-wide-2 : tie.Need-add-wide-2 Inv-loop μ-loop
-add-wide-2 c = ?
+add-wide-2 c = search (needs, header (c .before .before .before .before .pre .0))
 
--- src/lib.rt:141:24
 mul-wide : tie.Need-mul-wide Inv-loop μ-loop
-mul-wide c = ?
+mul-wide c = search (needs, header (c .before .before .before .before .pre .0))
 
--- src/lib.rt:141:24
 shared-slice-read-wide : tie.Need-shared-slice-read-wide Inv-loop μ-loop
-shared-slice-read-wide c = ?
+shared-slice-read-wide c = search (needs, header (c .before .before .before .before .before .pre .0))
 
--- src/lib.rt:141:19
 wide-requires : tie.Need-wide-requires Inv-loop μ-loop
-wide-requires c κs = ?
+wide-requires c κs = search needs
 
--- src/lib.rt:141:9
 sub-before : tie.Need-sub-before Inv-loop μ-loop
-sub-before c = ?
+sub-before c = sweep-fits (c .before .before .before .before .before .before .pre .0) (c .before .before .before .before .before .before .pre .1) (c .before .before .before .loop .inv) (c .before .before .loop-test .taken) (c .wide .ensures .0)
 
--- src/lib.rt:142:9
 lower-side-requires : tie.Need-lower-side-requires Inv-loop μ-loop
-lower-side-requires c κs = ?
+lower-side-requires c κs =
+    let I = c .before .before .before .before .before .loop .inv in
+    (c .before .before .before .before .before .before .before .before .pre .0, sweep-asked (c .before .before .before .before .before .before .before .before .pre .0) (c .before .before .before .before .before .before .before .before .pre .1) I (c .before .before .before .before .loop-test .taken) (c .before .before .wide .ensures .0), I .evenLong, I .oddLong)
 
--- src/lib.rt:139:5
 loop-less : tie.Need-loop-less Inv-loop μ-loop
-loop-less c = ?
+loop-less c = search needs
 
--- src/lib.rt:139:5
 loop-again : tie.Need-loop-again Inv-loop μ-loop
-loop-again c = ?
+loop-again c =
+    let E = c .lower-side .ensures in
+    sweep-more (c .before .before .before .before .before .before .before .before .before .pre .0) (c .before .before .before .before .before .before .before .before .before .pre .1) (c .before .before .before .before .before .before .loop .inv) (c .before .before .before .before .before .loop-test .taken) (c .before .before .before .wide .ensures .0) (E .0) (E .1) (E .2)
 
--- src/lib.rt:125:1
 returns : tie.Need-returns Inv-loop μ-loop
-returns c = ?
+returns c = sweep-end (c .before .loop .inv) (search needs)
 
 pub sweep-spec : {M : Type 1} → statement M
 sweep-spec =

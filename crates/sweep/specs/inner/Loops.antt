@@ -5,22 +5,13 @@ use Prim.Native.Nat.{ℕ, suc, _+_, _*_, _≤_, _<_}
 use lib.ListN.{length, getD}
 use Rattle.trellis.specs.Bounds.{mostWords}
 use Rattle.trellis.specs.Lists.{run}
-use Rattle.trellis.specs.Own.{Edge, edge}
+use Rattle.trellis.specs.Own.{Edge}
 use Rattle.trellis.specs.Section.{leaving}
 use Rattle.trellis.specs.Layout.{nOf, vertexCountOf, edgesBefore}
 use Rattle.paths.specs.inner.Costs.{minAll}
 use Rattle.paths.specs.inner.Ranked.{topRank}
+use Rattle.section_file.specs.inner.Answer.{edgeIn}
 use Rattle.sweep.specs.inner.Rows.{Priced, Row}
-
--- edge k
-abbrev pub edgeIn : List ℕ → List ℕ → ℕ → Edge
-edgeIn pairs symbols k = edge (getD pairs (2 * k) 0) (getD symbols k 0) (getD pairs (2 * k + 1) 0)
-
--- as it is read
-pub record EdgeRead (pairs symbols : List ℕ) (k from symbol to : ℕ) : Type 0 where
-  pub from-is : from ≡ edgeIn pairs symbols k .from
-  pub symbol-is : symbol ≡ edgeIn pairs symbols k .symbol
-  pub to-is : to ≡ edgeIn pairs symbols k .to
 
 -- the first v places have no path
 pub record Cleared (row : List ℕ) (v : ℕ) : Type 0 where
