@@ -1,4 +1,3 @@
 -- Laws of a block's symbols, lowest first.
 pub mod Masks
 pub mod Costs
-pub mod Hearing

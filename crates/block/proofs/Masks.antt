@@ -14,7 +14,6 @@ use Rattle.trellis.specs.Label.{symbol, isLabel, symbolsBelow}
 use Rattle.trellis.proofs.Bools.{holds, fails, is-true, both, join}
 use Rattle.trellis.proofs.Lists.{First, first-ok, first-is}
 use Rattle.block.specs.Received.{erasedAt, stray, fitsBlock}
-use Rattle.block.specs.inner.Prices.{Clean}
 
 -- no symbol before t is erased and not 0
 pub record InStray (n received mask t : ℕ) : Type 0 where
@@ -71,23 +70,6 @@ stray-none {n} {received} {mask} {t} I h =
     let F : First (stray n received mask) n n =
     record { most = omega arith; hit = λ k. absurd (omega arith); miss = λ j k. I .none j (omega (arith, I .t-le)) } in
     sym (eq-eqb (first (stray n received mask) n) n (first-is (stray n received mask) n n F))
-
--- what a label that fits says
-pub clean-of : (q n received mask : ℕ) → fitsBlock n received mask q ≡ true → Clean n received mask
-unfolding fitsBlock isLabel stray
-clean-of q n received mask e =
-    let a = both (isLabel q n received) (ltb mask (2 ^ n) && eqb (first (stray n received mask) n) n) (holds e) in
-    let b = both (ltb mask (2 ^ n)) (eqb (first (stray n received mask) n) n) (a .1) in
-    let c = both (ltb received (4 ^ n)) (symbolsBelow q n received) (a .0) in
-    let f : first (stray n received mask) n ≡ n = eqb→eq (first (stray n received mask) n) n (b .1) in
-    record { short = ltb-true received (4 ^ n) (is-true _ (c .0)); zero = λ t h s. digit t h s f (ℕ-discrete (symbol n t received) 0) }
-  where
-    digit : (t : ℕ) → t < n → T (erasedAt n t mask) → first (stray n received mask) n ≡ n → Dec (symbol n t received ≡ 0)
-        → symbol n t received ≡ 0
-    digit t h s f (yes z) = z
-    digit t h s f (no z) =
-        absurd (first-ok (stray n received mask) n .miss t (omega arith)
-        (join (erasedAt n t mask) (not (eqb (symbol n t received) 0)) s (holds (ap not (ne-eqb (symbol n t received) 0 z)))))
 
 -- the checks one after another
 module _ (q n received mask : ℕ) where

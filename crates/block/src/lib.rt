@@ -1,14 +1,14 @@
-// One block of a chain: whether what was received fits a section, what its symbols cost, and the distance of a label from it. Every cost is
-// one of `symbolCost`; the distance goes through label distance and its stored table.
+// One block of a chain: whether what was received fits a section, and what its symbols cost. Every cost is one of `symbolCost`.
 ghost use mathlib.Core.Path.{_≡_};
-ghost use mathlib.Core.Bool.{cond};
 ghost use Prim.Native.Nat.{_+_, _*_, _^_, _<_, _≤_};
 ghost use lib.Dec.{ltb, eqb};
 ghost use Rattle.trellis.specs.Bounds.{mostSymbols};
-ghost use Rattle.trellis.specs.Lists.{first, one-if};
-ghost use Rattle.block.specs.Received.{erasedAt, costOver, blockDistance, stray, fitsBlock};
-ghost use Rattle.block.specs.inner.Prices.{Clean, Prices};
-ghost use Rattle.block.specs.inner.Heard.{HeardOf};
+ghost use Rattle.trellis.specs.Lists.{first};
+ghost use Rattle.block.specs.Received.{erasedAt, costOver, stray, fitsBlock};
+ghost use Rattle.paths.specs.inner.Ranked.{distanceUnit, topRank};
+ghost use Rattle.block.specs.inner.Prices.{Room, Prices};
+use paths::DISTANCE_UNIT;
+use paths::LABEL_UNIT;
 use trellis::MOST_Q;
 use trellis::MOST_SYMBOLS;
 
@@ -79,19 +79,18 @@ fn symbol_cost(erased: bool, received: u16, symbol: u16) -> u32
 
 // A cost and, below it, the symbol at its place in the label.
 fn price(cost: u32, symbol: u64, weight: u64) -> u64
-    requires { ⌜ (cost ≤ 1) × (symbol ≤ 3) × (weight ≤ 4294967296) ⌝ }
-    ensures { λ r. ⌜ r ≡ cost * 4294967296 + symbol * weight ⌝ }
+    requires { ⌜ (cost ≤ 1) × (symbol ≤ 3) × (weight ≤ distanceUnit) ⌝ }
+    ensures { λ r. ⌜ (r ≡ cost * distanceUnit + symbol * weight) × (r ≤ topRank) ⌝ }
 {
-    (cost as u64) * 4294967296 + symbol * weight
+    (cost as u64) * DISTANCE_UNIT + symbol * weight
 }
 
-// What the symbols add, four a step: the cost ranks first, then the symbol.
-pub fn prices(n: usize, received: u16, mask: u8) -> [u64; MOST_Q * MOST_SYMBOLS]
-    requires { ⌜ n ≤ mostSymbols ⌝ }
-    ensures { λ r. ⌜ Prices n received mask r ⌝ }
+// What the symbols add, four a step: the cost ranks first, then the symbol. Places of other steps are left as they were.
+pub fn put_prices(n: usize, received: u16, mask: u8, prices: &mut [u64; MOST_Q * MOST_SYMBOLS])
+    requires { ⌜ (n ≤ mostSymbols) × Room (now prices) ⌝ }
+    ensures { λ _. ⌜ Prices n received mask (now (prices .exit)) ⌝ }
 {
-    let mut prices = [0u64; MOST_Q * MOST_SYMBOLS];
-    let mut weight: u64 = 65536;
+    let mut weight = LABEL_UNIT;
     let mut t = n;
     while t > 0 {
         t -= 1;
@@ -103,51 +102,4 @@ pub fn prices(n: usize, received: u16, mask: u8) -> [u64; MOST_Q * MOST_SYMBOLS]
         prices[4 * t + 3] = price(symbol_cost(erased, symbol, 3), 3, weight);
         weight *= 4;
     }
-    prices
-}
-
-struct Heard {
-    label: u16,
-    erased: u32,
-}
-
-fn unless(erased: bool, symbol: u16) -> u16
-    ensures { λ r. ⌜ r ≡ cond erased 0 symbol ⌝ }
-{
-    if erased { 0 } else { symbol }
-}
-
-fn counted(erased: bool) -> u32
-    ensures { λ r. ⌜ (r ≡ one-if erased) × (r ≤ 1) ⌝ }
-{
-    if erased { 1 } else { 0 }
-}
-
-// The label with 0 where it is erased, and how many symbols are.
-fn heard_of(n: usize, mask: u8, label: u16) -> Heard
-    requires { ⌜ n ≤ mostSymbols ⌝ }
-    ensures { λ r. ⌜ HeardOf n mask label n (r .label) (r .erased) ⌝ }
-{
-    let mut rest: u16 = 0;
-    let mut erased: u32 = 0;
-    let mut t: usize = 0;
-    while t < n {
-        let gone = is_erased(mask, n, t);
-        rest = label::append(rest, unless(gone, label::symbol(label, n, t)));
-        erased += counted(gone);
-        t += 1;
-    }
-    Heard {
-        label: rest,
-        erased,
-    }
-}
-
-// The distance of a label from what was received.
-pub fn distance(n: usize, received: u16, mask: u8, label: u16) -> u32
-    requires { ⌜ (n ≤ mostSymbols) × Clean n received mask ⌝ }
-    ensures { λ r. ⌜ (r ≡ blockDistance n received mask label) × (r ≤ mostSymbols) ⌝ }
-{
-    let h = heard_of(n, mask, label);
-    label::distance(received, h.label) + h.erased * ERASURE_COST
 }

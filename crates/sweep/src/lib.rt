@@ -9,12 +9,10 @@ ghost use Rattle.section_file.specs.inner.View.{Seen};
 ghost use Rattle.sweep.specs.inner.Rows.{Asked, Swept, side};
 ghost use Rattle.sweep.specs.inner.Loops.{Cleared, StepAsked, Lowered, DepthAsked, DepthDone};
 use numbers::wide;
+use paths::TOP_RANK;
 use section_file::View;
 use section_file::edge_at;
 use trellis::MOST_WORDS;
-
-// No path.
-pub const TOP: u64 = 18014398509481983;
 
 fn lesser(x: u64, y: u64) -> u64
     ensures { λ r. ⌜ r ≡ min x y ⌝ }
@@ -29,13 +27,13 @@ fn clear(count: usize, row: &mut [u64; MOST_WORDS])
 {
     let mut v: usize = 0;
     while v < count {
-        row[v] = TOP;
+        row[v] = TOP_RANK;
         v += 1;
     }
 }
 
 // Lowers the row of a depth to the least that the edges of its step give: the price of an edge's symbol, and what the row behind has where the
-// edge leads. No sum wraps, since both are at most TOP, and none above TOP stays, since the row is at most TOP before.
+// edge leads. No sum wraps, since both are at most TOP_RANK, and none above it stays, since the row has nothing above it.
 fn lower(
     pairs: &[u16],
     symbols: &[u16],

@@ -1,4 +1,4 @@
--- `block::price` has room for both parts: the cost is 1 at most, and the symbol's part stays below 2^34.
+-- `block::price` has room for both parts: the cost is 1 at most, and the symbol's part stays below 2^24.
 use native.Mathlib.Omega.{arith}
 use Rattle.block.proofs.Costs.{symbol-least}
 use borrow.Author.Needs.{needs}
@@ -15,7 +15,7 @@ add-result : tie.Need-add-result
 add-result c = omega (arith, symbol-least (c .args .symbol) (c .args .weight) (c .pre .1) (c .pre .2))
 
 returns : tie.Need-returns
-returns c = search needs
+returns c = let m = symbol-least (c .args .symbol) (c .args .weight) (c .pre .1) (c .pre .2) in search needs
 
 pub price-spec : {M : Type 1} → statement M
 price-spec = tie.close (tie.spec mul-result mul-result-2 add-result returns)

@@ -1,19 +1,17 @@
--- What a block that fits its section gives the passes: its erased digits are 0, and what its symbols add.
+-- What the symbols of a block add to a rank, as it lies in an array.
 use mathlib.Core.Path.{_≡_}
 use mathlib.Core.List.{List}
-use Prim.Native.Nat.{ℕ, _+_, _*_, _^_, _<_}
-use lib.Dec.{T}
-use lib.ListN.{getD}
-use Rattle.trellis.specs.Label.{symbol}
-use Rattle.paths.specs.inner.Ranked.{rankedCost}
-use Rattle.block.specs.Received.{erasedAt, symbolCost}
+use Prim.Native.Nat.{ℕ, _+_, _*_, _≤_, _<_}
+use lib.ListN.{length, getD}
+use Rattle.paths.specs.inner.Ranked.{topRank, rankedCost}
+use Rattle.block.specs.Received.{symbolCost}
 
-module _ (n received mask : ℕ) where
-  -- what `fitsBlock` says of the digits
-  pub record Clean : Type 0 where
-    pub short : received < 4 ^ n
-    pub zero : (t : ℕ) → t < n → T (erasedAt n t mask) → symbol n t received ≡ 0
+-- room for 8 steps of four symbols, with no number above the top
+pub record Room (prices : List ℕ) : Type 0 where
+  pub long : length prices ≡ 32
+  pub small : (i : ℕ) → getD prices i 0 ≤ topRank
 
-  -- the array holds what the symbols add, four a step: their costs, ranked by the symbols
-  pub record Prices (prices : List ℕ) : Type 0 where
-    pub at : (t a : ℕ) → t < n → a < 4 → getD prices (4 * t + a) 0 ≡ rankedCost n (symbolCost n received mask) t a
+-- the array holds what the symbols add, four a step: their costs, ranked by the symbols
+pub record Prices (n received mask : ℕ) (prices : List ℕ) : Type 0 where
+  pub room : Room prices
+  pub at : (t a : ℕ) → t < n → a < 4 → getD prices (4 * t + a) 0 ≡ rankedCost n (symbolCost n received mask) t a

@@ -1,10 +1,9 @@
--- `block::prices` goes from the last symbol to the first, each weighing four times the one before it. The loop's invariant: the steps
--- passed have what their symbols add. The measure is how many are left.
-use mathlib.Core.Path.{refl}
-use Rattle.block.proofs.Costs.{prices-start, prices-more, prices-end, InPrices}
+-- `block::put_prices` goes from the last symbol to the first, each weighing four times the one before it. The loop's invariant: the steps passed
+-- have what their symbols add. The measure is how many are left.
 use borrow.Author.Needs.{needs}
-use Rattle.block.proofs.prices.Statement.{statement}
-use Rattle.block.proofs.prices.Tie as tie
+use Rattle.block.proofs.Costs.{prices-start, prices-more, prices-end, InPrices}
+use Rattle.block.proofs.put_prices.Statement.{statement}
+use Rattle.block.proofs.put_prices.Tie as tie
 
 abbrev Inv-loop : tie.InvT-loop
 Inv-loop n received mask prices₀ weight₀ t₀ prices weight t = InPrices n received mask prices weight t
@@ -13,7 +12,7 @@ abbrev μ-loop : tie.MeasureT-loop
 μ-loop n received mask prices₀ weight₀ t₀ prices weight t = t
 
 loop-holds : tie.Need-loop-holds Inv-loop μ-loop
-loop-holds c = prices-start refl
+loop-holds c = prices-start (c .pre .1)
 
 sub-t : tie.Need-sub-t Inv-loop μ-loop
 sub-t c = search needs
@@ -36,8 +35,8 @@ mul-prices c = search needs
 mul-prices-2 : tie.Need-mul-prices-2 Inv-loop μ-loop
 mul-prices-2 c = search needs
 
-array-write-prices : tie.Need-array-write-prices Inv-loop μ-loop
-array-write-prices c = search needs
+element-write-prices : tie.Need-element-write-prices Inv-loop μ-loop
+element-write-prices c = search needs
 
 symbol-cost-requires-2 : tie.Need-symbol-cost-requires-2 Inv-loop μ-loop
 symbol-cost-requires-2 c κs = search needs
@@ -54,8 +53,8 @@ add-prices c = search needs
 mul-prices-4 : tie.Need-mul-prices-4 Inv-loop μ-loop
 mul-prices-4 c = search needs
 
-array-write-prices-2 : tie.Need-array-write-prices-2 Inv-loop μ-loop
-array-write-prices-2 c = search needs
+element-write-prices-2 : tie.Need-element-write-prices-2 Inv-loop μ-loop
+element-write-prices-2 c = search needs
 
 symbol-cost-requires-3 : tie.Need-symbol-cost-requires-3 Inv-loop μ-loop
 symbol-cost-requires-3 c κs = search needs
@@ -72,8 +71,8 @@ add-prices-2 c = search needs
 mul-prices-6 : tie.Need-mul-prices-6 Inv-loop μ-loop
 mul-prices-6 c = search needs
 
-array-write-prices-3 : tie.Need-array-write-prices-3 Inv-loop μ-loop
-array-write-prices-3 c = search needs
+element-write-prices-3 : tie.Need-element-write-prices-3 Inv-loop μ-loop
+element-write-prices-3 c = search needs
 
 symbol-cost-requires-4 : tie.Need-symbol-cost-requires-4 Inv-loop μ-loop
 symbol-cost-requires-4 c κs = search needs
@@ -90,8 +89,8 @@ add-prices-3 c = search needs
 mul-prices-8 : tie.Need-mul-prices-8 Inv-loop μ-loop
 mul-prices-8 c = search needs
 
-array-write-prices-4 : tie.Need-array-write-prices-4 Inv-loop μ-loop
-array-write-prices-4 c = search needs
+element-write-prices-4 : tie.Need-element-write-prices-4 Inv-loop μ-loop
+element-write-prices-4 c = search needs
 
 mul-weight : tie.Need-mul-weight Inv-loop μ-loop
 mul-weight c = search needs
@@ -111,7 +110,7 @@ loop-again c =
     let symbol = cost₀ .before in
     let erased = symbol .before in
     let turn = erased .before in
-    prices-more (turn .before .before .pre) (turn .before .loop .inv) (turn .loop-test .taken) (erased .is-erased .ensures)
+    prices-more (turn .before .before .pre .0) (turn .before .loop .inv) (turn .loop-test .taken) (erased .is-erased .ensures)
     (symbol .symbol .ensures)
     (cost₀ .symbol-cost .ensures .0) (price₀ .price .ensures) (cost₁ .symbol-cost2 .ensures .0) (price₁ .price2 .ensures)
     (cost₂ .symbol-cost3 .ensures .0) (price₂ .price3 .ensures) (cost₃ .symbol-cost4 .ensures .0) (c .price4 .ensures)
@@ -119,8 +118,8 @@ loop-again c =
 returns : tie.Need-returns Inv-loop μ-loop
 returns c = prices-end (c .before .loop .inv) (search needs)
 
-pub prices-spec : {M : Type 1} → statement M
-prices-spec =
+pub put-prices-spec : {M : Type 1} → statement M
+put-prices-spec =
     tie.close
     (tie.spec
     Inv-loop
@@ -133,25 +132,25 @@ prices-spec =
     price-requires
     mul-prices
     mul-prices-2
-    array-write-prices
+    element-write-prices
     symbol-cost-requires-2
     price-requires-2
     mul-prices-3
     add-prices
     mul-prices-4
-    array-write-prices-2
+    element-write-prices-2
     symbol-cost-requires-3
     price-requires-3
     mul-prices-5
     add-prices-2
     mul-prices-6
-    array-write-prices-3
+    element-write-prices-3
     symbol-cost-requires-4
     price-requires-4
     mul-prices-7
     add-prices-3
     mul-prices-8
-    array-write-prices-4
+    element-write-prices-4
     mul-weight
     loop-less
     loop-again
