@@ -11,9 +11,9 @@ use lib.ListN.{length, getD, set, length-set}
 use lib.Seq.{getD-set-same, getD-set-other, set-out}
 use Rattle.trellis.specs.Bounds.{mostSymbols}
 use Rattle.trellis.specs.Label.{symbol}
-use Rattle.paths.specs.inner.Ranked.{labelUnit, distanceUnit, topRank, ranked, rankedCost}
+use Rattle.paths.specs.inner.Ranked.{labelUnit, distanceUnit, topRank, ranked, rankedCost, Room}
 use Rattle.block.specs.Received.{erasedAt, costOver, symbolCost}
-use Rattle.block.specs.inner.Prices.{Room, Prices}
+use Rattle.block.specs.inner.Prices.{Prices}
 
 -- what the symbols from t on add is there, and the next one's weight is known
 pub record InPrices (n received mask : ℕ) (prices : List ℕ) (weight t : ℕ) : Type 0 where

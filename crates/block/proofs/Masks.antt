@@ -1,18 +1,18 @@
 -- The mask's bits are its base-2 digits, read by a shift and `&`; the digits of a label that fits a block are 0 where they are erased.
-use mathlib.Core.Path.{_≡_, sym, ap, subst, _∙_}
-use mathlib.Core.Bool.{Bool, true, false, not, _&&_}
-use Prim.Native.Nat.{ℕ, zero, suc, _+_, _-_, _*_, _/_, _^_, _≤_, _<_}
+use mathlib.Core.Path.{_≡_, sym, subst, _∙_}
+use mathlib.Core.Bool.{Bool, true, false, not}
+use Prim.Native.Nat.{ℕ, suc, _+_, _-_, _*_, _/_, _^_, _≤_, _<_}
 use native.Mathlib.Nat.{not-suc-le-zero, div-eq-of-lt, div-lt-iff-lt-mul, pow-le-pow-right, lt-of-lt-of-le}
 use native.Mathlib.Decide.{ℕ-discrete, decLt}
 use native.Mathlib.Omega.{arith}
 use lib.Bits.{bitAnd, and-mask}
 use lib.Pow.{pow-pos}
-use lib.Dec.{T, ltb, eqb, eqb→eq, lit<}
-use borrow.Author.Tests.{lt-ltb, le-ltb, ltb-true, eq-eqb, ne-eqb, not-true, not-false}
+use lib.Dec.{T, ltb, eqb, lit<}
+use borrow.Author.Tests.{lt-ltb, le-ltb, eq-eqb, ne-eqb, not-true, not-false}
 use Rattle.trellis.specs.Lists.{first}
-use Rattle.trellis.specs.Label.{symbol, isLabel, symbolsBelow}
-use Rattle.trellis.proofs.Bools.{holds, fails, is-true, both, join}
-use Rattle.trellis.proofs.Lists.{First, first-ok, first-is}
+use Rattle.trellis.specs.Label.{isLabel}
+use Rattle.trellis.proofs.Bools.{holds, fails}
+use Rattle.trellis.proofs.Lists.{First, first-is}
 use Rattle.block.specs.Received.{erasedAt, stray, fitsBlock}
 
 -- no symbol before t is erased and not 0

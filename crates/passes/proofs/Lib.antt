@@ -1,7 +1,3 @@
--- Laws of the two passes, lowest first.
-pub mod Goals
-pub mod Tables
-pub mod OneSection
-pub mod Chains
-pub mod Onward
-pub mod Naming
+-- Why a block is passed right: its two ends, and the whole of it.
+pub mod Ends
+pub mod Passing

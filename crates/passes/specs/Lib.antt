@@ -1,2 +1,2 @@
--- The two passes over the blocks of a chain, and what their loops keep.
+-- One block of a chain: what passing it leaves, and what its loops keep.
 pub mod inner

@@ -1,259 +1,145 @@
-// The two passes over the blocks of a chain. Backward, over the edges of the blocks' sections and never over their words: the cost
-// table, and for each block and state a pick, the label and the goal of the first word of least distance. Forward, the picks are
-// followed.
+// One block of a chain, whatever its symbols cost and wherever a path may end: from what is left to pay behind the block, state by state, to
+// what is left to pay before it, over the edges of the block's section and never over its words; and for each state a pick, the label and
+// the goal of the first word of least cost. Blocks are passed from the last to the first, and the picks are followed from the first to the
+// last.
 ghost use mathlib.Core.Path.{_≡_};
-ghost use Prim.Native.Nat.{_+_, _*_, _/_, _%_, _<_, _≤_};
+ghost use Prim.Native.Nat.{_/_, _%_, _<_, _≤_};
 ghost use lib.ListN.{length};
-ghost use Rattle.trellis.specs.Bounds.{mostStates, mostBlocks, costsABlock};
+ghost use Rattle.trellis.specs.Bounds.{mostStates, mostWords};
 ghost use Rattle.trellis.specs.Layout.{nOf, vertexCountOf};
-ghost use Rattle.paths.specs.Chain.{unreached};
-ghost use Rattle.paths.specs.inner.Ranked.{rankedRest};
-ghost use Rattle.sweep.specs.inner.Rows.{Placed};
-ghost use Rattle.passes.specs.inner.Blocks.{Decodable, Ready, Picked, Filled, aheadOf, leastFrom};
-ghost use Rattle.passes.specs.inner.Loops.{GoalsRanked, RowsOver, NoneSoFar, RootsPut, BlockTable, Named};
+ghost use Rattle.paths.specs.inner.Ranked.{labelUnit, distanceUnit, topRank, rankedLeft, Room};
+ghost use Rattle.section_file.specs.inner.View.{Seen};
+ghost use Rattle.sweep.specs.inner.Rows.{side};
+ghost use Rattle.passes.specs.inner.Blocks.{Passed};
+ghost use Rattle.passes.specs.inner.Loops.{GoalsRanked, RootsAsked, RootsPut};
 use numbers::wide;
-use numbers::widened;
-use sweep::Places;
-use sweep::TOP;
+use paths::DISTANCE_UNIT;
+use paths::LABEL_UNIT;
+use paths::TOP_RANK;
+use section_file::View;
 use trellis::COSTS_A_BLOCK;
-use trellis::MOST_BLOCKS;
-use trellis::MOST_Q;
-use trellis::MOST_SECTIONS;
-use trellis::MOST_SYMBOLS;
 use trellis::MOST_WORDS;
 
 // No path, in a cost table.
 pub const NO_PATH: u32 = 4294967295;
 
-// What is left to pay from state s before block b; behind the last block, nothing in the end state.
-fn ahead(costs: &[u32], blocks: usize, end: usize, b: usize, s: usize) -> u32
-    requires { ⌜ (costsABlock * blocks ≤ length (now costs)) × (blocks ≤ mostBlocks) × (s < mostStates) ⌝ }
-    ensures { λ r. ⌜ r ≡ aheadOf (now (costs .entry)) blocks end b s ⌝ }
+// What is left to pay in the state s, ranked by the state.
+fn ranked_left(cost: u32, s: usize) -> u64
+    requires { ⌜ s < mostStates ⌝ }
+    ensures { λ r. ⌜ (r ≡ rankedLeft cost s) × (r ≤ topRank) ⌝ }
 {
-    if b < blocks {
-        return costs[COSTS_A_BLOCK * b + s];
-    }
-    if s == end { 0 } else { NO_PATH }
-}
-
-// The same, ranked by the state.
-fn ranked_ahead(costs: &[u32], blocks: usize, end: usize, b: usize, s: usize) -> u64
-    requires { ⌜ (costsABlock * blocks ≤ length (now costs)) × (blocks ≤ mostBlocks) × (s < mostStates) ⌝ }
-    ensures { λ r. ⌜ r ≡ rankedRest (aheadOf (now (costs .entry)) blocks end b) s ⌝ }
-{
-    let cost = ahead(costs, blocks, end, b, s);
     if cost < NO_PATH {
-        return (cost as u64) * 4294967296 + (s as u64);
+        return (cost as u64) * DISTANCE_UNIT + (s as u64);
     }
-    TOP
+    TOP_RANK
 }
 
-// Row n: what it costs to end in each goal.
-fn put_goals(
-    l: &[u16],
-    at: Places,
-    costs: &[u32],
-    blocks: usize,
-    end: usize,
-    b: usize,
-    rows: &mut [u64; (MOST_SYMBOLS + 1) * MOST_WORDS],
-)
-    requires { ⌜ Decodable (now l) × Placed (now l) (at .n) (at .roots) (at .goals) (at .pairs) (at .symbols) (at .edges)
-        × (costsABlock * blocks ≤ length (now costs)) × (blocks ≤ mostBlocks) × (length (now rows) ≡ 9216) ⌝ }
-    ensures { λ _. ⌜ GoalsRanked (now (l .entry)) (now (costs .entry)) blocks end b (now (rows .exit))
+// The row of depth n: what it costs to end in each goal.
+fn put_goals(l: &[u16], at: View, left: &[u32; COSTS_A_BLOCK], row: &mut [u64; MOST_WORDS])
+    requires { ⌜ Seen (now l) at × (length (now left) ≡ mostStates) × (length (now row) ≡ mostWords) ⌝ }
+    ensures { λ _. ⌜ GoalsRanked (now (l .entry)) (now (left .entry)) (now (row .exit))
         (vertexCountOf (now (l .entry)) (nOf (now (l .entry)))) ⌝ }
 {
-    let n = at.n;
     let goals = at.goals;
-    let count = wide(l[3 + n]);
+    let count = at.pairs - goals;
     let mut g: usize = 0;
     while g < count {
         let s = wide(l[goals + g]);
-        rows[MOST_WORDS * n + g] = ranked_ahead(costs, blocks, end, b, s);
+        row[g] = ranked_left(left[s], s);
         g += 1;
     }
 }
 
-fn fill_rows(
+// The same, in the array of depth n's parity.
+fn put_goals_side(
     l: &[u16],
-    at: Places,
-    prices: &[u64; MOST_Q * MOST_SYMBOLS],
-    costs: &[u32],
-    blocks: usize,
-    end: usize,
-    b: usize,
-    rows: &mut [u64; (MOST_SYMBOLS + 1) * MOST_WORDS],
+    at: View,
+    left: &[u32; COSTS_A_BLOCK],
+    even: &mut [u64; MOST_WORDS],
+    odd: &mut [u64; MOST_WORDS],
 )
-    requires { ⌜ Decodable (now l) × Placed (now l) (at .n) (at .roots) (at .goals) (at .pairs) (at .symbols) (at .edges)
-        × (costsABlock * blocks ≤ length (now costs)) × (blocks ≤ mostBlocks) × (length (now rows) ≡ 9216) ⌝ }
-    ensures { λ _. ⌜ RowsOver (now (l .entry)) (now (prices .entry)) (now (costs .entry)) blocks end b (now (rows .exit)) ⌝ }
+    requires { ⌜ Seen (now l) at × (length (now left) ≡ mostStates) × (length (now even) ≡ mostWords) × (length (now odd) ≡ mostWords) ⌝ }
+    ensures { λ _. ⌜ GoalsRanked (now (l .entry)) (now (left .entry))
+        (side (nOf (now (l .entry))) (now (even .exit)) (now (odd .exit)))
+        (vertexCountOf (now (l .entry)) (nOf (now (l .entry))))
+        × (length (now (even .exit)) ≡ mostWords) × (length (now (odd .exit)) ≡ mostWords) ⌝ }
 {
-    put_goals(l, at, costs, blocks, end, b, rows);
-    sweep::sweep(l, at, prices, rows);
-}
-
-// No path so far from any state before block b.
-fn put_none(b: usize, costs: &mut [u32])
-    requires { ⌜ (costsABlock * b + costsABlock ≤ length (now costs)) × (b ≤ mostBlocks) ⌝ }
-    ensures { λ _. ⌜ NoneSoFar b (now (costs .entry)) (now (costs .exit)) mostStates ⌝ }
-{
-    let mut s: usize = 0;
-    while s < COSTS_A_BLOCK {
-        costs[COSTS_A_BLOCK * b + s] = NO_PATH;
-        s += 1;
+    if at.n % 2 == 0 {
+        put_goals(l, at, left, even);
+        return;
     }
+    put_goals(l, at, left, odd);
 }
 
-// The distance of a rank, and the label and goal below it.
+// The cost of a rank, and the label and goal below it.
 fn high(rank: u64) -> u32
-    ensures { λ r. ⌜ r ≡ rank / 4294967296 ⌝ }
+    requires { ⌜ rank ≤ topRank ⌝ }
+    ensures { λ r. ⌜ r ≡ rank / distanceUnit ⌝ }
 {
-    (rank / 4294967296) as u32
+    (rank / DISTANCE_UNIT) as u32
 }
 
 fn low(rank: u64) -> u32
-    ensures { λ r. ⌜ r ≡ rank % 4294967296 ⌝ }
+    ensures { λ r. ⌜ r ≡ rank % distanceUnit ⌝ }
 {
-    (rank % 4294967296) as u32
+    (rank % DISTANCE_UNIT) as u32
 }
 
+// What is left to pay before the block, and the picks: at the states of the roots what the row of depth 0 has, and no path elsewhere.
 fn put_roots(
     l: &[u16],
-    at: Places,
-    rows: &[u64; (MOST_SYMBOLS + 1) * MOST_WORDS],
-    b: usize,
-    costs: &mut [u32],
-    picks: &mut [u32; COSTS_A_BLOCK * MOST_BLOCKS],
+    at: View,
+    row: &[u64; MOST_WORDS],
+    left: &mut [u32; COSTS_A_BLOCK],
+    picks: &mut [u32],
 )
-    requires { ⌜ Decodable (now l) × Placed (now l) (at .n) (at .roots) (at .goals) (at .pairs) (at .symbols) (at .edges)
-        × (costsABlock * b + costsABlock ≤ length (now costs)) × (b < mostBlocks) × (length (now picks) ≡ (costsABlock * mostBlocks)) ⌝ }
-    ensures { λ _. ⌜ RootsPut (now (l .entry)) (now (rows .entry)) b (now (costs .entry)) (now (costs .exit))
-        (now (picks .entry)) (now (picks .exit)) (vertexCountOf (now (l .entry)) 0) ⌝ }
+    requires { ⌜ Seen (now l) at × RootsAsked (now l) (now row) (now picks) ⌝ }
+    ensures { λ _. ⌜ RootsPut (now (l .entry)) (now (row .entry)) (now (left .exit)) (now (picks .exit)) (vertexCountOf (now (l .entry)) 0) ⌝ }
 {
+    *left = [NO_PATH; COSTS_A_BLOCK];
     let roots = at.roots;
-    let count = wide(l[3]);
+    let count = at.goals - roots;
     let mut v: usize = 0;
     while v < count {
         let s = wide(l[roots + v]);
-        let rank = rows[v];
-        costs[COSTS_A_BLOCK * b + s] = high(rank);
-        picks[COSTS_A_BLOCK * b + s] = low(rank);
+        let rank = row[v];
+        left[s] = high(rank);
+        picks[s] = low(rank);
         v += 1;
     }
 }
 
-// The table of block b, from the table behind it.
-fn table_block(
+// One block backward. `left` has what is left to pay in each state behind the block, and then before it; `picks` gets the pick of each state.
+// The two rows are working room.
+pub fn pass_block(
     l: &[u16],
-    received: u16,
-    mask: u8,
-    blocks: usize,
-    end: usize,
-    b: usize,
-    rows: &mut [u64; (MOST_SYMBOLS + 1) * MOST_WORDS],
-    costs: &mut [u32],
-    picks: &mut [u32; COSTS_A_BLOCK * MOST_BLOCKS],
+    at: View,
+    prices: &[u64],
+    left: &mut [u32; COSTS_A_BLOCK],
+    picks: &mut [u32],
+    even: &mut [u64; MOST_WORDS],
+    odd: &mut [u64; MOST_WORDS],
 )
-    requires { ⌜ Decodable (now l) × (costsABlock * blocks ≤ length (now costs)) × (blocks ≤ mostBlocks) × (b < blocks)
-        × (length (now rows) ≡ 9216) × (length (now picks) ≡ (costsABlock * mostBlocks)) ⌝ }
-    ensures { λ _. ⌜ BlockTable (now (l .entry)) received mask blocks end b (now (costs .entry)) (now (costs .exit))
-        (now (picks .entry)) (now (picks .exit))
-        × (length (now (rows .exit)) ≡ 9216) ⌝ }
+    requires { ⌜ Seen (now l) at × Room (now prices) × (length (now left) ≡ mostStates) × (length (now picks) ≡ mostStates)
+        × (length (now even) ≡ mostWords) × (length (now odd) ≡ mostWords) ⌝ }
+    ensures { λ _. ⌜ Passed (now (l .entry)) (now (prices .entry)) (now (left .entry)) (now (left .exit)) (now (picks .exit))
+        × (length (now (even .exit)) ≡ mostWords) × (length (now (odd .exit)) ≡ mostWords) ⌝ }
 {
-    let at = sweep::places_of(l);
-    let prices = block::prices(at.n, received, mask);
-    fill_rows(l, at, &prices, costs, blocks, end, b + 1, rows);
-    put_none(b, costs);
-    put_roots(l, at, rows, b, costs, picks);
+    put_goals_side(l, at, left, even, odd);
+    sweep::sweep(l, at, prices, even, odd);
+    put_roots(l, at, even, left, picks);
 }
 
-// Backward, from the last block to the first: the cost table of all blocks, and their picks, for paths that end in state `end`.
-pub fn fill_table(
-    sections: &[u16],
-    starts: &[usize; MOST_SECTIONS + 1],
-    indices: &[u8],
-    received: &[u16],
-    erased: &[u8],
-    end: usize,
-    costs: &mut [u32],
-) -> [u32; COSTS_A_BLOCK * MOST_BLOCKS]
-    requires { ⌜ Ready (now sections) (now starts) (now indices) (now received) (now erased)
-        × (costsABlock * length (now indices) ≤ length (now costs)) ⌝ }
-    ensures { λ r. ⌜ Filled (now (sections .entry)) (now (starts .entry)) (now (indices .entry)) (now (received .entry))
-        (now (erased .entry)) end 0 (now (costs .entry)) (now (costs .exit)) r ⌝ }
+// The label and the goal of a pick.
+pub fn label_of(pick: u32) -> u16
+    requires { ⌜ pick < distanceUnit ⌝ }
+    ensures { λ r. ⌜ r ≡ pick / labelUnit ⌝ }
 {
-    let blocks = indices.len();
-    let mut rows = [TOP; (MOST_SYMBOLS + 1) * MOST_WORDS];
-    let mut picks = [0u32; COSTS_A_BLOCK * MOST_BLOCKS];
-    let mut b = blocks;
-    while b > 0 {
-        b -= 1;
-        let start = starts[widened(indices[b])];
-        let l = &sections[start..];
-        let word = received[b];
-        table_block(
-            l,
-            word,
-            erased[b],
-            blocks,
-            end,
-            b,
-            &mut rows,
-            costs,
-            &mut picks,
-        );
-    }
-    picks
+    (pick / (LABEL_UNIT as u32)) as u16
 }
 
-fn label_of(pick: u32) -> u16
-    ensures { λ r. ⌜ r ≡ pick / 65536 ⌝ }
+pub fn goal_of(pick: u32) -> u8
+    ensures { λ r. ⌜ r ≡ pick % labelUnit ⌝ }
 {
-    (pick / 65536) as u16
-}
-
-fn goal_of(pick: u32) -> u8
-    requires { ⌜ pick % 65536 < mostStates ⌝ }
-    ensures { λ r. ⌜ r ≡ pick % 65536 ⌝ }
-{
-    (pick % 65536) as u8
-}
-
-// Forward, from state `start`: writes the labels and goals of the first path of least distance, and answers with that distance.
-pub fn name_words(
-    sections: &[u16],
-    starts: &[usize; MOST_SECTIONS + 1],
-    indices: &[u8],
-    received: &[u16],
-    erased: &[u8],
-    start: usize,
-    end: usize,
-    picks: &[u32; COSTS_A_BLOCK * MOST_BLOCKS],
-    labels: &mut [u16],
-    goals: &mut [u8],
-) -> u32
-    requires { ⌜ Ready (now sections) (now starts) (now indices) (now received) (now erased)
-        × Picked (now sections) (now starts) (now indices) (now received) (now erased) end 0 (now picks)
-        × (length (now indices) ≤ length (now labels)) × (length (now indices) ≤ length (now goals)) × (start < mostStates)
-        × (leastFrom (now sections) (now starts) (now indices) (now received) (now erased) end 0 start < unreached) ⌝ }
-    ensures { λ r. ⌜ Named (now (sections .entry)) (now (starts .entry)) (now (indices .entry)) (now (received .entry))
-        (now (erased .entry)) end start (now (labels .entry)) (now (labels .exit)) (now (goals .entry)) (now (goals .exit)) r ⌝ }
-{
-    let blocks = indices.len();
-    let mut s = start;
-    let mut total: u32 = 0;
-    let mut b: usize = 0;
-    while b < blocks {
-        let at = starts[widened(indices[b])];
-        let l = &sections[at..];
-        let pick = picks[COSTS_A_BLOCK * b + s];
-        let label = label_of(pick);
-        let goal = goal_of(pick);
-        labels[b] = label;
-        goals[b] = goal;
-        total += block::distance(wide(l[1]), received[b], erased[b], label);
-        s = widened(goal);
-        b += 1;
-    }
-    total
+    (pick % (LABEL_UNIT as u32)) as u8
 }

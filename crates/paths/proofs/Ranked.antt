@@ -23,7 +23,7 @@ use Rattle.paths.specs.Chain.{unreached, rootedAt}
 use Rattle.paths.specs.inner.Costs.{plus, minAll, least, firstWith}
 use Rattle.paths.specs.inner.Sections.{sectionLeast}
 use Rattle.paths.specs.inner.OneBlock.{onward, leastOver, firstOver}
-use Rattle.paths.specs.inner.Ranked.{labelUnit, distanceUnit, ranked, topRank, rankedCost, rankedRest, Pick}
+use Rattle.paths.specs.inner.Ranked.{labelUnit, distanceUnit, ranked, topRank, rankedCost, rankedLeft, Pick}
 use Rattle.paths.specs.inner.Ordered.{Ordered, leads, ended}
 use Rattle.paths.proofs.Sections.{costFrom, sectionTrace}
 use Rattle.paths.proofs.Ordered.{ordered-keep, ordered-as}
@@ -72,8 +72,8 @@ record Ranks (f F K : ℕ) : Type 0 where
   small : K < distanceUnit
 
 ranks : (rest : ℕ → ℕ) (d label goal : ℕ) → rest goal ≤ 4294967295 → label < 65536 → goal < labelUnit
-    → Ranks (plus 4294967295 d (rest goal)) (plus topRank (d * distanceUnit + label * labelUnit) (rankedRest rest goal)) (label * labelUnit + goal)
-unfolding plus rankedRest ranked
+    → Ranks (plus 4294967295 d (rest goal)) (plus topRank (d * distanceUnit + label * labelUnit) (rankedLeft (rest goal) goal)) (label * labelUnit + goal)
+unfolding plus rankedLeft ranked
 ranks rest d label goal h l g = go (ltb (rest goal) 4294967295) refl
   where
     go : (b : Bool) → ltb (rest goal) 4294967295 ≡ b
@@ -189,7 +189,7 @@ module _ {ws : List Word} {price : Word → ℕ} {edges : ℕ → List Edge} {n 
   priceRanked w = price w * distanceUnit + w .label * labelUnit
 
   abbrev leftRanked : ℕ → ℕ
-  leftRanked s = min topRank (rankedRest left s)
+  leftRanked s = min topRank (rankedLeft (left s) s)
 
   spells-ranked : (v : ℕ) → Spells (rankedCost n cost) goalOf priceRanked (spell v) (pathsFrom edges n 0 v)
   unfolding wordOf
@@ -230,7 +230,7 @@ module _ {ws : List Word} {price : Word → ℕ} {edges : ℕ → List Edge} {n 
   mine-ranks : (v : ℕ) (w : Word) → w ∈ mine v → Ranks (onWord w) (onRank w) (key w)
   mine-ranks v w m =
       let M = mine-is v w m in
-      subst (λ x. Ranks (onWord w) x (key w)) (plus-capped topRank (priceRanked w) (rankedRest left (w .goal)))
+      subst (λ x. Ranks (onWord w) x (key w)) (plus-capped topRank (priceRanked w) (rankedLeft (left (w .goal)) (w .goal)))
       (ranks left (price w) (w .label) (w .goal) (bound (w .goal)) (M .label-lt) (omega (arith, M .goal-lt)))
 
   -- the words of a vertex ascend by label and goal
@@ -248,15 +248,15 @@ module _ {ws : List Word} {price : Word → ℕ} {edges : ℕ → List Edge} {n 
 
   -- the least number from vertex v
   abbrev pub rankFrom : ℕ → ℕ
-  rankFrom v = sectionLeast edges (rankedCost n cost) topRank (λ g. rankedRest left (goalOf g)) n 0 v
+  rankFrom v = sectionLeast edges (rankedCost n cost) topRank (λ g. rankedLeft (left (goalOf g)) (goalOf g)) n 0 v
 
   rank-is : (v : ℕ) → minAll topRank onRank (mine v) ≡ rankFrom v
   rank-is v =
       let e : suc (n - 1) ≡ n = omega (arith, R .some) in
       block-cost edges n v (spells-ranked v) topRank leftRanked left-ranked-le
-      ∙ sym (subst (λ k. sectionLeast edges (rankedCost n cost) topRank (λ g. rankedRest left (goalOf g)) k 0 v
+      ∙ sym (subst (λ k. sectionLeast edges (rankedCost n cost) topRank (λ g. rankedLeft (left (goalOf g)) (goalOf g)) k 0 v
       ≡ sectionLeast edges (rankedCost n cost) topRank (λ g. leftRanked (goalOf g)) k 0 v) e
-      (least-capped edges (rankedCost n cost) topRank (λ g. rankedRest left (goalOf g)) (n - 1) 0 v))
+      (least-capped edges (rankedCost n cost) topRank (λ g. rankedLeft (left (goalOf g)) (goalOf g)) (n - 1) 0 v))
 
   over-mine : (v : ℕ) → v ∈ roots → minAll unreached onWord (mine v) ≡ leastOver ws price unreached left (rootOf v)
   unfolding leastOver

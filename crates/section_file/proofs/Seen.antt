@@ -12,7 +12,7 @@ use lib.Seq.{take-all, getD-drop}
 use Rattle.trellis.specs.Bounds.{mostStates, mostWords, mostQ}
 use Rattle.trellis.specs.Own as own
 use Rattle.trellis.specs.Layout.{qOf, nOf, vertexCountOf, edgeCountOf, edgesBefore, allEdges, sectionLength, edgeNumber}
-use Rattle.trellis.specs.Layout.{rootsPlace, goalsPlace, pairsPlace, symbolsPlace}
+use Rattle.trellis.specs.Layout.{rootsPlace, goalsPlace, pairsPlace, symbolsPlace, rootState, goalState}
 use Rattle.trellis.proofs.Laid.{before-none, before-more, before-few}
 use Rattle.section_file.specs.Usable.{stepEdge}
 use Rattle.section_file.specs.inner.Sound.{Sound}
@@ -190,3 +190,48 @@ header {l} S =
     let p = parts l in
     let i = symbols-in (S .sound) in
     record { n-is = viewed (S .is) .n-is; n-le = S .sound .nTo; inside = omega arith }
+
+-- the states of an outer depth: they stand from one place to the next, and each is small
+pub record States (l : List ℕ) (first next count : ℕ) (state : ℕ → ℕ) : Type 0 where
+  pub le : first ≤ next
+  pub count-is : next - first ≡ count
+  pub inside : first + count ≤ length l
+  pub near : first + count ≤ 30000
+  pub few : count ≤ mostStates
+  pub at : (v : ℕ) → getD l (first + v) 0 ≡ state v
+  pub small : (v : ℕ) → v < count → state v < mostStates
+
+module _ {l : List ℕ} {at : View} (S : Seen l at) where
+  pub roots-at : States l (at .roots) (at .goals) (vertexCountOf l 0) (rootState l)
+  unfolding rootState
+  roots-at =
+      let p = parts l in
+      let w = viewed (S .is) in
+      let i = symbols-in (S .sound) in
+      let n = section-near (S .sound) in
+      record {
+        le = omega (arith, w .roots-is, w .goals-is);
+        count-is = omega (arith, w .roots-is, w .goals-is);
+        inside = omega (arith, w .roots-is);
+        near = omega (arith, w .roots-is);
+        few = roots-few (S .sound);
+        at = λ v. ap (λ k. getD l (k + v) 0) (w .roots-is);
+        small = λ v h. omega (arith, S .sound .rootsBelow v h, S .sound .statesTo);
+      }
+
+  pub goals-at : States l (at .goals) (at .pairs) (vertexCountOf l (nOf l)) (goalState l)
+  unfolding goalState
+  goals-at =
+      let p = parts l in
+      let w = viewed (S .is) in
+      let i = symbols-in (S .sound) in
+      let n = section-near (S .sound) in
+      record {
+        le = omega (arith, w .goals-is, w .pairs-is);
+        count-is = omega (arith, w .goals-is, w .pairs-is);
+        inside = omega (arith, w .goals-is);
+        near = omega (arith, w .goals-is);
+        few = goals-few (S .sound);
+        at = λ v. ap (λ k. getD l (k + v) 0) (w .goals-is);
+        small = λ v h. omega (arith, S .sound .goalsBelow v h, S .sound .statesTo);
+      }

@@ -107,7 +107,7 @@ module _ {l : List ℕ} {at : View} {t before : ℕ} (S : Seen l at) {prices beh
         few = omega (arith, S .sound .edgesTo t (A .inside));
         pairsIn = omega (arith, from-length l (at .pairs + 2 * before), N .pairs-in);
         symbolsIn = omega (arith, from-length l (at .symbols + before), N .symbols-in);
-        pricesIn = omega (arith, from-length prices (4 * t), A .pricesLong, N .counts .n-le, A .inside);
+        pricesIn = omega (arith, from-length prices (4 * t), A .room .long, N .counts .n-le, A .inside);
         behindLong = A .behindLong;
         rowLong = r;
         fromSmall = λ k h. let i = in-step k (omega arith) in
@@ -117,7 +117,7 @@ module _ {l : List ℕ} {at : View} {t before : ℕ} (S : Seen l at) {prices beh
         toSmall = λ k h. let i = in-step k (omega arith) in
             subst (λ d. d .to < mostWords) (sym (numbered k))
             (omega (arith, to-below (S .sound) t (before + k) (A .inside) (i .from) (i .to), S .sound .verticesTo (suc t) (A .inside)));
-        priceSmall = λ a. subst (λ x. x ≤ topRank) (sym (own-at a)) (A .pricesSmall (4 * t + a));
+        priceSmall = λ a. subst (λ x. x ≤ topRank) (sym (own-at a)) (A .room .small (4 * t + a));
         behindSmall = λ k h. let i = in-step k (omega arith) in
             subst (λ d. getD behind (d .to) 0 ≤ topRank) (sym (numbered k))
             (A .small (edgeNumber l (before + k) .to) (to-below (S .sound) t (before + k) (A .inside) (i .from) (i .to)));
@@ -188,11 +188,11 @@ depth-done {l} {at} {t} {before} {first} {count} {prices} {behind} {mid = mid} {
 -- ---- the two arrays
 
 module _ (t : ℕ) (even odd : List ℕ) where
-  side-even : t % 2 ≡ 0 → side t even odd ≡ even
+  pub side-even : t % 2 ≡ 0 → side t even odd ≡ even
   unfolding side
   side-even e = ap (λ b. cond b even odd) (eq-eqb (t % 2) 0 e)
 
-  side-odd : (t % 2 ≡ 0 → ⊥) → side t even odd ≡ odd
+  pub side-odd : (t % 2 ≡ 0 → ⊥) → side t even odd ≡ odd
   unfolding side
   side-odd e = ap (λ b. cond b even odd) (ne-eqb (t % 2) 0 e)
 
@@ -272,8 +272,7 @@ module _ {l : List ℕ} {at : View} (S : Seen l at) {prices oldEven oldOdd : Lis
         record {
           inside = omega (arith, I .t-le);
           beforeIs = omega (arith, counted);
-          pricesLong = A .pricesLong;
-          pricesSmall = A .pricesSmall;
+          room = A .room;
           behindLong = long-side (suc (t - 1));
           rowLong = long-side (t - 1);
           small = subst (λ u. (v : ℕ) → v < vertexCountOf l u → getD (side u even odd) v 0 ≤ topRank) e (I .small);

@@ -1,15 +1,10 @@
 -- What the symbols of a block add to a rank, as it lies in an array.
 use mathlib.Core.Path.{_≡_}
 use mathlib.Core.List.{List}
-use Prim.Native.Nat.{ℕ, _+_, _*_, _≤_, _<_}
-use lib.ListN.{length, getD}
-use Rattle.paths.specs.inner.Ranked.{topRank, rankedCost}
+use Prim.Native.Nat.{ℕ, _+_, _*_, _<_}
+use lib.ListN.{getD}
+use Rattle.paths.specs.inner.Ranked.{Room, rankedCost}
 use Rattle.block.specs.Received.{symbolCost}
-
--- room for 8 steps of four symbols, with no number above the top
-pub record Room (prices : List ℕ) : Type 0 where
-  pub long : length prices ≡ 32
-  pub small : (i : ℕ) → getD prices i 0 ≤ topRank
 
 -- the array holds what the symbols add, four a step: their costs, ranked by the symbols
 pub record Prices (n received mask : ℕ) (prices : List ℕ) : Type 0 where

@@ -4,6 +4,8 @@ use mathlib.Core.Option.{Option}
 use mathlib.Core.List.{List}
 use Prim.Native.Nat.{ℕ}
 use lib.Dec.{eqb}
+use Rattle.trellis.specs.Lists.{sum}
+use Rattle.trellis.specs.Label.{symbol}
 use Rattle.trellis.specs.Word.{Word}
 use Rattle.paths.specs.Chain.{rootedAt}
 use Rattle.paths.specs.inner.Costs.{plus, minAll, firstWith}
@@ -20,3 +22,7 @@ module _ (ws : List Word) (price : Word → ℕ) (top : ℕ) (left : ℕ → ℕ
   -- the first word of least cost from there
   unfoldable pub firstOver : ℕ → Option Word
   firstOver s = firstWith (λ w. eqb (onward w) (leastOver s)) (rootedAt s ws)
+
+-- what a word of n symbols costs where the symbol a costs `cost t a` as symbol t
+unfoldable pub wordPrice : ℕ → (ℕ → ℕ → ℕ) → Word → ℕ
+wordPrice n cost w = sum (λ t. cost t (symbol n t (w .label))) 0 n

@@ -1,11 +1,12 @@
 -- A distance and a word in one number: the distance counts most, then the label, then the goal, so that the least number is that of the
--- first word of least distance. Everything but the last computes.
+-- first word of least distance. Everything but the records computes.
 use mathlib.Core.Path.{_≡_}
 use mathlib.Core.Bool.{cond}
 use mathlib.Core.Option.{some as just}
 use mathlib.Core.List.{List}
-use Prim.Native.Nat.{ℕ, suc, _+_, _-_, _*_, _/_, _%_, _^_, _<_}
+use Prim.Native.Nat.{ℕ, suc, _+_, _-_, _*_, _/_, _%_, _^_, _≤_, _<_}
 use lib.Dec.{ltb}
+use lib.ListN.{length, getD}
 use Rattle.trellis.specs.Bounds.{mostStates}
 use Rattle.trellis.specs.Word.{Word, word}
 use Rattle.paths.specs.Chain.{unreached}
@@ -29,9 +30,14 @@ topRank = 18014398509481983
 unfoldable pub rankedCost : ℕ → (ℕ → ℕ → ℕ) → ℕ → ℕ → ℕ
 rankedCost n cost t a = ranked (cost t a) (a * 4 ^ (n - suc t)) 0
 
--- what is added behind the block, in the state s: the distance from there on, and the goal
-unfoldable pub rankedRest : (ℕ → ℕ) → ℕ → ℕ
-rankedRest rest s = cond (ltb (rest s) 4294967295) (ranked (rest s) 0 s) topRank
+-- what is added behind the block in the state s: what is left to pay there, and the goal
+unfoldable pub rankedLeft : ℕ → ℕ → ℕ
+rankedLeft left s = cond (ltb left unreached) (ranked left 0 s) topRank
+
+-- an array of prices, four a step for 8 steps, none of them above the top
+pub record Room (prices : List ℕ) : Type 0 where
+  pub long : length prices ≡ 32
+  pub small : (i : ℕ) → getD prices i 0 ≤ topRank
 
 -- the first word of least cost from state s has the label and the goal that are in this number
 pub record Pick (ws : List Word) (price : Word → ℕ) (left : ℕ → ℕ) (s pick : ℕ) : Type 0 where

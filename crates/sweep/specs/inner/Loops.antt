@@ -9,7 +9,7 @@ use Rattle.trellis.specs.Own.{Edge}
 use Rattle.trellis.specs.Section.{leaving}
 use Rattle.trellis.specs.Layout.{nOf, vertexCountOf, edgesBefore}
 use Rattle.paths.specs.inner.Costs.{minAll}
-use Rattle.paths.specs.inner.Ranked.{topRank}
+use Rattle.paths.specs.inner.Ranked.{topRank, Room}
 use Rattle.section_file.specs.inner.Answer.{edgeIn}
 use Rattle.sweep.specs.inner.Rows.{Priced, Row}
 
@@ -46,8 +46,7 @@ pub record Lowered (pairs symbols : List ℕ) (count : ℕ) (prices behind old n
 pub record DepthAsked (l : List ℕ) (t before : ℕ) (prices behind row : List ℕ) : Type 0 where
   pub inside : t < nOf l
   pub beforeIs : before ≡ edgesBefore l t
-  pub pricesLong : length prices ≡ 32
-  pub pricesSmall : (i : ℕ) → getD prices i 0 ≤ topRank
+  pub room : Room prices
   pub behindLong : length behind ≡ mostWords
   pub rowLong : length row ≡ mostWords
   pub small : (v : ℕ) → v < vertexCountOf l (suc t) → getD behind v 0 ≤ topRank

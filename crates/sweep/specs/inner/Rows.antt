@@ -9,7 +9,7 @@ use lib.ListN.{length, getD}
 use Rattle.trellis.specs.Bounds.{mostWords}
 use Rattle.trellis.specs.Layout.{nOf, vertexCountOf, stepEdges}
 use Rattle.paths.specs.inner.Sections.{sectionLeast}
-use Rattle.paths.specs.inner.Ranked.{topRank}
+use Rattle.paths.specs.inner.Ranked.{topRank, Room}
 
 -- the row of depth t: even depths take turns in one array, odd depths in the other
 unfoldable pub side : ℕ → List ℕ → List ℕ → List ℕ
@@ -25,8 +25,7 @@ pub record Row (l : List ℕ) (cost : ℕ → ℕ → ℕ) (number : ℕ → ℕ
 
 -- prices for every step, and numbers of which no two add up to one that wraps
 pub record Asked (l prices even odd : List ℕ) : Type 0 where
-  pub pricesLong : length prices ≡ 32
-  pub pricesSmall : (i : ℕ) → getD prices i 0 ≤ topRank
+  pub room : Room prices
   pub evenLong : length even ≡ mostWords
   pub oddLong : length odd ≡ mostWords
   pub small : (v : ℕ) → v < vertexCountOf l (nOf l) → getD (side (nOf l) even odd) v 0 ≤ topRank

@@ -1,0 +1,167 @@
+-- One block: the ranks of the goals make the ranks of the roots along the edges of the section, and a root's rank has the least cost from its
+-- state and below it the first word of that cost. A state that is no root has no word.
+use mathlib.Core.Path.{_≡_, refl, sym, ap, subst, _∙_}
+use mathlib.Core.Bool.{Bool, true, false, cond}
+use mathlib.Core.List.{List}
+use Prim.Native.Nat.{ℕ, _+_, _-_, _*_, _/_, _%_, _≤_, _<_}
+use native.Mathlib.Nat.{zero-add}
+use native.Mathlib.Decide.{decLt}
+use native.Mathlib.Omega.{arith}
+use lib.Dec.{T, eqb, ltb, eqb→eq, eqb-refl}
+use lib.ListN.{length, getD}
+use borrow.Author.Tests.{ltb-true}
+use Rattle.trellis.specs.Bounds.{mostStates, mostWords}
+use Rattle.trellis.specs.Lists.{_∈_, each, first}
+use Rattle.trellis.specs.Section.{wordOf}
+use Rattle.trellis.specs.Layout.{nOf, vertexCountOf, rootState, goalState, stepEdges, sectionWords}
+use Rattle.trellis.proofs.Lists.{of-run, in-each, First, first-ok}
+use Rattle.paths.specs.Chain.{unreached}
+use Rattle.paths.specs.inner.Sections.{sectionLeast}
+use Rattle.paths.specs.inner.OneBlock.{leastOver, wordPrice}
+use Rattle.paths.specs.inner.Ranked.{distanceUnit, topRank, ranked, rankedCost, rankedLeft, Room, Pick}
+use Rattle.paths.proofs.Sections.{least-last}
+use Rattle.paths.proofs.Packed.{cost-packed}
+use Rattle.paths.proofs.Words.{whole-fits}
+use Rattle.paths.proofs.Ordered.{run-ordered}
+use Rattle.paths.proofs.Blocks.{Uses, least-else}
+use Rattle.paths.proofs.Ranked.{Rankable, rankFrom, ranked-least, ranked-pick}
+use Rattle.section_file.specs.inner.Sound.{Sound}
+use Rattle.section_file.specs.inner.View.{Seen}
+use Rattle.section_file.specs.declared.View.{View}
+use Rattle.section_file.proofs.Words.{bounded, words-ascend}
+use Rattle.section_file.proofs.Seen.{goals-at}
+use Rattle.sweep.specs.inner.Rows.{side, Row, Asked, Swept}
+use Rattle.passes.specs.inner.Blocks.{Costs, Passed}
+use Rattle.passes.specs.inner.Loops.{GoalsRanked, RootsPut}
+
+-- ---- the section as the theory of paths takes it
+
+module _ {l : List ℕ} (S : Sound l) (cost : ℕ → ℕ → ℕ) where
+  abbrev roots : List ℕ
+  roots = each (λ v. v) (vertexCountOf l 0)
+
+  uses : Uses (sectionWords l) (wordPrice (nOf l) cost) (stepEdges l) (nOf l) roots (rootState l) (goalState l) cost
+  unfolding sectionWords wordPrice wordOf
+  uses = record {
+    words-are = refl;
+    roots-ascend = run-ordered (λ v. v) 0 (vertexCountOf l 0) (λ j k a c. S .rootsAscend j k a (omega arith));
+    same-cost = λ v p m.
+        let P = whole-fits (stepEdges l) (nOf l) (vertexCountOf l (nOf l)) (bounded S) (S .nFrom) v p m in
+        cost-packed cost (nOf l) (P .symbols-fit) 0 0 (zero-add (nOf l));
+  }
+
+  rankable : Rankable (stepEdges l) (nOf l) (vertexCountOf l (nOf l)) roots (rootState l) (goalState l)
+  unfolding sectionWords
+  rankable = record {
+    some = S .nFrom;
+    short = S .nTo;
+    fits = bounded S;
+    small = λ g h. omega (arith, S .goalsBelow g h, S .statesTo);
+    ordered = words-ascend S;
+  }
+
+  listed : (v : ℕ) → v < vertexCountOf l 0 → v ∈ roots
+  listed v h = in-each (λ u. u) (vertexCountOf l 0) v v h refl
+
+  none-listed : (s : ℕ) → ((v : ℕ) → v < vertexCountOf l 0 → rootState l v ≡ s → ⊥) → (v : ℕ) → v ∈ roots → rootState l v ≡ s → ⊥
+  none-listed s h v m = let w = of-run (λ u. u) 0 (vertexCountOf l 0) v m in h v (omega (arith, w .is, w .below))
+
+-- the root in state s, or the number of roots
+abbrev rootOf : List ℕ → ℕ → ℕ
+rootOf l s = first (λ v. eqb (rootState l v) s) (vertexCountOf l 0)
+
+record RootAt (l : List ℕ) (s r : ℕ) : Type 0 where
+  is : r < vertexCountOf l 0 → rootState l r ≡ s
+  none : vertexCountOf l 0 ≤ r → (u : ℕ) → u < vertexCountOf l 0 → rootState l u ≡ s → ⊥
+
+root-at : (l : List ℕ) (s : ℕ) → RootAt l s (rootOf l s)
+root-at l s = record {
+  is = λ h. eqb→eq (rootState l (rootOf l s)) s (F .hit h);
+  none = λ h u k e. F .miss u (omega arith) (subst (λ x. T (eqb x s)) (sym e) (eqb-refl s));
+}
+  where
+    F : First (λ v. eqb (rootState l v) s) (vertexCountOf l 0) (rootOf l s)
+    F = first-ok (λ v. eqb (rootState l v) s) (vertexCountOf l 0)
+
+-- ---- the row of depth n
+
+left-small : (cost s : ℕ) → s < mostStates → rankedLeft cost s ≤ topRank
+unfolding rankedLeft ranked
+left-small cost s h = go (ltb cost unreached) refl
+  where
+    go : (b : Bool) → ltb cost unreached ≡ b → cond b (cost * distanceUnit + (0 * 64 + s)) topRank ≤ topRank
+    go true e = let k = ltb-true cost unreached e in omega arith
+    go false e = omega arith
+
+pub sweep-asked : {l prices left even odd : List ℕ} {at : View} → Seen l at → Room prices
+    → GoalsRanked l left (side (nOf l) even odd) (vertexCountOf l (nOf l)) → length even ≡ mostWords → length odd ≡ mostWords
+    → Asked l prices even odd
+sweep-asked {l} {left = left} S R G e o = record {
+  room = R;
+  evenLong = e;
+  oddLong = o;
+  small = λ v h.
+      let k = left-small (getD left (goalState l v) 0) (goalState l v) (goals-at S .small v h) in
+      let i = G .at v h in
+      omega arith;
+}
+
+-- ---- the whole block
+
+module _ {l prices left even odd newEven newOdd new picks : List ℕ} {at : View} (S : Seen l at)
+    (G : GoalsRanked l left (side (nOf l) even odd) (vertexCountOf l (nOf l)))
+    (W : Swept l prices even odd newEven newOdd) (R : RootsPut l newEven new picks (vertexCountOf l 0)) where
+  module _ (cost : ℕ → ℕ → ℕ) (rest : ℕ → ℕ) (C : Costs l prices left cost rest) where
+    abbrev rank : ℕ → ℕ
+    rank v = rankFrom (uses (S .sound) cost) (rankable (S .sound) cost) rest (C .bound) v
+
+    abbrev number : ℕ → ℕ
+    number g = rankedLeft (rest (goalState l g)) (goalState l g)
+
+    last : Row l (rankedCost (nOf l) cost) number (nOf l) (side (nOf l) even odd)
+    last = record {
+      at = λ v h.
+          let z : nOf l - nOf l ≡ 0 = omega arith in
+          G .at v h ∙ ap (λ x. rankedLeft x (goalState l v)) (C .behind (goalState l v) (goals-at S .small v h))
+          ∙ sym (ap (λ j. sectionLeast (stepEdges l) (rankedCost (nOf l) cost) topRank number j (nOf l) v) z
+          ∙ least-last (stepEdges l) (rankedCost (nOf l) cost) topRank number (nOf l) v);
+    }
+
+    ranks : (v : ℕ) → v < vertexCountOf l 0 → getD newEven v 0 ≡ rank v
+    ranks v h =
+        let z : nOf l - 0 ≡ nOf l = omega arith in
+        W .row (rankedCost (nOf l) cost) number (C .priced) last .at v h
+        ∙ ap (λ j. sectionLeast (stepEdges l) (rankedCost (nOf l) cost) topRank number j 0 v) z
+
+    abbrev least : ℕ → ℕ
+    least s = leastOver (sectionWords l) (wordPrice (nOf l) cost) unreached rest s
+
+    least-is : (s : ℕ) → s < mostStates → getD new s 0 ≡ least s
+    least-is s k = go (root-at l s) (decLt (rootOf l s) (vertexCountOf l 0))
+      where
+        go : RootAt l s (rootOf l s) → Dec (rootOf l s < vertexCountOf l 0) → getD new s 0 ≡ least s
+        go F (yes h) =
+            subst (λ x. getD new x 0 ≡ least x) (F .is h)
+            (R .cost (rootOf l s) h ∙ ap (λ x. x / distanceUnit) (ranks (rootOf l s) h)
+            ∙ ranked-least (uses (S .sound) cost) (rankable (S .sound) cost) rest (C .bound) (rootOf l s) (listed (S .sound) cost (rootOf l s) h))
+        go F (no h) =
+            let none = F .none (omega arith) in
+            R .none s k none ∙ sym (least-else (uses (S .sound) cost) unreached rest (C .bound) s (none-listed (S .sound) cost s none))
+
+    pick-is : (s : ℕ) → s < mostStates → least s < unreached → Pick (sectionWords l) (wordPrice (nOf l) cost) rest s (getD picks s 0)
+    pick-is s k o = go (root-at l s) (decLt (rootOf l s) (vertexCountOf l 0))
+      where
+        go : RootAt l s (rootOf l s) → Dec (rootOf l s < vertexCountOf l 0)
+            → Pick (sectionWords l) (wordPrice (nOf l) cost) rest s (getD picks s 0)
+        go F (yes h) =
+            subst (λ x. Pick (sectionWords l) (wordPrice (nOf l) cost) rest x (getD picks x 0)) (F .is h)
+            (subst (Pick (sectionWords l) (wordPrice (nOf l) cost) rest (rootState l (rootOf l s)))
+            (sym (R .pick (rootOf l s) h ∙ ap (λ x. x % distanceUnit) (ranks (rootOf l s) h)))
+            (ranked-pick (uses (S .sound) cost) (rankable (S .sound) cost) rest (C .bound) (rootOf l s) (listed (S .sound) cost (rootOf l s) h)
+            (subst (λ x. least x < unreached) (sym (F .is h)) o)))
+        go F (no h) =
+            let e = least-else (uses (S .sound) cost) unreached rest (C .bound) s (none-listed (S .sound) cost s (F .none (omega arith))) in
+            absurd (omega arith)
+
+  pub passed : Passed l prices left new picks
+  passed = record { long = R .long; picksLong = R .picksLong; least = least-is; pick = pick-is }

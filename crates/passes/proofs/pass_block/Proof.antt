@@ -1,0 +1,28 @@
+-- `passes::pass_block` goes from the goals along the edges to the roots.
+use borrow.Author.Needs.{needs}
+use Rattle.passes.proofs.Passing.{sweep-asked, passed}
+use Rattle.passes.proofs.pass_block.Statement.{statement}
+use Rattle.passes.proofs.pass_block.Tie as tie
+
+put-goals-side-requires : tie.Need-put-goals-side-requires
+put-goals-side-requires c κs = search needs
+
+sweep-requires : tie.Need-sweep-requires
+sweep-requires c κs = let G = c .before .before .put-goals-side .ensures in (c .before .before .before .before .before .before .before .before .before .pre .0, sweep-asked (c .before .before .before .before .before .before .before .before .before .pre .0) (c .before .before .before .before .before .before .before .before .before .pre .1) (G .0) (G .1) (G .2))
+
+put-roots-requires : tie.Need-put-roots-requires
+put-roots-requires c κs = search needs
+
+same-length : tie.Need-same-length
+same-length c = search needs
+
+returns : tie.Need-returns
+returns c =
+    let G = c .before .before .before .before .before .before .before .before .before .put-goals-side .ensures in
+    let W = c .before .before .before .before .before .before .sweep .ensures in
+    (passed (c .before .before .before .before .before .before .before .before .before .before .before .before .before .before .before .before .pre .0) (G .0) W (c .before .before .put-roots .ensures), W .evenLong, W .oddLong)
+
+pub pass-block-spec : {M : Type 1} → statement M
+pass-block-spec =
+    tie.close
+    (tie.spec put-goals-side-requires sweep-requires put-roots-requires same-length returns)
