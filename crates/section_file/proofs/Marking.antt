@@ -16,18 +16,9 @@ use borrow.Author.Tests.{eq-eqb, ne-eqb, eqb-true, eqb-false}
 use Rattle.trellis.specs.Bounds.{mostQ, mostWords}
 use Rattle.trellis.specs.Lists.{one-if, all, any}
 use Rattle.section_file.specs.inner.Steps.{covered, apart, noTwins}
-use Rattle.section_file.specs.inner.Places.{Vertices, Symbols, Marks}
+use Rattle.section_file.specs.inner.Edges.{turnedIn, EdgesSmall, Marks}
 use Rattle.section_file.proofs.Tests.{all-of, all-fails, Passed, passed-start, passed-by, passed-all}
 use Rattle.trellis.proofs.Bools.{clash}
-
--- ---- what was read
-
-module _ {l : List ℕ} {at count : ℕ} where
-  pub vertex-small : {k x v : ℕ} → Vertices l at count → k < count → x ≡ getD l (at + 2 * k) 0 → (v ≡ x) × (v < 65536) → v < mostWords
-  vertex-small {k} s h e g = omega (arith, s .small k h, g .0)
-
-pub slot-of : {x v y w a b : ℕ} → x ≡ a → (v ≡ x) × (v < 65536) → y ≡ b → (w ≡ y) × (w < 65536) → mostQ * v + w ≡ mostQ * a + b
-slot-of e f g h = omega (arith, f .0, h .0)
 
 -- ---- met or not
 
@@ -45,17 +36,14 @@ marking-start f count e = record {
   };
 }
 
-pub marking-next : {f : ℕ → ℕ} {count : ℕ} {marks : List ℕ} {k x v : ℕ} → Marking f count marks k → k < count → x ≡ f k
-    → (v ≡ x) × (v < 65536) → f k < mostWords → Marking f count (set marks v 1) (k + 1)
+pub marking-next : {f : ℕ → ℕ} {count : ℕ} {marks : List ℕ} {k v : ℕ} → Marking f count marks k → k < count → v ≡ f k → f k < mostWords
+    → Marking f count (set marks v 1) (k + 1)
 unfolding any
-marking-next {f} {count} {marks} {k} {x} {v} m h e g small = record {
+marking-next {f} {count} {marks} {k} {v} m h v-is small = record {
   inside = omega arith;
   so-far = record { long = length-set marks v 1 ∙ m .so-far .long; marked = λ u l. rw (add-one k) (go u (ℕ-discrete (f k) u) l) };
 }
   where
-    v-is : v ≡ f k
-    v-is = g .0 ∙ e
-
     met : (b : Bool) → 1 ≡ one-if (b || true)
     met true = refl
     met false = refl
@@ -129,9 +117,11 @@ pub record Small (one symbol other : ℕ → ℕ) (count : ℕ) : Type 0 where
   pub symbols : (k : ℕ) → k < count → symbol k < mostQ
   pub others : (k : ℕ) → k < count → other k < mostWords
 
-pub small-of : {l : List ℕ} {one symbols other count : ℕ} → Vertices l one count × Vertices l other count × Symbols l symbols count
-    → Small (λ k. getD l (one + 2 * k) 0) (λ k. getD l (symbols + k) 0) (λ k. getD l (other + 2 * k) 0) count
-small-of s = record { ones = s .0 .small; symbols = s .2 .small; others = s .1 .small }
+pub small-of : {pairs symbols : List ℕ} {count : ℕ} (back : Bool) → EdgesSmall pairs symbols count
+    → Small (λ k. turnedIn back pairs symbols k .from) (λ k. turnedIn back pairs symbols k .symbol) (λ k. turnedIn back pairs symbols k .to)
+    count
+small-of false s = record { ones = s .fromSmall; symbols = s .symbolSmall; others = s .toSmall }
+small-of true s = record { ones = s .toSmall; symbols = s .symbolSmall; others = s .fromSmall }
 
 pub slot-small : {one symbol other : ℕ → ℕ} {count k slot : ℕ} → Small one symbol other count → k < count → slot ≡ mostQ * one k + symbol k
     → slot < mostQ * mostWords

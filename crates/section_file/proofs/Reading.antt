@@ -5,7 +5,7 @@ use mathlib.Core.Bool.{Bool, true, false, not, _&&_}
 use mathlib.Core.List.{List}
 use Prim.Native.Nat.{ℕ, zero, suc, _+_, _-_, _*_, _≤_, _<_}
 use native.Mathlib.Omega.{arith}
-use lib.ListN.{getD}
+use lib.ListN.{length, getD, take, drop}
 use lib.Dec.{leb, ltb}
 use borrow.Author.Tests.{ltb-true, lt-ltb, le-ltb, lt-leb, le-leb, eq-eqb, ne-eqb, not-true, not-false}
 use Rattle.trellis.specs.Bounds.{mostStates, mostWords, mostSymbols, leastQ, mostQ}
@@ -15,12 +15,14 @@ use Rattle.trellis.specs.Layout.{qOf, nOf, statesOf, vertexCountOf, edgeCountOf
 use Rattle.trellis.specs.Layout.{rootsPlace, goalsPlace, pairsPlace, symbolsPlace}
 use Rattle.section_file.specs.Usable.{stepEdge, sizesRight, countsRight, rising, statesRight, edgesAscend}
 use Rattle.section_file.specs.inner.Steps.{higher, stateRight, inside, above}
-use Rattle.section_file.specs.inner.Places.{Counted}
-use Rattle.section_file.specs.inner.View.{viewOf}
-use Rattle.section_file.specs.inner.Answer.{edgeIn, heldEdge, edgeAt, heldNumbers, meantNumbers}
-use Rattle.section_file.specs.declared.Numbers.{Numbers}
+use Rattle.section_file.specs.inner.View.{viewOf, Laid}
+use Rattle.section_file.specs.inner.Edges.{turnedIn}
+use Rattle.section_file.specs.inner.Answer.{edgeIn, heldEdge, meantEdge}
+use Rattle.section_file.specs.declared.Edge.{Edge}
+use Rattle.section_file.specs.declared.View.{View}
 use Rattle.section_file.proofs.Tests.{all-both, all-next}
-use Rattle.trellis.proofs.Bools.{holds, is-true}
+use Rattle.section_file.proofs.Seen.{Viewed, viewed, near-of, from-length, numbers-from}
+use Rattle.trellis.proofs.Bools.{holds, is-true, clash}
 use Rattle.trellis.proofs.ThreeNumbers.{lower-yes, lower-of, lower-chain}
 
 -- ---- bounds
@@ -73,7 +75,7 @@ module _ (l : List ℕ) {n : ℕ} {a : Bool} (n-is : n ≡ nOf l) (a-is : a ≡ 
 
 -- ---- places
 
-pub view-is : (l : List ℕ) {n q edges x v y w : ℕ} → Counted l n → q ≡ getD l 0 0
+pub view-is : (l : List ℕ) {n q edges x v y w : ℕ} → n ≡ nOf l → q ≡ getD l 0 0
     → (edges ≡ sum (λ t. getD l (4 + n + t) 0) 0 n) × (edges ≤ 65535 * n)
     → x ≡ getD l 3 0 → (v ≡ x) × (v < 65536) → y ≡ getD l (3 + n) 0 → (w ≡ y) × (w < 65536)
     → record {
@@ -87,8 +89,7 @@ pub view-is : (l : List ℕ) {n q edges x v y w : ℕ} → Counted l n → q ≡
       end = 4 + 2 * n + v + w + 2 * edges + edges;
     } ≡ viewOf l
 unfolding viewOf rootsPlace goalsPlace pairsPlace symbolsPlace sectionLength edgesBefore vertexCountOf edgeCountOf
-view-is l {n} {q} {edges} {x} {v} {y} {w} c q-is e x-is v-is y-is w-is =
-    let r = c .nIs in
+view-is l {n} {q} {edges} {x} {v} {y} {w} r q-is e x-is v-is y-is w-is =
     let f : v ≡ getD l 3 0 = v-is .0 ∙ x-is in
     let g : w ≡ getD l (3 + nOf l) 0 = w-is .0 ∙ y-is ∙ rw r in
     let k : edges ≡ sum (λ t. getD l (4 + nOf l + t) 0) 0 (nOf l) = e .0 ∙ rw r in
@@ -103,39 +104,26 @@ view-is l {n} {q} {edges} {x} {v} {y} {w} c q-is e x-is v-is y-is w-is =
       end = 4 + 2 * r i + f i + g i + 2 * k i + k i;
     }
 
--- a count that was read, small enough
-pub counted-at : {l : List ℕ} {n : ℕ} (t : ℕ) {x v : ℕ} → Counted l n → t ≤ n → x ≡ getD l (3 + t) 0 → (v ≡ x) × (v < 65536) → v ≤ mostWords
-unfolding vertexCountOf
-counted-at t c h e g = omega (arith, c .verticesTo t h, g .0)
-
-pub counted-edges : {l : List ℕ} {n : ℕ} (t : ℕ) {x v : ℕ} → Counted l n → t < n → x ≡ getD l (4 + n + t) 0 → (v ≡ x) × (v < 65536)
-    → v ≤ mostWords
-unfolding edgeCountOf
-counted-edges {l} {n} t {x} {v} c h e g =
-    let f : x ≡ getD l (4 + nOf l + t) 0 = e ∙ ap (λ m. getD l (4 + m + t) 0) (c .nIs) in
-    omega (arith, c .edgesTo t h, g .0)
-
 -- ---- end states
 
-module _ (l : List ℕ) (at : ℕ) where
-  pub no-vertex-before : {v : ℕ} → v ≡ 0 → true ≡ higher (λ u. getD l (at + u) 0) v
+module _ (l : List ℕ) where
+  pub no-vertex-before : {v : ℕ} → v ≡ 0 → true ≡ higher (λ u. getD l u 0) v
   unfolding higher
   no-vertex-before e = rw e
 
-  pub higher-is : (v : ℕ) {x y : ℕ} → (v ≡ 0 → ⊥) → x ≡ getD l (at + (v - 1)) 0 → y ≡ getD l (at + v) 0
-      → ltb x y ≡ higher (λ u. getD l (at + u) 0) v
+  pub higher-is : (v : ℕ) → (v ≡ 0 → ⊥) → ltb (getD l (v - 1) 0) (getD l v 0) ≡ higher (λ u. getD l u 0) v
   unfolding higher
-  higher-is zero h e f = absurd (h refl)
-  higher-is (suc v) h e f = let q : suc v - 1 ≡ v = omega arith in rw (e, f, q)
+  higher-is zero h = absurd (h refl)
+  higher-is (suc v) h = let q : suc v - 1 ≡ v = omega arith in rw q
 
-  module _ (v bound : ℕ) {b : Bool} (b-is : b ≡ higher (λ u. getD l (at + u) 0) v) where
-    pub not-higher : not b ≡ true → false ≡ stateRight (λ u. getD l (at + u) 0) bound v
+  module _ (v bound : ℕ) {b : Bool} (b-is : b ≡ higher (λ u. getD l u 0) v) where
+    pub not-higher : not b ≡ true → false ≡ stateRight (λ u. getD l u 0) bound v
     unfolding stateRight
     not-higher t = let e = sym b-is ∙ not-true b t in rw e
 
-    pub state-by-bound : {x : ℕ} → not b ≡ false → x ≡ getD l (at + v) 0 → ltb x bound ≡ stateRight (λ u. getD l (at + u) 0) bound v
+    pub state-by-bound : not b ≡ false → ltb (getD l v 0) bound ≡ stateRight (λ u. getD l u 0) bound v
     unfolding stateRight
-    state-by-bound t x-is = let e = sym b-is ∙ not-false b t in rw (e, x-is)
+    state-by-bound t = let e = sym b-is ∙ not-false b t in rw e
 
 -- each state above the one before it, so above all before it
 rising-is : (l : List ℕ) (f : ℕ → ℕ) (count : ℕ) → all (stateRight f (statesOf l)) count ≡ rising l f count
@@ -148,98 +136,121 @@ rising-is l f count =
     chain : (i j k : ℕ) → ltb (f i) (f j) ≡ true → ltb (f j) (f k) ≡ true → ltb (f i) (f k) ≡ true
     chain i j k p q = lt-ltb (f i) (f k) (omega (arith, ltb-true (f i) (f j) p, ltb-true (f j) (f k) q))
 
-module _ (l : List ℕ) {n roots goals s : ℕ} (c : Counted l n) (r-is : roots ≡ rootsPlace l) (g-is : goals ≡ goalsPlace l)
-    (s-is : s ≡ statesOf l) where
-  module _ {x v : ℕ} {a : Bool} (x-is : x ≡ getD l 3 0) (v-is : (v ≡ x) × (v < 65536))
-      (a-is : a ≡ all (stateRight (λ u. getD l (roots + u) 0) s) v) where
-    roots-are : a ≡ rising l (rootState l) (vertexCountOf l 0)
-    unfolding rootState vertexCountOf
-    roots-are =
-        let e : a ≡ all (stateRight (rootState l) (statesOf l)) (vertexCountOf l 0) = a-is ∙ rw (v-is .0 ∙ x-is, r-is, s-is) in
-        e ∙ rising-is l (rootState l) (vertexCountOf l 0)
+module _ (l : List ℕ) {at : View} (L : Laid l at) {s : ℕ} (s-is : s ≡ statesOf l) where
+  places : Viewed l at
+  places = viewed (L .is)
 
-    pub roots-wrong : not a ≡ true → false ≡ statesRight l
-    unfolding statesRight
-    roots-wrong t = let e = sym roots-are ∙ not-true a t in rw e
+  module _ {x v : ℕ} (x-is : x ≡ getD l 3 0) (v-is : (v ≡ x) × (v < 65536)) where
+    pub roots-there : v ≤ length (take (length l - at .roots) (drop (at .roots) l))
+    unfolding vertexCountOf
+    roots-there = let N = near-of L in omega (arith, from-length l (at .roots), v-is .0)
 
-    pub states-by-goals : {y w : ℕ} {b : Bool} → not a ≡ false → y ≡ getD l (3 + n) 0 → (w ≡ y) × (w < 65536)
-        → b ≡ all (stateRight (λ u. getD l (goals + u) 0) s) w → b ≡ statesRight l
-    unfolding statesRight goalState vertexCountOf
-    states-by-goals {y} {w} {b} t y-is w-is b-is =
-        let e : rising l (rootState l) (getD l 3 0) ≡ true = sym roots-are ∙ not-false a t in
-        let f : w ≡ getD l (3 + nOf l) 0 = w-is .0 ∙ y-is ∙ rw (c .nIs) in
-        let g : b ≡ all (stateRight (goalState l) (statesOf l)) (vertexCountOf l (nOf l)) = b-is ∙ rw (f, g-is, s-is) in
-        let h : b ≡ rising l (goalState l) (vertexCountOf l (nOf l)) = g ∙ rising-is l (goalState l) (vertexCountOf l (nOf l)) in
-        h ∙ rw e
+    module _ {a : Bool} (a-is : a ≡ all (stateRight (λ u. getD (take (length l - at .roots) (drop (at .roots) l)) u 0) s) v) where
+      roots-are : a ≡ rising l (rootState l) (vertexCountOf l 0)
+      unfolding rootState vertexCountOf
+      roots-are =
+          let f = numbers-from l (places .roots-is) in
+          let e : a ≡ all (stateRight (rootState l) (statesOf l)) (vertexCountOf l 0) = a-is ∙ rw (v-is .0 ∙ x-is, f, s-is) in
+          e ∙ rising-is l (rootState l) (vertexCountOf l 0)
+
+      pub roots-wrong : not a ≡ true → false ≡ statesRight l
+      unfolding statesRight
+      roots-wrong t = let e = sym roots-are ∙ not-true a t in rw e
+
+      pub states-by-goals : {y w : ℕ} {b : Bool} → not a ≡ false → y ≡ getD l (3 + at .n) 0 → (w ≡ y) × (w < 65536)
+          → b ≡ all (stateRight (λ u. getD (take (length l - at .goals) (drop (at .goals) l)) u 0) s) w → b ≡ statesRight l
+      unfolding statesRight goalState vertexCountOf
+      states-by-goals {y} {w} {b} t y-is w-is b-is =
+          let e : rising l (rootState l) (getD l 3 0) ≡ true = sym roots-are ∙ not-false a t in
+          let f : w ≡ getD l (3 + nOf l) 0 = w-is .0 ∙ y-is ∙ ap (λ m. getD l (3 + m) 0) (places .n-is) in
+          let k = numbers-from l (places .goals-is) in
+          let g : b ≡ all (stateRight (goalState l) (statesOf l)) (vertexCountOf l (nOf l)) = b-is ∙ rw (f, k, s-is) in
+          let h : b ≡ rising l (goalState l) (vertexCountOf l (nOf l)) = g ∙ rising-is l (goalState l) (vertexCountOf l (nOf l)) in
+          h ∙ rw e
+
+  pub goals-there : {y w : ℕ} → y ≡ getD l (3 + at .n) 0 → (w ≡ y) × (w < 65536)
+      → w ≤ length (take (length l - at .goals) (drop (at .goals) l))
+  unfolding vertexCountOf
+  goals-there {y} {w} y-is w-is =
+      let N = near-of L in
+      let f : w ≡ getD l (3 + nOf l) 0 = w-is .0 ∙ y-is ∙ ap (λ m. getD l (3 + m) 0) (places .n-is) in
+      omega (arith, from-length l (at .goals))
 
 -- ---- edges
 
-pub edge-held : (pairs symbols : List ℕ) (k : ℕ) {x a y : ℕ} → (x ≡ getD pairs (2 * k) 0) × (x < 65536) → (a ≡ getD symbols k 0) × (a < 65536)
-    → (y ≡ getD pairs (2 * k + 1) 0) × (y < 65536) → record { from = x; symbol = a; to = y } ≡ heldEdge (edgeIn pairs symbols k)
+pub edge-held : (pairs symbols : List ℕ) (k : ℕ) {x a y : ℕ} → (x ≡ getD pairs (2 * k) 0) × (x < 65536)
+    → (a ≡ getD symbols k 0) × (a < 65536) → (y ≡ getD pairs (2 * k + 1) 0) × (y < 65536)
+    → record { from = x; symbol = a; to = y } ≡ heldEdge (edgeIn pairs symbols k)
 edge-held pairs symbols k p q r = let a = p .0 in let b = q .0 in let c = r .0 in simp (a, b, c)
 
-pub edge-is : (l : List ℕ) (pairs symbols k : ℕ) {x a y : ℕ} → x ≡ getD l (pairs + 2 * k) 0 → a ≡ getD l (symbols + k) 0
-    → y ≡ getD l (pairs + 1 + 2 * k) 0 → record { from = x; symbol = a; to = y } ≡ heldNumbers (edgeAt l pairs symbols k)
-edge-is l pairs symbols k p q r = simp (p, q, r)
-
-module _ (l : List ℕ) (pairs symbols q froms tos k : ℕ) {e : Numbers} (is : e ≡ heldNumbers (edgeAt l pairs symbols k)) where
-  pub from-outside : froms ≤ e .from → false ≡ inside (edgeAt l pairs symbols) q froms tos k
+module _ (pairs symbols : List ℕ) (q froms tos k : ℕ) {e : Edge} (is : e ≡ heldEdge (edgeIn pairs symbols k)) where
+  pub from-outside : froms ≤ e .from → false ≡ inside (edgeIn pairs symbols) q froms tos k
   unfolding inside
   from-outside h = rw is at (outside e h)
     where
-      outside : (e : Numbers) → froms ≤ e .from → false ≡ (ltb (e .from) froms && (ltb (e .to) tos && ltb (e .symbol) q))
+      outside : (e : Edge) → froms ≤ e .from → false ≡ (ltb (e .from) froms && (ltb (e .to) tos && ltb (e .symbol) q))
       outside e h = simp (le-ltb _ _ h)
 
-  pub to-outside : e .from < froms → tos ≤ e .to → false ≡ inside (edgeAt l pairs symbols) q froms tos k
+  pub to-outside : e .from < froms → tos ≤ e .to → false ≡ inside (edgeIn pairs symbols) q froms tos k
   unfolding inside
   to-outside h g = rw is at (outside e h g)
     where
-      outside : (e : Numbers) → e .from < froms → tos ≤ e .to → false ≡ (ltb (e .from) froms && (ltb (e .to) tos && ltb (e .symbol) q))
+      outside : (e : Edge) → e .from < froms → tos ≤ e .to → false ≡ (ltb (e .from) froms && (ltb (e .to) tos && ltb (e .symbol) q))
       outside e h g = simp (lt-ltb _ _ h, le-ltb _ _ g)
 
-  pub inside-by-symbol : e .from < froms → e .to < tos → ltb (e .symbol) q ≡ inside (edgeAt l pairs symbols) q froms tos k
+  pub inside-by-symbol : e .from < froms → e .to < tos → ltb (e .symbol) q ≡ inside (edgeIn pairs symbols) q froms tos k
   unfolding inside
   inside-by-symbol h g = rest e h g ∙ rw is
     where
-      rest : (e : Numbers) → e .from < froms → e .to < tos
+      rest : (e : Edge) → e .from < froms → e .to < tos
           → ltb (e .symbol) q ≡ (ltb (e .from) froms && (ltb (e .to) tos && ltb (e .symbol) q))
       rest e h g = simp (lt-ltb _ _ h, lt-ltb _ _ g)
 
-module _ (e f : Numbers) where
-  pub from-less : e .from < f .from → true ≡ own.edgeLess (meantNumbers e) (meantNumbers f)
+module _ (e f : Edge) where
+  pub from-less : e .from < f .from → true ≡ own.edgeLess (meantEdge e) (meantEdge f)
   unfolding lower
   from-less h = simp (lt-ltb _ _ h)
 
   module _ (h : f .from ≤ e .from) where
-    pub from-other : (e .from ≡ f .from → ⊥) → false ≡ own.edgeLess (meantNumbers e) (meantNumbers f)
+    pub from-other : (e .from ≡ f .from → ⊥) → false ≡ own.edgeLess (meantEdge e) (meantEdge f)
     unfolding lower
     from-other d = simp (le-ltb _ _ h, ne-eqb _ _ d)
 
     module _ (d : e .from ≡ f .from) where
-      pub symbol-less : e .symbol < f .symbol → true ≡ own.edgeLess (meantNumbers e) (meantNumbers f)
+      pub symbol-less : e .symbol < f .symbol → true ≡ own.edgeLess (meantEdge e) (meantEdge f)
       unfolding lower
       symbol-less k = simp (le-ltb _ _ h, eq-eqb _ _ d, lt-ltb _ _ k)
 
       module _ (k : f .symbol ≤ e .symbol) where
-        pub symbol-other : (e .symbol ≡ f .symbol → ⊥) → false ≡ own.edgeLess (meantNumbers e) (meantNumbers f)
+        pub symbol-other : (e .symbol ≡ f .symbol → ⊥) → false ≡ own.edgeLess (meantEdge e) (meantEdge f)
         unfolding lower
         symbol-other g = simp (le-ltb _ _ h, eq-eqb _ _ d, le-ltb _ _ k, ne-eqb _ _ g)
 
-        pub less-by-to : e .symbol ≡ f .symbol → ltb (e .to) (f .to) ≡ own.edgeLess (meantNumbers e) (meantNumbers f)
+        pub less-by-to : e .symbol ≡ f .symbol → ltb (e .to) (f .to) ≡ own.edgeLess (meantEdge e) (meantEdge f)
         unfolding lower
         less-by-to g = simp (le-ltb _ _ h, eq-eqb _ _ d, le-ltb _ _ k, eq-eqb _ _ g)
 
-module _ (l : List ℕ) (pairs symbols : ℕ) where
-  pub no-edge-before : {k : ℕ} → k ≡ 0 → true ≡ above (edgeAt l pairs symbols) k
+module _ (pairs symbols : List ℕ) where
+  pub no-edge-before : {k : ℕ} → k ≡ 0 → true ≡ above (edgeIn pairs symbols) k
   unfolding above
   no-edge-before e = rw e
 
-  pub above-is : (k : ℕ) {e f : Numbers} {b : Bool} → (k ≡ 0 → ⊥) → e ≡ heldNumbers (edgeAt l pairs symbols (k - 1))
-      → f ≡ heldNumbers (edgeAt l pairs symbols k) → b ≡ own.edgeLess (meantNumbers e) (meantNumbers f)
-      → b ≡ above (edgeAt l pairs symbols) k
+  pub above-is : (k : ℕ) {e f : Edge} {b : Bool} → (k ≡ 0 → ⊥) → e ≡ heldEdge (edgeIn pairs symbols (k - 1))
+      → f ≡ heldEdge (edgeIn pairs symbols k) → b ≡ own.edgeLess (meantEdge e) (meantEdge f) → b ≡ above (edgeIn pairs symbols) k
   unfolding above
   above-is zero h d g i = absurd (h refl)
   above-is (suc k) h d g i = let q : suc k - 1 ≡ k = omega arith in i ∙ rw (d, g, q)
+
+  -- as it stands, and on the way back
+  pub edge-forward : (k : ℕ) (back : Bool) {e : Edge} → e ≡ heldEdge (edgeIn pairs symbols k) → not back ≡ true
+      → e ≡ heldEdge (turnedIn back pairs symbols k)
+  edge-forward k false d t = d
+  edge-forward k true d t = absurd (clash (sym t))
+
+  pub edge-back : (k : ℕ) (back : Bool) {e : Edge} → e ≡ heldEdge (edgeIn pairs symbols k) → not back ≡ false
+      → record { from = e .to; symbol = e .symbol; to = e .from } ≡ heldEdge (turnedIn back pairs symbols k)
+  edge-back k false d t = absurd (clash t)
+  edge-back k true d t = rw d
 
 -- each edge above the one before it, so above all before it
 pub ascend-is : (l : List ℕ) (t : ℕ) → all (above (stepEdge l t)) (edgeCountOf l t) ≡ edgesAscend l t

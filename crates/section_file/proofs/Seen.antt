@@ -9,15 +9,15 @@ use native.Mathlib.Nat.{le-of-eq}
 use native.Mathlib.Omega.{arith}
 use lib.ListN.{length, getD, take, drop, length-drop}
 use lib.Seq.{take-all, getD-drop}
-use Rattle.trellis.specs.Bounds.{mostStates, mostWords, mostQ}
+use Rattle.trellis.specs.Bounds.{mostStates, mostWords, mostSymbols, mostQ}
 use Rattle.trellis.specs.Own as own
 use Rattle.trellis.specs.Layout.{qOf, nOf, vertexCountOf, edgeCountOf, edgesBefore, allEdges, sectionLength, edgeNumber}
 use Rattle.trellis.specs.Layout.{rootsPlace, goalsPlace, pairsPlace, symbolsPlace, rootState, goalState}
-use Rattle.trellis.proofs.Laid.{before-none, before-more, before-few}
+use Rattle.trellis.proofs.Laid.{before-none, before-more, before-le, before-few}
 use Rattle.section_file.specs.Usable.{stepEdge}
 use Rattle.section_file.specs.inner.Sound.{Sound}
-use Rattle.section_file.specs.inner.Places.{Counted}
-use Rattle.section_file.specs.inner.View.{viewOf, Seen}
+use Rattle.section_file.specs.inner.View.{viewOf, Counted, Laid, Seen}
+use Rattle.section_file.specs.inner.Edges.{EdgesThere}
 use Rattle.section_file.specs.inner.Answer.{edgeIn}
 use Rattle.section_file.specs.declared.View.{View}
 
@@ -59,12 +59,41 @@ viewed e = record {
   end-is = ap (λ (v : View). v .end) e;
 }
 
-pub counts-near : {l : List ℕ} {n : ℕ} → Counted l n → sectionLength l ≤ 30000
-counts-near {l} {n} c =
+pub counts-near : {l : List ℕ} → Counted l → sectionLength l ≤ 30000
+counts-near {l} c =
     let p = parts l in
-    let e = c .nIs in
-    let few = before-few l {n = nOf l} {most = mostWords} (λ t h. c .edgesTo t (omega arith)) (nOf l) (omega arith) in
+    let few = before-few l {n = nOf l} {most = mostWords} (c .edgesTo) (nOf l) (omega arith) in
     omega (arith, c .nTo, c .verticesTo 0 (omega arith), c .verticesTo (nOf l) (omega arith))
+
+-- the places of a section that is there whole by counts in bounds: in their order, near, and within the list
+pub record Near (l : List ℕ) (at : View) : Type 0 where
+  pub steps-few : at .n ≤ mostSymbols
+  pub roots-to : at .roots + vertexCountOf l 0 ≡ at .goals
+  pub goals-to : at .goals + vertexCountOf l (nOf l) ≡ at .pairs
+  pub pairs-to : at .pairs + 2 * at .edges ≡ at .symbols
+  pub symbols-to : at .symbols + at .edges ≡ at .end
+  pub end-near : at .end ≤ 30000
+  pub end-in : at .end ≤ length l
+
+pub near-of : {l : List ℕ} {at : View} → Laid l at → Near l at
+near-of {l} L =
+    let p = parts l in
+    let e = viewed (L .is) in
+    let n = counts-near (L .counted) in
+    let w = L .whole in
+    record {
+      steps-few = omega (arith, L .counted .nTo);
+      roots-to = omega arith;
+      goals-to = omega arith;
+      pairs-to = omega arith;
+      symbols-to = omega arith;
+      end-near = omega arith;
+      end-in = omega arith;
+    }
+
+-- the edges of the steps before one are among all edges
+pub before-in : {l : List ℕ} {at : View} {t before : ℕ} → Laid l at → t ≤ at .n → before ≡ edgesBefore l t → before ≤ at .edges
+before-in {l} {at} {t} L h e = let v = viewed (L .is) in omega (arith, before-le l t (nOf l) (omega arith))
 
 -- ---- a slice from a place on
 
@@ -78,9 +107,14 @@ module _ (l : List ℕ) (a : ℕ) where
   pub from-length : length (take (length l - a) (drop a l)) ≡ length l - a
   from-length = ap length from-is ∙ length-drop a l
 
+pub numbers-from : (l : List ℕ) {a b : ℕ} → a ≡ b
+    → _≡_ {A = ℕ → ℕ} (λ i. getD (take (length l - a) (drop a l)) i 0) (λ i. getD l (b + i) 0)
+numbers-from l {a} {b} e = λ j i. (from-at l a i ∙ ap (λ x. getD l (x + i) 0) e) j
+
 -- the edges from edge i on, read from where their pairs and their symbols begin
 module _ (l : List ℕ) (i : ℕ) {pairs symbols : ℕ} (p : pairs ≡ pairsPlace l + 2 * i) (s : symbols ≡ symbolsPlace l + i) where
-  pub edges-from : edgeIn (take (length l - pairs) (drop pairs l)) (take (length l - symbols) (drop symbols l)) ≡ (λ k. edgeNumber l (i + k))
+  pub edges-from : edgeIn (take (length l - pairs) (drop pairs l)) (take (length l - symbols) (drop symbols l))
+      ≡ (λ k. edgeNumber l (i + k))
   unfolding edgeNumber
   edges-from = λ j k. own.edge (first k j) (second k j) (third k j)
     where
@@ -98,6 +132,12 @@ module _ (l : List ℕ) (i : ℕ) {pairs symbols : ℕ} (p : pairs ≡ pairsPlac
   pub edges-there : (k : ℕ) → sectionLength l ≤ length l → i + k < allEdges l
       → (2 * k + 1 < length (take (length l - pairs) (drop pairs l))) × (k < length (take (length l - symbols) (drop symbols l)))
   edges-there k w h = let P = parts l in (omega (arith, from-length l pairs), omega (arith, from-length l symbols))
+
+  pub run-there : {count : ℕ} → sectionLength l ≤ length l → count ≤ mostWords → i + count ≤ allEdges l
+      → EdgesThere (take (length l - pairs) (drop pairs l)) (take (length l - symbols) (drop symbols l)) count
+  run-there w few h =
+      let P = parts l in
+      record { few = few; pairsIn = omega (arith, from-length l pairs); symbolsIn = omega (arith, from-length l symbols) }
 
 -- ---- end states
 
@@ -134,8 +174,8 @@ unfolding stepEdge
 number-of l t i h = let e : edgesBefore l t + (i - edgesBefore l t) ≡ i = omega arith in ap (edgeNumber l) e
 
 module _ {l : List ℕ} (s : Sound l) where
-  pub counted-of : Counted l (nOf l)
-  counted-of = record { nIs = refl; nTo = s .nTo; qTo = s .qTo; verticesTo = s .verticesTo; edgesTo = s .edgesTo }
+  pub counted-of : Counted l
+  counted-of = record { nTo = s .nTo; qTo = s .qTo; verticesTo = s .verticesTo; edgesTo = s .edgesTo }
 
   pub section-near : sectionLength l ≤ 30000
   section-near = counts-near counted-of

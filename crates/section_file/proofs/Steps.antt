@@ -2,35 +2,33 @@
 -- Each law takes what the calls on the way ensure, over plain variables. That edges are within bounds is checked first, since the arrays
 -- of marks rest on it.
 use mathlib.Core.Path.{_≡_, refl, sym, ap, _∙_}
-use mathlib.Core.Bool.{Bool, true, false, not, _||_}
+use mathlib.Core.Bool.{Bool, true, false, not}
 use mathlib.Core.List.{List, []}
-use Prim.Native.Nat.{ℕ, _+_, _-_, _*_, _≤_, _<_}
+use Prim.Native.Nat.{ℕ, suc, _+_, _-_, _*_, _≤_, _<_}
 use native.Mathlib.Omega.{arith}
-use native.Mathlib.Nat.{zero-add}
 use native.Mathlib.Numerals.{add-one}
 use lib.ListN.{length, getD, take, drop, drop-of-length-le}
 use lib.Dec.{ltb}
-use borrow.Author.Tests.{ltb-true, lt-ltb, leb-true, le-leb}
+use borrow.Author.Tests.{leb-true, le-leb}
 use Rattle.trellis.specs.Bounds.{mostWords, mostSymbols, leastQ, mostQ}
-use Rattle.trellis.specs.Lists.{sum, all, within}
+use Rattle.trellis.specs.Lists.{all, within}
 use Rattle.trellis.specs.Own as own
 use Rattle.trellis.specs.Layout.{qOf, nOf, vertexCountOf, edgeCountOf, edgesBefore, pairsPlace, symbolsPlace, sectionLength, edgeNumber}
-use Rattle.trellis.proofs.Lists.{sum-last}
-use Rattle.section_file.specs.Usable.{stepEdge, whole, sizesRight, edgesInside, countsRight, statesRight, edgesAscend}
-use Rattle.section_file.specs.Usable.{onward, inward, noTwinsReached, noTwinsLeading, usable}
-use Rattle.section_file.specs.inner.Steps.{inside, above, covered, noTwins, noTwinsAt, stepRight}
-use Rattle.section_file.specs.inner.Places.{Counted, StepAt, Vertices, Symbols}
-use Rattle.section_file.specs.inner.View.{viewOf}
-use Rattle.section_file.specs.inner.Answer.{partOf, edgeAt}
+use Rattle.trellis.proofs.Bools.{is-true, is-false, clash, left-true, right-true}
+use Rattle.trellis.proofs.Laid.{before-none, before-more, before-le}
+use Rattle.section_file.specs.Usable.{stepEdge, whole, sizesRight, countsRight, statesRight, usable}
+use Rattle.section_file.specs.inner.Steps.{inside, edgesRight, stepRight}
+use Rattle.section_file.specs.inner.View.{viewOf, Counted, Laid}
+use Rattle.section_file.specs.inner.Edges.{StepThere, EdgesSmall}
+use Rattle.section_file.specs.inner.Answer.{partOf, edgeIn, edgeAt}
 use Rattle.section_file.specs.declared.View.{View}
 use Rattle.section_file.specs.declared.Part.{Part}
 use Rattle.section_file.specs.declared.Part.the-variants.{Usable, Unusable}
-use Rattle.section_file.proofs.Tests.{given, given-of, same-if, holds-by, fails-by, to-high, all-at, all-of}
+use Rattle.section_file.proofs.Tests.{holds-by, fails-by, to-high, all-at, all-of}
 use Rattle.section_file.proofs.Tests.{Passed, passed-start, passed-next}
-use Rattle.trellis.proofs.Bools.{is-true, is-false, clash, left-true, right-true}
-use Rattle.section_file.proofs.Reading.{counted-edges, ascend-is}
-use Rattle.section_file.proofs.Seen.{parts, viewed, counts-near, from-is}
-use Rattle.section_file.proofs.Usable.{Step, Conditions, Inside, usable-says, usable-by, step-says, step-by, inside-says}
+use Rattle.section_file.proofs.Reading.{ascend-is}
+use Rattle.section_file.proofs.Seen.{viewed, from-is, edges-from, run-there}
+use Rattle.section_file.proofs.Usable.{Conditions, Inside, usable-says, usable-by, step-says, step-by, inside-says}
 use Rattle.section_file.proofs.Usable.{inside-is, onward-is, inward-is, reached-is, leading-is}
 
 -- ---- one step
@@ -50,170 +48,102 @@ edges-at l t {pairs} {symbols} p q = λ i k. own.edge (getD l (first k i) 0) (ge
     third : (k : ℕ) → pairs + 1 + 2 * k ≡ pairsPlace l + 2 * (edgesBefore l t + k) + 1
     third k = omega arith
 
-edges-read : {l : List ℕ} {n : ℕ} (t : ℕ) {x : ℕ} → Counted l n → x ≡ getD l (4 + n + t) 0 → x ≡ edgeCountOf l t
-unfolding edgeCountOf
-edges-read {l} t c e = e ∙ ap (λ m. getD l (4 + m + t) 0) (c .nIs)
-
 -- what is read of a step
-pub record StepRead (l : List ℕ) (n t pairs symbols count q froms tos : ℕ) : Type 0 where
-  pub at : StepAt l n t pairs symbols
+pub record StepRead (l : List ℕ) (at : View) (t before count q froms tos : ℕ) : Type 0 where
+  pub laid : Laid l at
+  pub inside : t < nOf l
+  pub beforeIs : before ≡ edgesBefore l t
   pub countIs : count ≡ edgeCountOf l t
-  pub few : count ≤ mostWords
   pub qIs : q ≡ qOf l
   pub fromsIs : froms ≡ vertexCountOf l t
   pub tosIs : tos ≡ vertexCountOf l (t + 1)
 
-pub step-read : {l : List ℕ} {n t pairs symbols x count q froms tos : ℕ} → StepAt l n t pairs symbols → x ≡ getD l (4 + n + t) 0
-    → (count ≡ x) × (count < 65536) → froms ≡ getD l (3 + t) 0 → tos ≡ getD l (3 + (t + 1)) 0 → q ≡ getD l 0 0
-    → StepRead l n t pairs symbols count q froms tos
-unfolding edgeCountOf vertexCountOf
-step-read {l} {n} {t} {pairs} {symbols} {x} s e g f h q = record {
-  at = s;
-  countIs = g .0 ∙ edges-read t (s .counted) e;
-  few = counted-edges t (s .counted) (s .inside) e g;
-  qIs = q;
-  fromsIs = f;
-  tosIs = h;
+count-read : {l : List ℕ} {at : View} (t : ℕ) {x v : ℕ} → Laid l at → x ≡ getD l (4 + at .n + t) 0 → (v ≡ x) × (v < 65536)
+    → v ≡ edgeCountOf l t
+unfolding edgeCountOf
+count-read {l} t L e g = g .0 ∙ e ∙ ap (λ m. getD l (4 + m + t) 0) (viewed (L .is) .n-is)
+
+pub step-read : {l : List ℕ} {at : View} {t before x count y froms z tos q : ℕ} → Laid l at × (t < at .n) × (before ≡ edgesBefore l t)
+    → x ≡ getD l (4 + at .n + t) 0 → (count ≡ x) × (count < 65536) → y ≡ getD l (3 + t) 0 → (froms ≡ y) × (froms < 65536)
+    → z ≡ getD l (3 + (t + 1)) 0 → (tos ≡ z) × (tos < 65536) → (q ≡ at .q) × (q < 65536) → StepRead l at t before count q froms tos
+unfolding vertexCountOf
+step-read {t = t} p x-is count-is y-is froms-is z-is tos-is q-is = let at-is = viewed (p .0 .is) in record {
+  laid = p .0;
+  inside = omega (arith, p .1);
+  beforeIs = p .2;
+  countIs = count-read t (p .0) x-is count-is;
+  qIs = q-is .0 ∙ at-is .q-is;
+  fromsIs = froms-is .0 ∙ y-is;
+  tosIs = tos-is .0 ∙ z-is;
 }
 
-module _ {l : List ℕ} {n t pairs symbols count q froms tos : ℕ} (r : StepRead l n t pairs symbols count q froms tos) where
-  pub froms-few : froms ≤ mostWords
-  froms-few = omega (arith, r .fromsIs, r .at .counted .verticesTo t (omega (arith, r .at .inside)))
+-- the code's tests of a step's edges are what usable asks of the step
+edges-right : (l : List ℕ) (t : ℕ)
+    → edgesRight (stepEdge l t) (edgeCountOf l t) (qOf l) (vertexCountOf l t) (vertexCountOf l (t + 1)) (ltb (t + 1) (nOf l)) (ltb 0 t)
+    ≡ stepRight l t
+unfolding edgesRight stepRight
+edges-right l t = rw (inside-is l t, ascend-is l t, onward-is l t, inward-is l t, reached-is l t, leading-is l t)
 
-  pub tos-few : tos ≤ mostWords
-  tos-few = omega (arith, r .tosIs, r .at .counted .verticesTo (t + 1) (omega (arith, r .at .inside)))
+module _ {l : List ℕ} {at : View} {t before count q froms tos : ℕ} (r : StepRead l at t before count q froms tos) where
+  pairs-are : at .pairs + 2 * before ≡ pairsPlace l + 2 * edgesBefore l t
+  pairs-are = let at-is = viewed (r .laid .is) in omega (arith, r .beforeIs)
 
-  edges-are : edgeAt l pairs symbols ≡ stepEdge l t
-  edges-are = edges-at l t (r .at .pairsIs) (r .at .symbolsIs)
+  symbols-are : at .symbols + before ≡ symbolsPlace l + edgesBefore l t
+  symbols-are = let at-is = viewed (r .laid .is) in omega (arith, r .beforeIs)
 
-  -- what the code tests is what usable asks
-  inside-test : all (inside (edgeAt l pairs symbols) q froms tos) count ≡ edgesInside l t
-  inside-test = simp (edges-are, r .countIs, r .qIs, r .fromsIs, r .tosIs) (sym (inside-is l t))
+  pub step-there : StepThere (take (length l - (at .pairs + 2 * before)) (drop (at .pairs + 2 * before) l))
+      (take (length l - (at .symbols + before)) (drop (at .symbols + before) l)) count q froms tos
+  step-there =
+      let C = r .laid .counted in
+      let i = r .inside in
+      let m = before-more l t in
+      let b = before-le l (suc t) (nOf l) i in
+      record {
+        there = run-there l (edgesBefore l t) pairs-are symbols-are (r .laid .whole) (omega (arith, r .countIs, C .edgesTo t i))
+            (omega (arith, r .countIs));
+        qTo = omega (arith, r .qIs, C .qTo);
+        fromsTo = omega (arith, r .fromsIs, C .verticesTo t (omega arith));
+        tosTo = omega (arith, r .tosIs, C .verticesTo (t + 1) (omega arith));
+      }
 
-  above-test : all (above (edgeAt l pairs symbols)) count ≡ edgesAscend l t
-  above-test = simp (edges-are, r .countIs) (ascend-is l t)
+  pub step-is : {b : Bool}
+      → b ≡ edgesRight (edgeIn (take (length l - (at .pairs + 2 * before)) (drop (at .pairs + 2 * before) l))
+      (take (length l - (at .symbols + before)) (drop (at .symbols + before) l))) count q froms tos (ltb (t + 1) (at .n)) (ltb 0 t)
+      → b ≡ stepRight l t
+  unfolding stepEdge
+  step-is {b} e =
+      let n-is = viewed (r .laid .is) .n-is in
+      let d = e ∙ ap (λ f. edgesRight f count q froms tos (ltb (t + 1) (at .n)) (ltb 0 t))
+      (edges-from l (edgesBefore l t) pairs-are symbols-are) in
+      d ∙ rw (r .countIs, r .qIs, r .fromsIs, r .tosIs, n-is) (edges-right l t)
 
-  onward-test : {v : ℕ} → (v ≡ froms) × (v < 65536) → covered (λ k. getD l (pairs + 2 * k) 0) count v ≡ onward l t
-  onward-test {v} h =
-      ap (λ (e : ℕ → own.Edge). covered (λ k. e k .from) count v) edges-are ∙ simp (h .0, r .fromsIs, r .countIs, onward-is l t)
-
-  inward-test : {v : ℕ} → (v ≡ tos) × (v < 65536) → covered (λ k. getD l (pairs + 1 + 2 * k) 0) count v ≡ inward l t
-  inward-test {v} h =
-      ap (λ (e : ℕ → own.Edge). covered (λ k. e k .to) count v) edges-are ∙ simp (h .0, r .tosIs, r .countIs, inward-is l t)
-
-  abbrev forward : Bool
-  forward = not (ltb (t + 1) n) || noTwinsAt l pairs symbols (pairs + 1) count
-
-  abbrev backward : Bool
-  backward = not (ltb 0 t) || noTwinsAt l (pairs + 1) symbols pairs count
-
-  forward-test : forward ≡ (not (ltb (t + 1) (nOf l)) || noTwinsReached l t)
-  forward-test =
-      ap (λ (e : ℕ → own.Edge). not (ltb (t + 1) n) || noTwins (λ k. e k .from) (λ k. e k .symbol) (λ k. e k .to) count) edges-are
-      ∙ simp (r .at .counted .nIs, r .countIs, reached-is l t)
-
-  backward-test : backward ≡ (not (ltb 0 t) || noTwinsLeading l t)
-  backward-test =
-      ap (λ (e : ℕ → own.Edge). not (ltb 0 t) || noTwins (λ k. e k .to) (λ k. e k .symbol) (λ k. e k .from) count) edges-are
-      ∙ simp (r .countIs, leading-is l t)
-
-  -- edges within bounds are what the arrays of marks rest on
-  module _ {a : Bool} (a-is : a ≡ all (inside (edgeAt l pairs symbols) q froms tos) count) (a-yes : not a ≡ false) where
-    inside-at : (k : ℕ) → k < count → Inside (edgeAt l pairs symbols k) q froms tos
-    inside-at k h = inside-says (edgeAt l pairs symbols) q froms tos k (all-at _ count k (holds-by a-is a-yes) h)
-
-    pub from-vertices : Vertices l pairs count
-    from-vertices = record {
-      near = omega (arith, r .at .pairsTo);
-      few = r .few;
-      small = λ k h. omega (arith, froms-few, inside-at k h .fromBelow);
-    }
-
-    pub to-vertices : Vertices l (pairs + 1) count
-    to-vertices = record {
-      near = omega (arith, r .at .pairsTo);
-      few = r .few;
-      small = λ k h. omega (arith, tos-few, inside-at k h .toBelow);
-    }
-
-    pub the-symbols : Symbols l symbols count
-    the-symbols = record {
-      near = omega (arith, r .at .symbolsTo);
-      small = λ k h. omega (arith, r .at .counted .qTo, r .qIs, inside-at k h .symbolBelow);
-    }
-
-  -- a condition that fails
-  wrong : (Step l t → ⊥) → false ≡ stepRight l t
-  wrong f = sym (is-false (stepRight l t) (λ x. f (step-says l t (is-true (stepRight l t) x))))
-
-  pub inside-wrong : {a : Bool} → a ≡ all (inside (edgeAt l pairs symbols) q froms tos) count → not a ≡ true → false ≡ stepRight l t
-  inside-wrong e x = wrong (λ s. fails-by (e ∙ inside-test) x (s .inside))
-
-  pub above-wrong : {a : Bool} → a ≡ all (above (edgeAt l pairs symbols)) count → not a ≡ true → false ≡ stepRight l t
-  above-wrong e x = wrong (λ s. fails-by (e ∙ above-test) x (s .ascend))
-
-  pub onward-wrong : {v : ℕ} {a : Bool} → (v ≡ froms) × (v < 65536) → a ≡ covered (λ k. getD l (pairs + 2 * k) 0) count v → not a ≡ true
-      → false ≡ stepRight l t
-  onward-wrong h e x = wrong (λ s. fails-by (e ∙ onward-test h) x (s .outward))
-
-  pub inward-wrong : {v : ℕ} {a : Bool} → (v ≡ tos) × (v < 65536) → a ≡ covered (λ k. getD l (pairs + 1 + 2 * k) 0) count v → not a ≡ true
-      → false ≡ stepRight l t
-  inward-wrong h e x = wrong (λ s. fails-by (e ∙ inward-test h) x (s .entered))
-
-  pub forward-wrong : {a : Bool} → a ≡ forward → not a ≡ true → false ≡ stepRight l t
-  forward-wrong e x =
-      wrong (λ s. fails-by (e ∙ forward-test) x (given-of (ltb (t + 1) (nOf l)) _ (λ i. s .reached (ltb-true (t + 1) (nOf l) i))))
-
-  -- none fails but, it may be, the last
-  pub by-backward : {v w : ℕ} {a b d m u z : Bool} → a ≡ all (inside (edgeAt l pairs symbols) q froms tos) count → not a ≡ false
-      → b ≡ all (above (edgeAt l pairs symbols)) count → not b ≡ false
-      → (v ≡ froms) × (v < 65536) → d ≡ covered (λ k. getD l (pairs + 2 * k) 0) count v → not d ≡ false
-      → (w ≡ tos) × (w < 65536) → m ≡ covered (λ k. getD l (pairs + 1 + 2 * k) 0) count w → not m ≡ false
-      → u ≡ forward → not u ≡ false → z ≡ backward → z ≡ stepRight l t
-  by-backward {z = z} a-is a-yes b-is b-yes v-is d-is d-yes w-is m-is m-yes u-is u-yes z-is = same-if
-      (λ y. step-by l t (record {
-        inside = holds-by (a-is ∙ inside-test) a-yes;
-        ascend = holds-by (b-is ∙ above-test) b-yes;
-        outward = holds-by (d-is ∙ onward-test v-is) d-yes;
-        entered = holds-by (m-is ∙ inward-test w-is) m-yes;
-        reached = λ i. given (ltb (t + 1) (nOf l)) _ (holds-by (u-is ∙ forward-test) u-yes) (lt-ltb (t + 1) (nOf l) i);
-        leading = λ i. given (ltb 0 t) _ (sym (z-is ∙ backward-test) ∙ y) (lt-ltb 0 t i);
-      }))
-      (λ y. z-is ∙ backward-test ∙ given-of (ltb 0 t) _ (λ i. step-says l t y .leading (ltb-true 0 t i)))
+-- edges within bounds are what the arrays of marks rest on
+pub small-edges : {pairs symbols : List ℕ} {count q froms tos : ℕ} {a : Bool} → StepThere pairs symbols count q froms tos
+    → a ≡ all (inside (edgeIn pairs symbols) q froms tos) count → not a ≡ false → EdgesSmall pairs symbols count
+small-edges {pairs} {symbols} {count} {q} {froms} {tos} s a-is a-yes = record {
+  there = s .there;
+  fromSmall = λ k h. omega (arith, s .fromsTo, at k h .fromBelow);
+  symbolSmall = λ k h. omega (arith, s .qTo, at k h .symbolBelow);
+  toSmall = λ k h. omega (arith, s .tosTo, at k h .toBelow);
+}
+  where
+    at : (k : ℕ) → k < count → Inside (edgeIn pairs symbols k) q froms tos
+    at k h = inside-says (edgeIn pairs symbols) q froms tos k (all-at _ count k (holds-by a-is a-yes) h)
 
 -- ---- all steps
 
 pub record InSteps (l : List ℕ) (n before t : ℕ) : Type 0 where
   pub passed : Passed (stepRight l) n t
   pub beforeIs : before ≡ edgesBefore l t
-  pub small : before ≤ 65535 * t
 
 pub steps-start : (l : List ℕ) (n : ℕ) → InSteps l n 0 0
-unfolding edgesBefore sum
-steps-start l n = record { passed = passed-start; beforeIs = refl; small = omega arith }
+steps-start l n = record { passed = passed-start; beforeIs = sym (before-none l) }
 
-pub step-at : {l : List ℕ} {n before t pairs symbols : ℕ} → Counted l n → pairs ≡ pairsPlace l → symbols ≡ symbolsPlace l
-    → InSteps l n before t → t < n → StepAt l n t (pairs + 2 * before) (symbols + before)
-step-at {l} {n} {before} {t} c p q s i = let P = parts l in let N = counts-near c in record {
-  counted = c;
-  inside = i;
-  pairsIs = omega (arith, s .beforeIs);
-  symbolsIs = omega (arith, s .beforeIs);
-  pairsTo = omega (arith, s .small, c .nTo);
-  symbolsTo = omega (arith, s .small, c .nTo);
-}
-
-pub steps-next : {l : List ℕ} {n before t x v : ℕ} {b : Bool} → Counted l n → InSteps l n before t → t < n → b ≡ stepRight l t
-    → not b ≡ false → x ≡ getD l (4 + n + t) 0 → (v ≡ x) × (v < 65536) → InSteps l n (before + v) (t + 1)
-unfolding edgesBefore
-steps-next {l} {n} {before} {t} {x} {v} c s h e f g k = record {
+pub steps-next : {l : List ℕ} {at : View} {before t x v : ℕ} {b : Bool} → Laid l at → InSteps l (at .n) before t → t < at .n
+    → b ≡ stepRight l t → not b ≡ false → x ≡ getD l (4 + at .n + t) 0 → (v ≡ x) × (v < 65536) → InSteps l (at .n) (before + v) (t + 1)
+steps-next {l} {t = t} L s h e f g k = record {
   passed = passed-next (s .passed) h e f;
-  beforeIs =
-      let d : v ≡ edgeCountOf l t = k .0 ∙ edges-read t c g in
-      let r : sum (edgeCountOf l) 0 (t + 1) ≡ sum (edgeCountOf l) 0 t + edgeCountOf l t =
-      rw (add-one t) (sum-last (edgeCountOf l) 0 t ∙ rw (zero-add t)) in
-      omega (arith, s .beforeIs);
-  small = omega (arith, s .small, k .1);
+  beforeIs = rw (add-one t) (omega (arith, s .beforeIs, before-more l t, count-read t L g k));
 }
 
 -- ---- the whole section
@@ -224,15 +154,14 @@ n-few l e f g =
     omega (arith, to-high 1 mostSymbols (nOf l) (left-true _ _ (right-true (within leastQ mostQ (qOf l)) _ (holds-by e f))))
 
 module _ (l : List ℕ) where
-  pub counted : {n : ℕ} {a b : Bool} → a ≡ sizesRight l → not a ≡ false → n ≡ nOf l → b ≡ countsRight l → not b ≡ false → Counted l n
+  pub counted : {a b : Bool} → a ≡ sizesRight l → not a ≡ false → b ≡ countsRight l → not b ≡ false → Counted l
   unfolding sizesRight countsRight
-  counted a-is a-yes n-is b-is b-yes = record {
-    nIs = n-is;
-    nTo = n-few l a-is a-yes n-is;
+  counted a-is a-yes b-is b-yes = record {
+    nTo = n-few l a-is a-yes refl;
     qTo = to-high leastQ mostQ (qOf l) (left-true _ _ (holds-by a-is a-yes));
     verticesTo = λ t h. to-high 1 mostWords (vertexCountOf l t) (all-at _ (nOf l + 1) t (left-true _ _ counts) (omega arith));
     edgesTo = λ t h. to-high 1 mostWords (edgeCountOf l t)
-        (all-at _ (nOf l) t (right-true (all (λ t. within 1 mostWords (vertexCountOf l t)) (nOf l + 1)) _ counts) (omega arith));
+        (all-at _ (nOf l) t (right-true (all (λ t. within 1 mostWords (vertexCountOf l t)) (nOf l + 1)) _ counts) h);
   }
     where
       counts : countsRight l ≡ true
@@ -252,21 +181,27 @@ module _ (l : List ℕ) where
   pub part-states : {a : Bool} → a ≡ statesRight l → not a ≡ true → Unusable ≡ partOf l
   part-states e t = unusable (λ c. fails-by e t (c .states))
 
-  pub part-steps : {n : ℕ} {a : Bool} → n ≡ nOf l → a ≡ all (stepRight l) n → not a ≡ true → Unusable ≡ partOf l
-  part-steps n-is e t = unusable (λ c.
-      fails-by (e ∙ ap (all (stepRight l)) n-is) t (all-of (stepRight l) (nOf l) (λ t h. step-by l t (c .steps t h))))
-
   module _ {at : View} (at-is : at ≡ viewOf l) where
     pub part-cut : length l < at .end → Unusable ≡ partOf l
     unfolding whole
     part-cut h = unusable (λ c. let e = leb-true (sectionLength l) (length l) (c .is-whole) in omega (arith, viewed at-is .end-is))
 
+    pub laid : Counted l → at .end ≤ length l → Laid l at
+    laid c h = record { counted = c; whole = omega (arith, viewed at-is .end-is); is = at-is }
+
+    all-steps : {a : Bool} → a ≡ all (stepRight l) (at .n) → a ≡ all (stepRight l) (nOf l)
+    all-steps e = e ∙ ap (all (stepRight l)) (viewed at-is .n-is)
+
+    pub part-steps : {a : Bool} → a ≡ all (stepRight l) (at .n) → not a ≡ true → Unusable ≡ partOf l
+    part-steps e t =
+        unusable (λ c. fails-by (all-steps e) t (all-of (stepRight l) (nOf l) (λ t h. step-by l t (c .steps t h))))
+
     -- none fails
-    pub part-usable : {n : ℕ} {a b d m : Bool} → at .end ≤ length l → a ≡ sizesRight l → not a ≡ false → b ≡ countsRight l → not b ≡ false
-        → d ≡ statesRight l → not d ≡ false → n ≡ nOf l → m ≡ all (stepRight l) n → not m ≡ false → Usable at ≡ partOf l
+    pub part-usable : {a b d m : Bool} → at .end ≤ length l → a ≡ sizesRight l → not a ≡ false → b ≡ countsRight l → not b ≡ false
+        → d ≡ statesRight l → not d ≡ false → m ≡ all (stepRight l) (at .n) → not m ≡ false → Usable at ≡ partOf l
     unfolding partOf whole
-    part-usable h e a-yes f b-yes g d-yes n-is i m-yes =
-        let steps : all (stepRight l) (nOf l) ≡ true = holds-by (i ∙ ap (all (stepRight l)) n-is) m-yes in
+    part-usable h e a-yes f b-yes g d-yes i m-yes =
+        let steps : all (stepRight l) (nOf l) ≡ true = holds-by (all-steps i) m-yes in
         let u : usable l ≡ true = usable-by l (record {
           is-whole = le-leb (sectionLength l) (length l) (omega (arith, viewed at-is .end-is));
           sizes = holds-by e a-yes;

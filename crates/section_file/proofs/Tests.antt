@@ -36,6 +36,13 @@ holds-by {a} e t = sym e ∙ not-false a t
 pub fails-by : {a b : Bool} → a ≡ b → not a ≡ true → b ≡ true → ⊥
 fails-by {a} e t q = clash (sym q ∙ sym e ∙ not-true a t)
 
+-- conditions one behind another: the first that fails decides
+pub and-fails : {a b : Bool} (d : Bool) → a ≡ b → not a ≡ true → false ≡ (b && d)
+and-fails {a} d e t = let q = sym e ∙ not-true a t in rw q
+
+pub and-rest : {a b d r : Bool} → a ≡ b → not a ≡ false → r ≡ d → r ≡ (b && d)
+and-rest {a} e t f = let q = sym e ∙ not-false a t in f ∙ rw q
+
 -- ---- a number within bounds
 
 pub from-low : (low high x : ℕ) → within low high x ≡ true → low ≤ x

@@ -5,13 +5,13 @@ ghost use Prim.Native.Nat.{_+_, _*_, _<_, _≤_};
 ghost use lib.ListN.{length, getD, drop};
 ghost use Rattle.trellis.specs.Bounds.{mostWords, mostSymbols};
 ghost use Rattle.trellis.specs.Own.{edgeLess};
-ghost use Rattle.trellis.specs.Layout.{nOf, pairsPlace, symbolsPlace};
+ghost use Rattle.trellis.specs.Layout.{nOf, edgesBefore};
 ghost use Rattle.section_file.specs.Usable.{sizesRight, countsRight};
-ghost use Rattle.section_file.specs.inner.Steps.{inside, above, stepRight};
+ghost use Rattle.section_file.specs.inner.Steps.{inside, above, edgesRight, stepRight};
 ghost use Rattle.trellis.specs.Lists.{all, within};
-ghost use Rattle.section_file.specs.inner.Places.{Counted, StepAt};
-ghost use Rattle.section_file.specs.inner.View.{viewOf};
-ghost use Rattle.section_file.specs.inner.Answer.{partOf, edgeIn, heldEdge, edgeAt, heldNumbers, meantNumbers};
+ghost use Rattle.section_file.specs.inner.Edges.{EdgesThere, StepThere};
+ghost use Rattle.section_file.specs.inner.View.{Counted, viewOf, Laid};
+ghost use Rattle.section_file.specs.inner.Answer.{partOf, edgeIn, heldEdge, meantEdge};
 
 mod states;
 mod twins;
@@ -45,12 +45,6 @@ pub struct Edge {
     pub from: usize,
     pub symbol: usize,
     pub to: usize,
-}
-
-struct Numbers {
-    from: u16,
-    symbol: u16,
-    to: u16,
 }
 
 // A section's q and n, the places where its root states, its goal states, its pairs (from, to) and its symbols begin, how many edges it
@@ -111,7 +105,7 @@ fn counts_right(l: &[u16], n: usize) -> bool
 
 // Each part stands behind the one before it.
 fn view_of(l: &[u16], n: usize) -> View
-    requires { ⌜ Counted (now l) n ⌝ }
+    requires { ⌜ Counted (now l) × (n ≡ nOf (now l)) ⌝ }
     ensures { λ r. ⌜ r ≡ viewOf (now (l .entry)) ⌝ }
 {
     let q = number(l, 0);
@@ -145,31 +139,11 @@ pub fn edge_at(pairs: &[u16], symbols: &[u16], k: usize) -> Edge
     }
 }
 
-// Edge k of those whose pairs and symbols begin at these places.
-fn numbers_at(l: &[u16], pairs: usize, symbols: usize, k: usize) -> Numbers
-    requires { ⌜ (pairs ≤ 4000000) × (symbols ≤ 4000000) × (k ≤ mostWords) ⌝ }
-    ensures { λ r. ⌜ r ≡ heldNumbers (edgeAt (now (l .entry)) pairs symbols k) ⌝ }
+fn is_inside(pairs: &[u16], symbols: &[u16], k: usize, q: usize, froms: usize, tos: usize) -> bool
+    requires { ⌜ (2 * k + 1 < length (now pairs)) × (k < length (now symbols)) ⌝ }
+    ensures { λ r. ⌜ r ≡ inside (edgeIn (now (pairs .entry)) (now (symbols .entry))) q froms tos k ⌝ }
 {
-    Numbers {
-        from: number(l, pairs + 2 * k),
-        symbol: number(l, symbols + k),
-        to: number(l, pairs + 1 + 2 * k),
-    }
-}
-
-fn is_inside(
-    l: &[u16],
-    pairs: usize,
-    symbols: usize,
-    k: usize,
-    q: u16,
-    froms: u16,
-    tos: u16,
-) -> bool
-    requires { ⌜ (pairs ≤ 4000000) × (symbols ≤ 4000000) × (k ≤ mostWords) ⌝ }
-    ensures { λ r. ⌜ r ≡ inside (edgeAt (now (l .entry)) pairs symbols) q froms tos k ⌝ }
-{
-    let e = numbers_at(l, pairs, symbols, k);
+    let e = edge_at(pairs, symbols, k);
     if e.from >= froms {
         return false;
     }
@@ -180,20 +154,19 @@ fn is_inside(
 }
 
 fn all_inside(
-    l: &[u16],
-    pairs: usize,
-    symbols: usize,
+    pairs: &[u16],
+    symbols: &[u16],
     count: usize,
-    q: u16,
-    froms: u16,
-    tos: u16,
+    q: usize,
+    froms: usize,
+    tos: usize,
 ) -> bool
-    requires { ⌜ (pairs ≤ 4000000) × (symbols ≤ 4000000) × (count ≤ mostWords) ⌝ }
-    ensures { λ r. ⌜ r ≡ all (inside (edgeAt (now (l .entry)) pairs symbols) q froms tos) count ⌝ }
+    requires { ⌜ EdgesThere (now pairs) (now symbols) count ⌝ }
+    ensures { λ r. ⌜ r ≡ all (inside (edgeIn (now (pairs .entry)) (now (symbols .entry))) q froms tos) count ⌝ }
 {
     let mut k: usize = 0;
     while k < count {
-        if !is_inside(l, pairs, symbols, k, q, froms, tos) {
+        if !is_inside(pairs, symbols, k, q, froms, tos) {
             return false;
         }
         k += 1;
@@ -201,8 +174,8 @@ fn all_inside(
     true
 }
 
-fn is_less(e: Numbers, f: Numbers) -> bool
-    ensures { λ r. ⌜ r ≡ edgeLess (meantNumbers e) (meantNumbers f) ⌝ }
+fn is_less(e: Edge, f: Edge) -> bool
+    ensures { λ r. ⌜ r ≡ edgeLess (meantEdge e) (meantEdge f) ⌝ }
 {
     if e.from < f.from {
         return true;
@@ -220,26 +193,23 @@ fn is_less(e: Numbers, f: Numbers) -> bool
 }
 
 // Whether edge k is above the edge before it.
-fn is_above(l: &[u16], pairs: usize, symbols: usize, k: usize) -> bool
-    requires { ⌜ (pairs ≤ 4000000) × (symbols ≤ 4000000) × (k ≤ mostWords) ⌝ }
-    ensures { λ r. ⌜ r ≡ above (edgeAt (now (l .entry)) pairs symbols) k ⌝ }
+fn is_above(pairs: &[u16], symbols: &[u16], k: usize) -> bool
+    requires { ⌜ (2 * k + 1 < length (now pairs)) × (k < length (now symbols)) ⌝ }
+    ensures { λ r. ⌜ r ≡ above (edgeIn (now (pairs .entry)) (now (symbols .entry))) k ⌝ }
 {
     if k == 0 {
         return true;
     }
-    is_less(
-        numbers_at(l, pairs, symbols, k - 1),
-        numbers_at(l, pairs, symbols, k),
-    )
+    is_less(edge_at(pairs, symbols, k - 1), edge_at(pairs, symbols, k))
 }
 
-fn all_above(l: &[u16], pairs: usize, symbols: usize, count: usize) -> bool
-    requires { ⌜ (pairs ≤ 4000000) × (symbols ≤ 4000000) × (count ≤ mostWords) ⌝ }
-    ensures { λ r. ⌜ r ≡ all (above (edgeAt (now (l .entry)) pairs symbols)) count ⌝ }
+fn all_above(pairs: &[u16], symbols: &[u16], count: usize) -> bool
+    requires { ⌜ EdgesThere (now pairs) (now symbols) count ⌝ }
+    ensures { λ r. ⌜ r ≡ all (above (edgeIn (now (pairs .entry)) (now (symbols .entry)))) count ⌝ }
 {
     let mut k: usize = 0;
     while k < count {
-        if !is_above(l, pairs, symbols, k) {
+        if !is_above(pairs, symbols, k) {
             return false;
         }
         k += 1;
@@ -247,42 +217,71 @@ fn all_above(l: &[u16], pairs: usize, symbols: usize, count: usize) -> bool
     true
 }
 
-// One step, whose edges' pairs and symbols begin at these places. That edges are within bounds is checked first: their vertices and symbols
-// are places in the arrays of marks.
-fn step_right(l: &[u16], n: usize, t: usize, pairs: usize, symbols: usize) -> bool
-    requires { ⌜ StepAt (now l) n t pairs symbols ⌝ }
-    ensures { λ r. ⌜ r ≡ stepRight (now (l .entry)) t ⌝ }
+// The edges of one step. That they are within bounds is checked first: their vertices and symbols are places in the arrays of marks.
+// Twins are looked for at the depth that the step reaches and at the depth that it leaves, where these are inner ones.
+fn edges_right(
+    pairs: &[u16],
+    symbols: &[u16],
+    count: usize,
+    q: usize,
+    froms: usize,
+    tos: usize,
+    reached: bool,
+    left: bool,
+) -> bool
+    requires { ⌜ StepThere (now pairs) (now symbols) count q froms tos ⌝ }
+    ensures { λ r. ⌜ r ≡ edgesRight (edgeIn (now (pairs .entry)) (now (symbols .entry))) count q froms tos reached left ⌝ }
 {
-    let count = wide(number(l, 4 + n + t));
-    let froms = number(l, 3 + t);
-    let tos = number(l, 3 + (t + 1));
-    if !all_inside(l, pairs, symbols, count, number(l, 0), froms, tos) {
+    if !all_inside(pairs, symbols, count, q, froms, tos) {
         return false;
     }
-    if !all_above(l, pairs, symbols, count) {
+    if !all_above(pairs, symbols, count) {
         return false;
     }
-    if !covers(l, pairs, count, wide(froms)) {
+    if !covers(pairs, symbols, count, false, froms) {
         return false;
     }
-    if !covers(l, pairs + 1, count, wide(tos)) {
+    if !covers(pairs, symbols, count, true, tos) {
         return false;
     }
-    if !twins_right(t + 1 < n, l, pairs, symbols, pairs + 1, count) {
+    if !twins_right(reached, pairs, symbols, count, false) {
         return false;
     }
-    twins_right(0 < t, l, pairs + 1, symbols, pairs, count)
+    twins_right(left, pairs, symbols, count, true)
 }
 
-// All steps; the edges of a step stand behind those of the steps before it.
-fn steps_right(l: &[u16], n: usize, pairs: usize, symbols: usize) -> bool
-    requires { ⌜ Counted (now l) n × (pairs ≡ pairsPlace (now l)) × (symbols ≡ symbolsPlace (now l)) ⌝ }
-    ensures { λ r. ⌜ r ≡ all (stepRight (now (l .entry))) n ⌝ }
+// One step, whose edges stand behind those of the steps before it.
+fn step_right(l: &[u16], at: View, t: usize, before: usize) -> bool
+    requires { ⌜ Laid (now l) at × (t < at .n) × (before ≡ edgesBefore (now l) t) ⌝ }
+    ensures { λ r. ⌜ r ≡ stepRight (now (l .entry)) t ⌝ }
 {
+    let n = at.n;
+    let count = wide(number(l, 4 + n + t));
+    let froms = wide(number(l, 3 + t));
+    let tos = wide(number(l, 3 + (t + 1)));
+    let pairs = at.pairs + 2 * before;
+    let symbols = at.symbols + before;
+    edges_right(
+        &l[pairs..],
+        &l[symbols..],
+        count,
+        wide(at.q),
+        froms,
+        tos,
+        t + 1 < n,
+        0 < t,
+    )
+}
+
+fn steps_right(l: &[u16], at: View) -> bool
+    requires { ⌜ Laid (now l) at ⌝ }
+    ensures { λ r. ⌜ r ≡ all (stepRight (now (l .entry))) (at .n) ⌝ }
+{
+    let n = at.n;
     let mut before: usize = 0;
     let mut t: usize = 0;
     while t < n {
-        if !step_right(l, n, t, pairs + 2 * before, symbols + before) {
+        if !step_right(l, at, t, before) {
             return false;
         }
         before += wide(number(l, 4 + n + t));
@@ -306,10 +305,10 @@ fn front_part(l: &[u16]) -> Part
     if l.len() < at.end {
         return Part::Unusable;
     }
-    if !states_right(l, n, at.roots, at.goals) {
+    if !states_right(l, at) {
         return Part::Unusable;
     }
-    if !steps_right(l, n, at.pairs, at.symbols) {
+    if !steps_right(l, at) {
         return Part::Unusable;
     }
     Part::Usable(at)

@@ -2,17 +2,17 @@
 -- The measure is what is left of them.
 use Prim.Native.Nat.{_-_}
 use Rattle.section_file.specs.inner.Steps.{above}
-use Rattle.section_file.specs.inner.Answer.{edgeAt}
+use Rattle.section_file.specs.inner.Answer.{edgeIn}
 use Rattle.section_file.proofs.Tests.{Passed, passed-start, passed-next, passed-fails, passed-all}
 use borrow.Author.Needs.{needs}
 use Rattle.section_file.proofs.all_above.Statement.{statement}
 use Rattle.section_file.proofs.all_above.Tie as tie
 
 abbrev Inv-loop : tie.InvT-loop
-Inv-loop l pairs symbols count k₀ k = Passed (above (edgeAt l pairs symbols)) count k
+Inv-loop pairs symbols count k₀ k = Passed (above (edgeIn pairs symbols)) count k
 
 abbrev μ-loop : tie.MeasureT-loop
-μ-loop l pairs symbols count k₀ k = count - k
+μ-loop pairs symbols count k₀ k = count - k
 
 loop-holds : tie.Need-loop-holds Inv-loop μ-loop
 loop-holds c = passed-start

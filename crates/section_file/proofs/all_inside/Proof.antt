@@ -2,17 +2,17 @@
 -- The measure is what is left of them.
 use Prim.Native.Nat.{_-_}
 use Rattle.section_file.specs.inner.Steps.{inside}
-use Rattle.section_file.specs.inner.Answer.{edgeAt}
+use Rattle.section_file.specs.inner.Answer.{edgeIn}
 use Rattle.section_file.proofs.Tests.{Passed, passed-start, passed-next, passed-fails, passed-all}
 use borrow.Author.Needs.{needs}
 use Rattle.section_file.proofs.all_inside.Statement.{statement}
 use Rattle.section_file.proofs.all_inside.Tie as tie
 
 abbrev Inv-loop : tie.InvT-loop
-Inv-loop l pairs symbols count q froms tos k₀ k = Passed (inside (edgeAt l pairs symbols) q froms tos) count k
+Inv-loop pairs symbols count q froms tos k₀ k = Passed (inside (edgeIn pairs symbols) q froms tos) count k
 
 abbrev μ-loop : tie.MeasureT-loop
-μ-loop l pairs symbols count q froms tos k₀ k = count - k
+μ-loop pairs symbols count q froms tos k₀ k = count - k
 
 loop-holds : tie.Need-loop-holds Inv-loop μ-loop
 loop-holds c = passed-start

@@ -3,9 +3,8 @@ use mathlib.Core.Path.{_≡_, _∙_}
 use Prim.Native.Nat.{_≤_}
 use Rattle.trellis.specs.Bounds.{mostSymbols}
 use Rattle.trellis.specs.Layout.{nOf}
-use Rattle.section_file.specs.inner.Places.{Counted}
-use Rattle.section_file.proofs.Seen.{viewed}
-use Rattle.section_file.proofs.Steps.{n-few, counted, part-sizes, part-counts, part-cut, part-states, part-steps, part-usable}
+use Rattle.section_file.specs.inner.View.{Counted}
+use Rattle.section_file.proofs.Steps.{n-few, counted, laid, part-sizes, part-counts, part-cut, part-states, part-steps, part-usable}
 use borrow.Author.Needs.{needs}
 use Rattle.section_file.proofs.front_part.Statement.{statement}
 use Rattle.section_file.proofs.front_part.Tie as tie
@@ -18,11 +17,10 @@ n-small : (w : tie.After-wide) → w .wide .result ≤ mostSymbols
 n-small w = let e = w .before .before in n-few _ (e .before .sizes-right .ensures) (e .if1 .left) (n-is w)
 
 -- what the sizes and the counts say, once both are right
-counts : (e : tie.Else2) → let w = e .before .before in Counted (w .before .before .before .before .before .args .l .now) (w .wide .result)
+counts : (e : tie.Else2) → Counted (e .before .before .before .before .before .before .before .args .l .now)
 counts e =
-    let w = e .before .before in
-    let e1 = w .before .before in
-    counted _ (e1 .before .sizes-right .ensures) (e1 .if1 .left) (n-is w) (e .before .counts-right .ensures) (e .if2 .left)
+    let e1 = e .before .before .before .before in
+    counted _ (e1 .before .sizes-right .ensures) (e1 .if1 .left) (e .before .counts-right .ensures) (e .if2 .left)
 
 sizes-right-requires : tie.Need-sizes-right-requires
 sizes-right-requires c κs = search needs
@@ -43,30 +41,27 @@ returns-2 : tie.Need-returns-2
 returns-2 c = part-counts _ (c .before .counts-right .ensures) (c .if2 .taken)
 
 view-of-requires : tie.Need-view-of-requires
-view-of-requires c κs = counts c
+view-of-requires c κs = (counts c, n-is (c .before .before))
 
 returns-3 : tie.Need-returns-3
 returns-3 c = part-cut _ (c .before .before .view-of .ensures) (c .if3 .taken)
 
 states-right-requires : tie.Need-states-right-requires
-states-right-requires c κs =
-    let p = c .before .before in
-    let v = viewed (p .view-of .ensures) in
-    (counts (p .before), v .roots-is, v .goals-is)
+states-right-requires c κs = let v = c .before .before in laid _ (v .view-of .ensures) (counts (v .before)) (c .if3 .left)
 
 returns-4 : tie.Need-returns-4
 returns-4 c = part-states _ (c .before .states-right .ensures) (c .if4 .taken)
 
 steps-right-requires : tie.Need-steps-right-requires
 steps-right-requires c κs =
-    let p = c .before .before .before .before in
-    let v = viewed (p .view-of .ensures) in
-    (counts (p .before), v .pairs-is, v .symbols-is)
+    let e3 = c .before .before in
+    let v = e3 .before .before in
+    laid _ (v .view-of .ensures) (counts (v .before)) (e3 .if3 .left)
 
 returns-5 : tie.Need-returns-5
 returns-5 c =
-    let w = c .before .before .before .before .before .before .before .before .before in
-    part-steps _ (n-is w) (c .before .steps-right .ensures) (c .if5 .taken)
+    let v = c .before .before .before .before .before .before in
+    part-steps _ (v .view-of .ensures) (c .before .steps-right .ensures) (c .if5 .taken)
 
 returns-6 : tie.Need-returns-6
 returns-6 c =
@@ -77,7 +72,7 @@ returns-6 c =
     let e1 = w .before .before in
     part-usable _ (e3 .before .before .view-of .ensures) (e3 .if3 .left) (e1 .before .sizes-right .ensures) (e1 .if1 .left)
     (e2 .before .counts-right .ensures) (e2 .if2 .left) (e4 .before .states-right .ensures) (e4 .if4 .left)
-    (n-is w) (c .before .steps-right .ensures) (c .if5 .left)
+    (c .before .steps-right .ensures) (c .if5 .left)
 
 pub front-part-spec : {M : Type 1} → statement M
 front-part-spec =

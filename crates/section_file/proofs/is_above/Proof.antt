@@ -7,14 +7,14 @@ use Rattle.section_file.proofs.is_above.Tie as tie
 returns : tie.Need-returns
 returns c = search (needs, no-edge-before)
 
-sub-numbers-at : tie.Need-sub-numbers-at
-sub-numbers-at c = search needs
+sub-edge-at : tie.Need-sub-edge-at
+sub-edge-at c = search needs
 
-numbers-at-requires : tie.Need-numbers-at-requires
-numbers-at-requires c κs = search needs
+edge-at-requires : tie.Need-edge-at-requires
+edge-at-requires c κs = search needs
 
-numbers-at-requires-2 : tie.Need-numbers-at-requires-2
-numbers-at-requires-2 c κs = search needs
+edge-at-requires-2 : tie.Need-edge-at-requires-2
+edge-at-requires-2 c κs = search needs
 
 is-less-requires : tie.Need-is-less-requires
 is-less-requires c κs = search needs
@@ -25,4 +25,4 @@ returns-2 c = search (needs, above-is)
 pub is-above-spec : {M : Type 1} → statement M
 is-above-spec =
     tie.close
-    (tie.spec returns sub-numbers-at numbers-at-requires numbers-at-requires-2 is-less-requires returns-2)
+    (tie.spec returns sub-edge-at edge-at-requires edge-at-requires-2 is-less-requires returns-2)

@@ -4,8 +4,8 @@ use borrow.Author.Needs.{needs}
 use Rattle.section_file.proofs.is_inside.Statement.{statement}
 use Rattle.section_file.proofs.is_inside.Tie as tie
 
-numbers-at-requires : tie.Need-numbers-at-requires
-numbers-at-requires c κs = search needs
+edge-at-requires : tie.Need-edge-at-requires
+edge-at-requires c κs = search needs
 
 returns : tie.Need-returns
 returns c = search (needs, from-outside)
@@ -17,4 +17,4 @@ returns-3 : tie.Need-returns-3
 returns-3 c = search (needs, inside-by-symbol)
 
 pub is-inside-spec : {M : Type 1} → statement M
-is-inside-spec = tie.close (tie.spec numbers-at-requires returns returns-2 returns-3)
+is-inside-spec = tie.close (tie.spec edge-at-requires returns returns-2 returns-3)

@@ -9,7 +9,6 @@ use Rattle.section_file.specs.inner.View.{viewOf}
 use Rattle.section_file.specs.declared.Part.{Part}
 use Rattle.section_file.specs.declared.Part.the-variants.{Usable, Unusable}
 use Rattle.section_file.specs.declared.Edge.{Edge}
-use Rattle.section_file.specs.declared.Numbers.{Numbers}
 
 -- the section at the front of a list: usable, with its view, or not
 unfoldable pub partOf : List ℕ → Part
@@ -19,16 +18,13 @@ partOf l = cond (usable l) (Usable (viewOf l)) Unusable
 abbrev pub edgeIn : List ℕ → List ℕ → ℕ → own.Edge
 edgeIn pairs symbols k = own.edge (getD pairs (2 * k) 0) (getD symbols k 0) (getD pairs (2 * k + 1) 0)
 
+-- an edge of the theory as the code holds it, and back
 abbrev pub heldEdge : own.Edge → Edge
 heldEdge e = record { from = e .from; symbol = e .symbol; to = e .to }
+
+abbrev pub meantEdge : Edge → own.Edge
+meantEdge e = own.edge (e .from) (e .symbol) (e .to)
 
 -- edge k of those whose pairs begin at one place and whose symbols begin at another
 abbrev pub edgeAt : List ℕ → ℕ → ℕ → ℕ → own.Edge
 edgeAt l pairs symbols k = own.edge (getD l (pairs + 2 * k) 0) (getD l (symbols + k) 0) (getD l (pairs + 1 + 2 * k) 0)
-
--- an edge of the theory as the code holds it, and back
-abbrev pub heldNumbers : own.Edge → Numbers
-heldNumbers e = record { from = e .from; symbol = e .symbol; to = e .to }
-
-abbrev pub meantNumbers : Numbers → own.Edge
-meantNumbers e = own.edge (e .from) (e .symbol) (e .to)

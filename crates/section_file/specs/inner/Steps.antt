@@ -2,9 +2,8 @@
 -- and each state or edge against the one before it only. The proofs show that these are the conditions of usable.
 use mathlib.Core.Bool.{Bool, true, not, _&&_, _||_}
 use mathlib.Core.List.{List}
-use Prim.Native.Nat.{ℕ, zero, suc, _+_, _*_}
+use Prim.Native.Nat.{ℕ, zero, suc, _+_}
 use lib.Dec.{ltb, eqb}
-use lib.ListN.{getD}
 use Rattle.trellis.specs.Lists.{all, any}
 use Rattle.trellis.specs.Own.{Edge, edgeLess}
 use Rattle.trellis.specs.Layout.{nOf}
@@ -44,12 +43,20 @@ apart one symbol other j k = not (eqb (one j) (one k) && (eqb (symbol j) (symbol
 unfoldable pub noTwins : (ℕ → ℕ) → (ℕ → ℕ) → (ℕ → ℕ) → ℕ → Bool
 noTwins one symbol other count = all (λ k. all (λ j. apart one symbol other j k) k) count
 
--- the same of the numbers of l: the vertices stand at every second place from two places on, the symbols at every place from a third on
-abbrev pub noTwinsAt : List ℕ → ℕ → ℕ → ℕ → ℕ → Bool
-noTwinsAt l one symbols other count =
-    noTwins (λ k. getD l (one + 2 * k) 0) (λ k. getD l (symbols + k) 0) (λ k. getD l (other + 2 * k) 0) count
+abbrev pub noTwinsOf : (ℕ → Edge) → ℕ → Bool
+noTwinsOf e count = noTwins (λ k. e k .from) (λ k. e k .symbol) (λ k. e k .to) count
 
--- ---- one step: all that usable asks of it; twins matter where depth t + 1, or depth t, is an inner one
+-- all that is asked of the edges of a step; twins matter where the depth that it reaches, or the depth that it leaves, is an inner one
+unfoldable pub edgesRight : (ℕ → Edge) → ℕ → ℕ → ℕ → ℕ → Bool → Bool → Bool
+edgesRight e count q froms tos reached left =
+    all (inside e q froms tos) count
+    && (all (above e) count
+    && (covered (λ k. e k .from) count froms
+    && (covered (λ k. e k .to) count tos
+    && ((not reached || noTwinsOf e count)
+    && (not left || noTwins (λ k. e k .to) (λ k. e k .symbol) (λ k. e k .from) count)))))
+
+-- ---- one step: all that usable asks of it, where depth t + 1 is inner for t + 1 below n and depth t for t above 0
 unfoldable pub stepRight : List ℕ → ℕ → Bool
 stepRight l t =
     edgesInside l t

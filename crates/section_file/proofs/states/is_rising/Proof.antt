@@ -1,6 +1,6 @@
 -- `section_file::states::is_rising` meets its contract. The loop's invariant: all states passed are below the bound and ascend.
 -- The measure is what is left of them.
-use Prim.Native.Nat.{_+_, _-_}
+use Prim.Native.Nat.{_-_}
 use lib.ListN.{getD}
 use Rattle.section_file.specs.inner.Steps.{stateRight}
 use Rattle.section_file.proofs.Tests.{Passed, passed-start, passed-next, passed-fails, passed-all}
@@ -9,10 +9,10 @@ use Rattle.section_file.proofs.states.is_rising.Statement.{statement}
 use Rattle.section_file.proofs.states.is_rising.Tie as tie
 
 abbrev Inv-loop : tie.InvT-loop
-Inv-loop l at count bound v₀ v = Passed (stateRight (λ u. getD l (at + u) 0) bound) count v
+Inv-loop states count bound v₀ v = Passed (stateRight (λ u. getD states u 0) bound) count v
 
 abbrev μ-loop : tie.MeasureT-loop
-μ-loop l at count bound v₀ v = count - v
+μ-loop states count bound v₀ v = count - v
 
 loop-holds : tie.Need-loop-holds Inv-loop μ-loop
 loop-holds c = passed-start

@@ -10,19 +10,17 @@ is-higher-requires c κs = search needs
 returns : tie.Need-returns
 returns c =
     let a = c .before .before .before .args in
-    not-higher (a .l .now) (a .at) (a .v) (a .bound) (c .before .is-higher .ensures) (c .if1 .taken)
+    not-higher (a .states .now) (a .v) (a .bound) (c .before .is-higher .ensures) (c .if1 .taken)
 
-add-number : tie.Need-add-number
-add-number c = search needs
+mul-result : tie.Need-mul-result
+mul-result c = search needs
 
-number-requires : tie.Need-number-requires
-number-requires c κs = search needs
+shared-slice-read-result : tie.Need-shared-slice-read-result
+shared-slice-read-result c = search needs
 
 returns-2 : tie.Need-returns-2
-returns-2 c =
-    let a = c .before .before .before .before .args in
-    state-by-bound (a .l .now) (a .at) (a .v) (a .bound) (c .before .before .is-higher .ensures) (c .before .if1 .left) (c .number .ensures)
+returns-2 c = search (needs, state-by-bound)
 
 pub state-right-spec : {M : Type 1} → statement M
 state-right-spec =
-    tie.close (tie.spec is-higher-requires returns add-number number-requires returns-2)
+    tie.close (tie.spec is-higher-requires returns mul-result shared-slice-read-result returns-2)

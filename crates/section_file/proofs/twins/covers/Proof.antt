@@ -1,8 +1,8 @@
 -- `section_file::twins::covers` meets its contract. The loop's invariant: all vertices passed are met. The measure is what is left of them.
-use Prim.Native.Nat.{_+_, _-_, _*_}
-use lib.ListN.{getD}
+use Prim.Native.Nat.{_-_}
 use lib.Dec.{eqb}
 use Rattle.trellis.specs.Lists.{any}
+use Rattle.section_file.specs.inner.Edges.{turnedIn}
 use Rattle.section_file.proofs.Tests.{Passed, passed-start}
 use Rattle.section_file.proofs.Marking.{covered-fails, covered-next, covered-all}
 use borrow.Author.Needs.{needs}
@@ -10,10 +10,11 @@ use Rattle.section_file.proofs.twins.covers.Statement.{statement}
 use Rattle.section_file.proofs.twins.covers.Tie as tie
 
 abbrev Inv-loop : tie.InvT-loop
-Inv-loop l at count vertices marks v₀ v = Passed (λ v. any (λ k. eqb (getD l (at + 2 * k) 0) v) count) vertices v
+Inv-loop pairs symbols count back vertices marks v₀ v =
+    Passed (λ v. any (λ k. eqb (turnedIn back pairs symbols k .from) v) count) vertices v
 
 abbrev μ-loop : tie.MeasureT-loop
-μ-loop l at count vertices marks v₀ v = vertices - v
+μ-loop pairs symbols count back vertices marks v₀ v = vertices - v
 
 marks-requires : tie.Need-marks-requires Inv-loop μ-loop
 marks-requires c κs = search needs

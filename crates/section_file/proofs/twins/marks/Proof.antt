@@ -1,40 +1,33 @@
 -- `section_file::twins::marks` meets its contract. The loop's invariant: just the vertices passed are marked.
--- The measure is what is left of them.
-use mathlib.Core.Path.{refl}
+-- The measure is what is left of the edges.
+use mathlib.Core.Path.{refl, ap}
 use native.Mathlib.Omega.{arith}
-use Prim.Native.Nat.{_+_, _-_, _*_}
-use lib.ListN.{getD}
-use Rattle.section_file.proofs.Marking.{Marking, vertex-small, marking-start, marking-next, marking-all}
+use Prim.Native.Nat.{_-_}
+use Rattle.section_file.specs.inner.Edges.{turnedIn}
+use Rattle.section_file.specs.declared.Edge.{Edge}
+use Rattle.section_file.proofs.Marking.{Marking, small-of, marking-start, marking-next, marking-all}
 use borrow.Author.Needs.{needs}
 use Rattle.section_file.proofs.twins.marks.Statement.{statement}
 use Rattle.section_file.proofs.twins.marks.Tie as tie
 
 abbrev Inv-loop : tie.InvT-loop
-Inv-loop l at count marks₀ k₀ marks k = Marking (λ k. getD l (at + 2 * k) 0) count marks k
+Inv-loop pairs symbols count back marks₀ k₀ marks k = Marking (λ k. turnedIn back pairs symbols k .from) count marks k
 
 abbrev μ-loop : tie.MeasureT-loop
-μ-loop l at count marks₀ k₀ marks k = count - k
+μ-loop pairs symbols count back marks₀ k₀ marks k = count - k
 
 loop-holds : tie.Need-loop-holds Inv-loop μ-loop
 loop-holds c = marking-start _ _ refl
 
-mul-number : tie.Need-mul-number Inv-loop μ-loop
-mul-number c = search needs
-
-add-number : tie.Need-add-number Inv-loop μ-loop
-add-number c = search needs
-
-number-requires : tie.Need-number-requires Inv-loop μ-loop
-number-requires c κs = search needs
-
-wide-requires : tie.Need-wide-requires Inv-loop μ-loop
-wide-requires c κs = search needs
+edge-met-requires : tie.Need-edge-met-requires Inv-loop μ-loop
+edge-met-requires c κs = search needs
 
 array-write-marks : tie.Need-array-write-marks Inv-loop μ-loop
 array-write-marks c =
-    let h = c .before .before in
-    let v = vertex-small (h .before .before .before .pre) (h .loop-test .taken) (c .before .number .ensures) (c .wide .ensures) in
-    omega (arith, h .before .loop .inv .so-far .long)
+    let h = c .before in
+    let s = h .before .before .before .before in
+    let e = ap (λ (e : Edge). e .from) (c .edge-met .ensures) in
+    omega (arith, small-of (s .args .back) (s .pre) .ones _ (h .loop-test .taken), h .before .loop .inv .so-far .long)
 
 add-k : tie.Need-add-k Inv-loop μ-loop
 add-k c = search needs
@@ -44,9 +37,10 @@ loop-less c = search needs
 
 loop-again : tie.Need-loop-again Inv-loop μ-loop
 loop-again c =
-    let h = c .before .before in
-    marking-next (h .before .loop .inv) (h .loop-test .taken) (c .before .number .ensures) (c .wide .ensures)
-    (h .before .before .before .pre .small _ (h .loop-test .taken))
+    let h = c .before in
+    let s = h .before .before .before .before in
+    marking-next (h .before .loop .inv) (h .loop-test .taken) (ap (λ (e : Edge). e .from) (c .edge-met .ensures))
+    (small-of (s .args .back) (s .pre) .ones _ (h .loop-test .taken))
 
 returns : tie.Need-returns Inv-loop μ-loop
 returns c = marking-all (c .before .loop .inv) (search needs)
@@ -58,10 +52,7 @@ marks-spec =
     Inv-loop
     μ-loop
     loop-holds
-    mul-number
-    add-number
-    number-requires
-    wide-requires
+    edge-met-requires
     array-write-marks
     add-k
     loop-less

@@ -11,7 +11,7 @@ without-twins-requires : tie.Need-without-twins-requires
 without-twins-requires c κs = search needs
 
 returns-2 : tie.Need-returns-2
-returns-2 c = if-so (c .before .before .before .args .inner) _ (c .before .if1 .left) (c .without-twins .ensures)
+returns-2 c = if-so (c .before .before .before .before .args .inner) _ (c .before .if1 .left) (c .without-twins .ensures)
 
 pub twins-right-spec : {M : Type 1} → statement M
 twins-right-spec = tie.close (tie.spec returns without-twins-requires returns-2)

@@ -1,104 +1,81 @@
 -- `section_file::twins::without_twins` meets its contract. The loop's invariant: no two edges passed make twins, and for each vertex and
 -- symbol that they have the array has their one vertex at the other end. The measure is what is left of them.
-use mathlib.Core.Path.{refl}
+use mathlib.Core.Path.{refl, ap}
 use native.Mathlib.Omega.{arith}
-use Prim.Native.Nat.{_+_, _-_, _*_}
-use lib.ListN.{getD}
-use Rattle.section_file.proofs.Marking.{Apart, small-of, slot-of, apart-start, slot-small, twins-found, twins-not, twins-none}
+use Prim.Native.Nat.{_+_, _-_, _*_, _<_}
+use Rattle.trellis.specs.Bounds.{mostQ, mostWords}
+use Rattle.section_file.specs.inner.Edges.{turnedIn}
+use Rattle.section_file.specs.declared.Edge.{Edge}
+use Rattle.section_file.proofs.Marking.{Apart, Small, small-of, apart-start, slot-small, twins-found, twins-not, twins-none}
 use borrow.Author.Needs.{needs}
 use Rattle.section_file.proofs.twins.without_twins.Statement.{statement}
 use Rattle.section_file.proofs.twins.without_twins.Tie as tie
 
 abbrev Inv-loop : tie.InvT-loop
-Inv-loop l one symbols other count seen₀ k₀ seen k =
-    Apart (λ k. getD l (one + 2 * k) 0) (λ k. getD l (symbols + k) 0) (λ k. getD l (other + 2 * k) 0) count seen k
+Inv-loop pairs symbols count back seen₀ k₀ seen k =
+    Apart (λ k. turnedIn back pairs symbols k .from) (λ k. turnedIn back pairs symbols k .symbol) (λ k. turnedIn back pairs symbols k .to)
+    count seen k
 
 abbrev μ-loop : tie.MeasureT-loop
-μ-loop l one symbols other count seen₀ k₀ seen k = count - k
+μ-loop pairs symbols count back seen₀ k₀ seen k = count - k
+
+-- the edges' vertices and symbols are in bounds
+small : (h : tie.In-loop Inv-loop μ-loop) → let a = h .before .before .before .before .args in
+    let e = turnedIn (a .back) (a .pairs .now) (a .symbols .now) in Small (λ k. e k .from) (λ k. e k .symbol) (λ k. e k .to) (a .count)
+small h = let s = h .before .before .before .before in small-of (s .args .back) (s .pre)
+
+-- so are those of the edge that was read
+slot-low : (m : tie.After-edge-met Inv-loop μ-loop) → mostQ * m .edge-met .result .from + m .edge-met .result .symbol < mostQ * mostWords
+slot-low m =
+    let h = m .before in
+    slot-small (small h) (h .loop-test .taken) (ap (λ (e : Edge). mostQ * e .from + e .symbol) (m .edge-met .ensures))
+
+other-low : (m : tie.After-edge-met Inv-loop μ-loop) → m .edge-met .result .to < mostWords
+other-low m =
+    let h = m .before in
+    omega (arith, small h .others _ (h .loop-test .taken), ap (λ (e : Edge). e .to) (m .edge-met .ensures))
 
 loop-holds : tie.Need-loop-holds Inv-loop μ-loop
 loop-holds c = apart-start refl
 
-mul-number : tie.Need-mul-number Inv-loop μ-loop
-mul-number c = search needs
-
-add-number : tie.Need-add-number Inv-loop μ-loop
-add-number c = search needs
-
-number-requires : tie.Need-number-requires Inv-loop μ-loop
-number-requires c κs = search needs
-
-wide-requires : tie.Need-wide-requires Inv-loop μ-loop
-wide-requires c κs = search needs
+edge-met-requires : tie.Need-edge-met-requires Inv-loop μ-loop
+edge-met-requires c κs = search needs
 
 mul-slot : tie.Need-mul-slot Inv-loop μ-loop
-mul-slot c = search needs
-
-add-number-2 : tie.Need-add-number-2 Inv-loop μ-loop
-add-number-2 c = search needs
-
-number-requires-2 : tie.Need-number-requires-2 Inv-loop μ-loop
-number-requires-2 c κs = search needs
-
-wide-requires-2 : tie.Need-wide-requires-2 Inv-loop μ-loop
-wide-requires-2 c κs = search needs
+mul-slot c = record { fits = omega (arith, slot-low (c .before)) }
 
 add-slot : tie.Need-add-slot Inv-loop μ-loop
-add-slot c = search needs
-
-mul-number-2 : tie.Need-mul-number-2 Inv-loop μ-loop
-mul-number-2 c = search needs
-
-add-number-3 : tie.Need-add-number-3 Inv-loop μ-loop
-add-number-3 c = search needs
-
-number-requires-3 : tie.Need-number-requires-3 Inv-loop μ-loop
-number-requires-3 c κs = search needs
+add-slot c = record { fits = omega (arith, slot-low (c .before .before)) }
 
 mul-differs : tie.Need-mul-differs Inv-loop μ-loop
-mul-differs c = search needs
+mul-differs c = record { fits = omega (arith, slot-low (c .before .before)) }
 
 array-read-differs : tie.Need-array-read-differs Inv-loop μ-loop
-array-read-differs c = let w2 = c .before in let n2 = w2 .before in let w = n2 .before in let n = w .before in let h = n .before in
-    slot-small (small-of (h .before .before .before .pre)) (h .loop-test .taken)
-    (slot-of (n .number .ensures) (w .wide .ensures) (n2 .number2 .ensures) (w2 .wide2 .ensures))
+array-read-differs c = slot-low (c .before .before)
 
 differs-requires : tie.Need-differs-requires Inv-loop μ-loop
-differs-requires c κs =
-    let h = c .before .before .before .before .before in
-    omega (arith, small-of (h .before .before .before .pre) .others _ (h .loop-test .taken), c .number3 .ensures)
+differs-requires c κs = other-low (c .before .before)
 
 returns : tie.Need-returns Inv-loop μ-loop
 returns c =
     let d = c .before in
-    let n3 = d .before in
-    let w2 = n3 .before in
-    let n2 = w2 .before in
-    let w = n2 .before in
-    let n = w .before in
-    let h = n .before in
-    twins-found (small-of (h .before .before .before .pre)) (h .before .loop .inv) (h .loop-test .taken)
-    (slot-of (n .number .ensures) (w .wide .ensures) (n2 .number2 .ensures) (w2 .wide2 .ensures)) (n3 .number3 .ensures)
+    let m = d .before .before .before in
+    let h = m .before in
+    twins-found (small h) (h .before .loop .inv) (h .loop-test .taken)
+    (ap (λ (e : Edge). mostQ * e .from + e .symbol) (m .edge-met .ensures)) (ap (λ (e : Edge). e .to) (m .edge-met .ensures))
     (d .differs .ensures) (c .if1 .taken)
 
 add-seen : tie.Need-add-seen Inv-loop μ-loop
-add-seen c =
-    let n3 = c .before .before in
-    let h = n3 .before .before .before .before .before in
-    record { fits = omega (arith, small-of (h .before .before .before .pre) .others _ (h .loop-test .taken), n3 .number3 .ensures) }
+add-seen c = record { fits = omega (arith, other-low (c .before .before .before .before .before)) }
+
+cast-seen : tie.Need-cast-seen Inv-loop μ-loop
+cast-seen c = record { fits = omega (arith, other-low (c .before .before .before .before .before)) }
 
 mul-seen : tie.Need-mul-seen Inv-loop μ-loop
-mul-seen c = search needs
+mul-seen c = record { fits = omega (arith, slot-low (c .before .before .before .before .before)) }
 
 array-write-seen : tie.Need-array-write-seen Inv-loop μ-loop
-array-write-seen c =
-    let w2 = c .before .before .before in
-    let n2 = w2 .before in
-    let w = n2 .before in
-    let n = w .before in
-    let h = n .before in
-    slot-small (small-of (h .before .before .before .pre)) (h .loop-test .taken)
-    (slot-of (n .number .ensures) (w .wide .ensures) (n2 .number2 .ensures) (w2 .wide2 .ensures))
+array-write-seen c = slot-low (c .before .before .before .before .before)
 
 add-k : tie.Need-add-k Inv-loop μ-loop
 add-k c = search needs
@@ -108,16 +85,12 @@ loop-less c = search needs
 
 loop-again : tie.Need-loop-again Inv-loop μ-loop
 loop-again c =
-    let d = c .before in
-    let n3 = d .before in
-    let w2 = n3 .before in
-    let n2 = w2 .before in
-    let w = n2 .before in
-    let n = w .before in
-    let h = n .before in
-    twins-not (small-of (h .before .before .before .pre)) (h .before .loop .inv) (h .loop-test .taken)
-    (slot-of (n .number .ensures) (w .wide .ensures) (n2 .number2 .ensures) (w2 .wide2 .ensures)) (n3 .number3 .ensures)
-    (d .differs .ensures) (c .if1 .left)
+    let d = c .before .before in
+    let m = d .before .before .before in
+    let h = m .before in
+    twins-not (small h) (h .before .loop .inv) (h .loop-test .taken)
+    (ap (λ (e : Edge). mostQ * e .from + e .symbol) (m .edge-met .ensures)) (ap (λ (e : Edge). e .to) (m .edge-met .ensures))
+    (d .differs .ensures) (c .before .if1 .left)
 
 returns-2 : tie.Need-returns-2 Inv-loop μ-loop
 returns-2 c = twins-none (c .before .loop .inv) (search needs)
@@ -129,23 +102,15 @@ without-twins-spec =
     Inv-loop
     μ-loop
     loop-holds
-    mul-number
-    add-number
-    number-requires
-    wide-requires
+    edge-met-requires
     mul-slot
-    add-number-2
-    number-requires-2
-    wide-requires-2
     add-slot
-    mul-number-2
-    add-number-3
-    number-requires-3
     mul-differs
     array-read-differs
     differs-requires
     returns
     add-seen
+    cast-seen
     mul-seen
     array-write-seen
     add-k
