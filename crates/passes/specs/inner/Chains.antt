@@ -1,0 +1,71 @@
+-- A chain of blocks, one behind another: what passing them backward leaves, and what following the picks forward writes. Which words a block
+-- has, what they cost and where a path may end are the chain's, and none of them is fixed here.
+use mathlib.Core.Path.{_≡_}
+use mathlib.Core.Bool.{Bool}
+use mathlib.Core.Logic.{_⊎_}
+use mathlib.Core.List.{List, _∷_}
+use Prim.Native.Nat.{ℕ, suc, _+_, _-_, _*_, _/_, _%_, _≤_, _<_}
+use lib.ListN.{length, getD}
+use Rattle.trellis.specs.Bounds.{mostStates, costsABlock}
+use Rattle.trellis.specs.Word.{Word, word, wordAt}
+use Rattle.paths.specs.Chain.{unreached}
+use Rattle.paths.specs.inner.Chains.{chainLeast, chainTrace}
+use Rattle.paths.specs.inner.Ranked.{labelUnit}
+
+pub record Chain : Type 0 where
+  pub words : ℕ → List Word
+  pub ends : ℕ → Bool
+  pub price : ℕ → Word → ℕ
+  pub blocks : ℕ
+
+module _ (C : Chain) where
+  -- the least cost from state s before block b to a state where a path may end
+  unfoldable pub leastFrom : ℕ → ℕ → ℕ
+  leastFrom b s = chainLeast (C .words) (C .ends) (C .price) unreached (C .blocks - b) b s
+
+  -- the first path of least cost from there
+  unfoldable pub pathFrom : ℕ → ℕ → List Word
+  pathFrom b s = chainTrace (C .words) (C .ends) (C .price) unreached (C .blocks - b) b s
+
+  -- the least costs from the states before block b
+  abbrev pub LeftAt : ℕ → List ℕ → Type 0
+  LeftAt b left = (s : ℕ) → s < mostStates → getD left s 0 ≡ leastFrom b s
+
+  -- the path from state s before block b begins with the word whose label and goal are in this number
+  pub record PickAt (b s pick : ℕ) : Type 0 where
+    pub goal-lt : pick % labelUnit < mostStates
+    pub path : pathFrom b s ≡ word s (pick / labelUnit) (pick % labelUnit) ∷ pathFrom (suc b) (pick % labelUnit)
+
+  -- where there is a path from a state before block b or a later one, its first word is picked
+  abbrev pub Picked : ℕ → List ℕ → Type 0
+  Picked b picks = (c s : ℕ) → b ≤ c → c < C .blocks → s < mostStates → leastFrom c s < unreached
+      → PickAt c s (getD picks (costsABlock * c + s) 0)
+
+  -- the cost table from block b on
+  abbrev pub CostsFrom : ℕ → List ℕ → Type 0
+  CostsFrom b costs = (c s : ℕ) → b ≤ c → c < C .blocks → s < mostStates → getD costs (costsABlock * c + s) 0 ≡ leastFrom c s
+
+  -- the labels and goals of the first b words of the path from state `start` are written, and places beyond them are as they were
+  pub record Written (start b : ℕ) (labels newLabels goals newGoals : List ℕ) : Type 0 where
+    pub labelAt : (i : ℕ) → i < b → getD newLabels i 0 ≡ wordAt (pathFrom 0 start) i .label
+    pub goalAt : (i : ℕ) → i < b → getD newGoals i 0 ≡ wordAt (pathFrom 0 start) i .goal
+    pub labelsKept : (i : ℕ) → b ≤ i → getD newLabels i 0 ≡ getD labels i 0
+    pub goalsKept : (i : ℕ) → b ≤ i → getD newGoals i 0 ≡ getD goals i 0
+
+-- a row of 64 numbers is written from one place on, and the other places are as they were
+pub record RowPut (first : ℕ) (row old new : List ℕ) : Type 0 where
+  pub long : length new ≡ length old
+  pub at : (s : ℕ) → s < costsABlock → getD new (first + s) 0 ≡ getD row s 0
+  pub kept : (i : ℕ) → (i < first) ⊎ (first + costsABlock ≤ i) → getD new i 0 ≡ getD old i 0
+
+-- the picks of a chain that has a path from state `start`, and room for its words
+pub record Followed (blocks start : ℕ) (picks labels goals : List ℕ) : Type 0 where
+  pub chain : Chain
+  pub blocksIs : chain .blocks ≡ blocks
+  pub picked : Picked chain 0 picks
+  pub start-lt : start < mostStates
+  pub some : leastFrom chain 0 start < unreached
+  pub long : costsABlock * blocks ≤ length picks
+  pub few : blocks ≤ 256
+  pub labelsLong : blocks ≤ length labels
+  pub goalsLong : blocks ≤ length goals
