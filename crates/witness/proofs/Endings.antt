@@ -1,16 +1,15 @@
--- Looking for an ending in a run. The run is an interval that starts at its start, so the search ends with the run: no later word is of it.
+-- Endings of a run, and the words of it. A run is an interval that starts at its start: behind a word that is no more of it no word is.
 use mathlib.Core.Path.{_≡_, refl, sym, ap, ap₂, _∙_}
 use mathlib.Core.Bool.{Bool, true, false, _&&_, _||_, not}
 use mathlib.Core.List.{List}
-use Prim.Native.Nat.{ℕ, zero, suc, _+_, _≤_, _<_}
+use Prim.Native.Nat.{ℕ, zero, suc, _≤_, _<_}
 use native.Mathlib.Omega.{arith}
 use native.Mathlib.Decide.{ℕ-discrete, decLt}
 use lib.Dec.{T, eqb, eqb→eq, ltb, ltb→lt, lt→ltb}
 use borrow.Author.Tests.{eq-eqb, ne-eqb}
 use Rattle.trellis.proofs.Bools.{holds, fails, is-false, both, join, eqb-of, or-true}
 use Rattle.depths.specs.inner.Rows.{at}
-use Rattle.depths.proofs.Places.{upto-next}
-use Rattle.witness.specs.inner.Rows.{SearchRows, inRun, hasEnding, refutesIn}
+use Rattle.witness.specs.inner.Rows.{SearchRows, inRun, beforeRun, hasEnding, refutesIn}
 use Rattle.trellis.specs.Lists.{any}
 
 -- ---- any of the numbers below m
@@ -72,16 +71,13 @@ module _ {starts firsts : List ℕ} {w k j : ℕ} where
             eqb→eq (at firsts (x .place)) (at firsts j) (p .1);
       }
 
-ending-no : (starts firsts : List ℕ) (w k j : ℕ) → ((l : ℕ) → l < w → at starts l ≡ at starts k → at firsts l ≡ at firsts j → ⊥)
+pub ending-no : (starts firsts : List ℕ) (w k j : ℕ) → ((l : ℕ) → l < w → at starts l ≡ at starts k → at firsts l ≡ at firsts j → ⊥)
     → hasEnding starts firsts w k j ≡ false
 unfolding hasEnding
 ending-no starts firsts w k j h =
     any-none (λ l. eqb (at starts l) (at starts k) && eqb (at firsts l) (at firsts j)) w (λ l b. is-false _ (λ u.
     let p = both (eqb (at starts l) (at starts k)) (eqb (at firsts l) (at firsts j)) u in
     h l b (eqb→eq (at starts l) (at starts k) (p .0)) (eqb→eq (at firsts l) (at firsts j) (p .1))))
-
-pub ending-own : (starts firsts : List ℕ) (w k j : ℕ) → j < w → at starts j ≡ at starts k → true ≡ hasEnding starts firsts w k j
-ending-own starts firsts w k j h e = sym (ending-yes (record { place = j; below = h; begins = e; ends = refl }))
 
 -- ---- words of a run
 
@@ -91,62 +87,33 @@ run-yes starts w a l e =
     let p = both (ltb l w) (eqb (at starts l) a) (holds e) in
     (ltb→lt l w (p .0), eqb→eq (at starts l) a (p .1))
 
+pub run-miss : (starts : List ℕ) (w a l : ℕ) → inRun starts w a l ≡ false → l < w → at starts l ≡ a → ⊥
+unfolding inRun
+run-miss starts w a l e h g = fails e (join (ltb l w) (eqb (at starts l) a) (lt→ltb l w h) (eqb-of g))
+
 -- behind a word that is no more of the run no word is
 pub run-no : {starts firsts : List ℕ} {w i a l : ℕ} → SearchRows w starts firsts → i < w → a ≡ at starts i → at starts i ≤ l
     → inRun starts w a l ≡ false
     → (x : ℕ) → l ≤ x → x < w → at starts x ≡ at starts i → ⊥
-unfolding inRun
 run-no {starts} {firsts} {w} {i} {a} {l} R h e f n x p q s =
-    let u = R .startRises (at starts i) l f (omega arith) in
-    let v = R .startRises l x p q in
-    let g : at starts l ≡ a = omega (arith, R .startOwn i h) in
-    fails n (join (ltb l w) (eqb (at starts l) a) (lt→ltb l w (omega arith)) (eqb-of g))
+    let u = R .rises (at starts i) l f (omega arith) in
+    let v = R .rises l x p q in
+    let g : at starts l ≡ a = omega (arith, R .runs .own i h) in
+    run-miss starts w a l n (omega arith) g
 
-pub record InEnding (starts firsts : List ℕ) (w k j a x l : ℕ) : Type 0 where
-  pub rows : SearchRows w starts firsts
-  pub kLt : k < w
-  pub start : a ≡ at starts k
-  pub first : x ≡ at firsts j
-  pub from : at starts k ≤ l
-  pub none : (y : ℕ) → y < l → at starts y ≡ at starts k → at firsts y ≡ at firsts j → ⊥
+pub before-yes : (starts : List ℕ) (w a l : ℕ) → beforeRun starts w a l ≡ true → (l < w) × (at starts l < a)
+unfolding beforeRun
+before-yes starts w a l e =
+    let p = both (ltb l w) (ltb (at starts l) a) (holds e) in
+    (ltb→lt l w (p .0), ltb→lt (at starts l) a (p .1))
 
-pub ending-none : {starts firsts : List ℕ} {w k j a x l : ℕ} → SearchRows w starts firsts → k < w → a ≡ at starts k → x ≡ at firsts j
-    → l ≡ a
-    → InEnding starts firsts w k j a x l
-ending-none {starts} {firsts} {w} {k} {j} {a} {x} {l} R h e f g = record {
-  rows = R;
-  kLt = h;
-  start = e;
-  first = f;
-  from = omega arith;
-  none = λ y p q r. let u = R .startLe k h in absurd (omega (arith, R .startLe y (omega arith)));
-}
-
-module _ {starts firsts : List ℕ} {w k j a x l : ℕ} (c : InEnding starts firsts w k j a x l) where
-  pub ending-more : inRun starts w a l ≡ true → (at firsts l ≡ x → ⊥) → InEnding starts firsts w k j a x (l + 1)
-  ending-more e d = record {
-    rows = c .rows;
-    kLt = c .kLt;
-    start = c .start;
-    first = c .first;
-    from = omega (arith, c .from);
-    none = upto-next (λ y. at starts y ≡ at starts k → at firsts y ≡ at firsts j → ⊥) l (c .none) (λ p q. d (q ∙ sym (c .first)));
-  }
-
-  pub ending-hit : inRun starts w a l ≡ true → at firsts l ≡ x → true ≡ hasEnding starts firsts w k j
-  ending-hit e d = sym (ending-yes (record {
-    place = l;
-    below = run-yes starts w a l e .0;
-    begins = run-yes starts w a l e .1 ∙ c .start;
-    ends = d ∙ c .first;
-  }))
-
-  pub ending-miss : inRun starts w a l ≡ false → false ≡ hasEnding starts firsts w k j
-  ending-miss e = sym (ending-no starts firsts w k j (λ y b p q. go y b p q (decLt y l)))
-    where
-      go : (y : ℕ) → y < w → at starts y ≡ at starts k → at firsts y ≡ at firsts j → Dec (y < l) → ⊥
-      go y b p q (yes d) = c .none y d p q
-      go y b p q (no d) = run-no (c .rows) (c .kLt) (c .start) (c .from) e y (omega arith) b p
+pub before-no : (starts : List ℕ) (w a l : ℕ) → beforeRun starts w a l ≡ false → l < w → a ≤ at starts l
+unfolding beforeRun
+before-no starts w a l e h = go (decLt (at starts l) a)
+  where
+    go : Dec (at starts l < a) → a ≤ at starts l
+    go (yes d) = absurd (fails e (join (ltb l w) (ltb (at starts l) a) (lt→ltb l w h) (lt→ltb (at starts l) a d)))
+    go (no d) = omega arith
 
 -- ---- the test
 

@@ -1,7 +1,7 @@
--- The nested search over i, j, k. Each loop keeps that no triple before the present one passes. A first triple that passes is what the
--- nested searches of the definition find: each search over a range gives the first place where there is something, and so its triple.
+-- The search over i, j, k keeps that no triple before the present one passes. A first triple that passes is what the nested searches of the
+-- definition find: each search over a range gives the first place where there is something, and so its triple.
 use mathlib.Core.Path.{_≡_, refl, sym, ap, _∙_}
-use mathlib.Core.Bool.{Bool, true, false}
+use mathlib.Core.Bool.{Bool}
 use mathlib.Core.List.{List}
 use Prim.Native.Nat.{ℕ, zero, suc, _+_, _≤_, _<_}
 use native.Mathlib.Omega.{arith}
@@ -11,59 +11,17 @@ use Rattle.trellis.specs.Word.{Word}
 use Rattle.trellis.specs.Witness.{found, nothing, refutes, orElse, when, firstOf, overK, overJ, witnessAt}
 use Rattle.trellis.specs.Witness as trellis
 use Rattle.depths.proofs.Places.{upto-next}
-use Rattle.witness.specs.inner.Search.{asWitness, NoneAt, NoneFrom, NoneBefore, FirstIn, Next}
+use Rattle.witness.specs.inner.Search.{asWitness, NoneAt, NoneFrom, NoneBefore, FirstIn}
 use Rattle.witness.specs.declared.Witness.{Witness}
 use Rattle.witness.specs.declared.Witness.the-variants.{At, Nothing}
 
--- ---- the loops
-
-pub record InJ (test : ℕ → ℕ → ℕ → Bool) (w i j : ℕ) : Type 0 where
-  pub iLt : i < w
-  pub jLe : j ≤ w
-  pub before : NoneBefore test w i
-  pub none : (y : ℕ) → y < j → NoneAt test w i y
-
-pub record InK (test : ℕ → ℕ → ℕ → Bool) (w i j k : ℕ) : Type 0 where
-  pub inJ : InJ test w i j
-  pub jLt : j < w
-  pub kLe : k ≤ w
-  pub none : (z : ℕ) → z < k → test i j z ≡ false
+-- ---- the loop over i
 
 pub before-none : (test : ℕ → ℕ → ℕ → Bool) (w : ℕ) → NoneBefore test w 0
 before-none test w = record { le = omega arith; none = λ x h. absurd (omega arith) }
 
 pub before-more : {test : ℕ → ℕ → ℕ → Bool} {w i : ℕ} → NoneBefore test w i → i < w → NoneFrom test w i → NoneBefore test w (i + 1)
 before-more {test} {w} {i} c h n = record { le = omega arith; none = upto-next (NoneFrom test w) i (c .none) n }
-
-pub next-start : {test : ℕ → ℕ → ℕ → Bool} {w i : ℕ} → NoneBefore test w i → Next test w i i
-next-start c = record { from = omega arith; before = c }
-
-pub next-none : {test : ℕ → ℕ → ℕ → Bool} {w low i : ℕ} → Next test w low i → i < w → NoneFrom test w i → Next test w low (i + 1)
-next-none {test} {w} {low} {i} c h n = record { from = omega (arith, c .from); before = before-more (c .before) h n }
-
-pub again-K : {test : ℕ → ℕ → ℕ → Bool} {w i j k : ℕ} → InK test w i j k → k < w → test i j k ≡ false → InK test w i j (k + 1)
-again-K {test} {w} {i} {j} {k} c h e =
-    record { inJ = c .inJ; jLt = c .jLt; kLe = omega arith; none = upto-next (λ z. test i j z ≡ false) k (c .none) e }
-
-pub again-J : {test : ℕ → ℕ → ℕ → Bool} {w i j k : ℕ} → InK test w i j k → w ≤ k → InJ test w i (j + 1)
-again-J {test} {w} {i} {j} {k} c h = record {
-  iLt = c .inJ .iLt;
-  jLe = omega (arith, c .jLt);
-  before = c .inJ .before;
-  none = upto-next (NoneAt test w i) j (c .inJ .none) (λ z l. c .none z (omega arith));
-}
-
-pub again-I : {test : ℕ → ℕ → ℕ → Bool} {w i j : ℕ} → InJ test w i j → w ≤ j → NoneBefore test w (i + 1)
-again-I {test} {w} {i} {j} c h = before-more (c .before) (c .iLt) (λ y l. c .none y (omega arith))
-
-pub hit-K : {test : ℕ → ℕ → ℕ → Bool} {w i j k : ℕ} → InK test w i j k → k < w → test i j k ≡ true → FirstIn test w (At i j k)
-hit-K {test} {w} {i} {j} {k} c h e = record {
-  below = (c .inJ .iLt, c .jLt, h);
-  passes = e;
-  firstI = c .inJ .before .none;
-  firstJ = c .inJ .none;
-  firstK = c .none;
-}
 
 pub none-left : {test : ℕ → ℕ → ℕ → Bool} {w i : ℕ} → NoneBefore test w i → w ≤ i → FirstIn test w Nothing
 none-left {test} {w} {i} c h = record { le = omega arith; none = λ x l. c .none x (omega arith) }

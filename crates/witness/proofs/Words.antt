@@ -25,7 +25,7 @@ use Rattle.depths.proofs.Words.{held-length}
 use Rattle.depths.proofs.Starts.{starts-are}
 use Rattle.depths.proofs.Firsts.{row-small, firsts-are, ends-now}
 use Rattle.witness.specs.inner.Search.{asWitness, FirstIn}
-use Rattle.witness.specs.inner.Rows.{InnerDepth, SearchRows, hasEnding, refutesIn}
+use Rattle.witness.specs.inner.Rows.{InnerDepth, FirstRow, SearchRows, hasEnding, refutesIn}
 use Rattle.witness.specs.declared.Witness.{Witness}
 use Rattle.witness.proofs.Search.{first-cong, first-is}
 use Rattle.witness.proofs.Endings.{ending-yes, ending-of}
@@ -77,15 +77,10 @@ module _ {n : ℕ} {table : List Word} (G : Table n table) (t : ℕ) (le : t ≤
 
 -- ---- the rows of the search, from the passes
 
--- a row of first words with one key
-pub record FirstRow (W : ℕ) (row : List ℕ) : Type 0 where
-  pub firstLe : (i : ℕ) → i < W → at row i ≤ i
-  pub firstOwn : (i : ℕ) → i < W → at row (at row i) ≡ at row i
-
 first-row : (W : ℕ) (key : ℕ → ℕ) (row : List ℕ) → ((i : ℕ) → i < W → at row i ≡ firstLike key i) → FirstRow W row
 first-row W key row h = record {
-  firstLe = λ i l. omega (arith, h i l, like-le key i);
-  firstOwn = λ i l. ap (at row) (h i l) ∙ h (firstLike key i) (omega (arith, like-le key i)) ∙ like-twice key i ∙ sym (h i l);
+  le = λ i l. omega (arith, h i l, like-le key i);
+  own = λ i l. ap (at row) (h i l) ∙ h (firstLike key i) (omega (arith, like-le key i)) ∙ like-twice key i ∙ sym (h i l);
 }
 
 pub record InRows (n t : ℕ) (roots labels goals row : List ℕ) (u : ℕ) : Type 0 where
@@ -136,15 +131,10 @@ module _ {n t : ℕ} {roots labels goals starts : List ℕ} (Q : InnerDepth n t 
     pub rows-are : SearchRows (length roots) starts row
     rows-are = subst (λ w. SearchRows w starts row) size (record {
       few = omega (arith, size, Q .held .few);
-      startLe = R .firstLe;
-      startRises = λ i j a b. omega (arith, start-is i (omega arith), start-is j b, start-mono (cut (Q .held .table) t le) i j a b);
-      startOwn = R .firstOwn;
-      firstLe = c .firsts (omega (arith, Q .deep)) .firstLe;
-      firstOwn = c .firsts (omega (arith, Q .deep)) .firstOwn;
+      runs = first-row (length (words roots labels goals)) (beginningAt n (words roots labels goals) t) starts start-is;
+      rises = λ i j a b. omega (arith, start-is i (omega arith), start-is j b, start-mono (cut (Q .held .table) t le) i j a b);
+      endings = c .firsts (omega (arith, Q .deep));
     })
-      where
-        R : FirstRow (length (words roots labels goals)) starts
-        R = first-row (length (words roots labels goals)) (beginningAt n (words roots labels goals) t) starts start-is
 
     -- the first triple that refutes, by the rows, is the witness of the definition
     pub rows-witness : (r : Witness) → FirstIn (refutesIn starts row (length roots)) (length roots) r → asWitness t r ≡ witnessAt n table t

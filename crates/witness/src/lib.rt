@@ -1,16 +1,14 @@
 // The first witness of a refusal: at a depth where a table is not rectangular, the first words i, j, k that force a word which it lacks.
 // Promised: the answer is the witness of the definition, by i, then j, then k.
 ghost use mathlib.Core.Path.{_≡_};
-ghost use mathlib.Core.Bool.{true};
-ghost use Prim.Native.Nat.{_+_, _<_, _≤_};
-ghost use lib.Dec.{eqb};
+ghost use mathlib.Core.List.{List};
+ghost use Prim.Native.Nat.{ℕ, _<_, _≤_};
 ghost use Rattle.trellis.specs.Bounds.{mostWords};
-ghost use Rattle.trellis.specs.Lists.{one-if};
 ghost use Rattle.trellis.specs.Witness.{witnessAt};
 ghost use Rattle.depths.specs.inner.Words.{words};
-ghost use Rattle.depths.specs.inner.Rows.{at};
-ghost use Rattle.witness.specs.inner.Search.{asWitness, NoneFrom, NoneBefore, Next, FirstIn};
-ghost use Rattle.witness.specs.inner.Rows.{InnerDepth, SearchRows, inRun, hasEnding, refutesIn, Within};
+ghost use Rattle.witness.specs.inner.Search.{asWitness, FirstWith, FirstIn};
+ghost use Rattle.witness.specs.inner.Rows.{InnerDepth, FirstRow, SearchRows, inRun, beforeRun, toTry, refutesIn};
+ghost use Rattle.witness.specs.inner.Chains.{Ahead, Chained, Reached, Asked};
 use numbers::wide;
 use trellis::MOST_WORDS;
 
@@ -20,7 +18,26 @@ pub enum Witness {
     Nothing,
 }
 
-// Whether l is a word of the run that starts at a.
+// No word has this index.
+const NOTHING: u16 = MOST_WORDS as u16;
+
+// For each word the next one with its ending. From the last word on, each is put between the first with its ending and the next after that.
+fn put_next(firsts: &[u16; MOST_WORDS], w: usize, next: &mut [u16; MOST_WORDS])
+    requires { ⌜ (w ≤ mostWords) × FirstRow w (now firsts) ⌝ }
+    ensures { λ _. ⌜ Chained w (now (firsts .entry)) (now (next .exit)) ⌝ }
+{
+    *next = [NOTHING; MOST_WORDS];
+    let mut i = w;
+    while i > 0 {
+        i -= 1;
+        let first = wide(firsts[i]);
+        let after = next[first];
+        next[first] = i as u16;
+        next[i] = after; // as it was, if i is that first word
+    }
+}
+
+// Whether l is one of the first w words, and of the run that starts at a.
 fn in_run(starts: &[u16; MOST_WORDS], w: usize, a: u16, l: usize) -> bool
     requires { ⌜ w ≤ mostWords ⌝ }
     ensures { λ r. ⌜ r ≡ inRun (now (starts .entry)) w a l ⌝ }
@@ -28,168 +45,87 @@ fn in_run(starts: &[u16; MOST_WORDS], w: usize, a: u16, l: usize) -> bool
     l < w && starts[l] == a
 }
 
-// Whether the run of k has the ending of j. If j is of that run, it has.
-fn has_ending(
-    starts: &[u16; MOST_WORDS],
-    firsts: &[u16; MOST_WORDS],
-    w: usize,
-    k: usize,
-    j: usize,
-) -> bool
-    requires { ⌜ SearchRows w (now starts) (now firsts) × (k < w) × (j < w) ⌝ }
-    ensures { λ r. ⌜ r ≡ hasEnding (now (starts .entry)) (now (firsts .entry)) w k j ⌝ }
+// Whether l is a word of a run before the one that starts at a.
+fn before_run(starts: &[u16; MOST_WORDS], w: usize, a: u16, l: usize) -> bool
+    requires { ⌜ w ≤ mostWords ⌝ }
+    ensures { λ r. ⌜ r ≡ beforeRun (now (starts .entry)) w a l ⌝ }
 {
-    let a = starts[k];
-    if starts[j] == a {
-        return true;
-    }
-    let x = firsts[j];
-    let mut l = wide(a);
-    while in_run(starts, w, a, l) {
-        if firsts[l] == x {
-            return true;
-        }
-        l += 1;
-    }
-    false
+    l < w && starts[l] < a
 }
 
-// Whether words i, j, k refute the table at the rows' depth.
-fn refutes(
+// Of l and the next words with its ending, the first that is in no run before the one that starts at a.
+fn reach(starts: &[u16; MOST_WORDS], next: &[u16; MOST_WORDS], w: usize, a: u16, l: usize) -> usize
+    requires { ⌜ (w ≤ mostWords) × Ahead w (now next) ⌝ }
+    ensures { λ r. ⌜ ((firsts : List ℕ) → Chained w firsts (now (next .entry)) → Reached w (now (starts .entry)) firsts a l r) ⌝ }
+{
+    let mut word = l;
+    while before_run(starts, w, a, word) {
+        word = wide(next[word]);
+    }
+    word
+}
+
+// The first word with i's ending whose run lacks the ending of j, or w or more if there is none. Where the first words with these endings
+// are of one run, and before i, there is none: with them it would be a witness that begins before i.
+fn first_lacking(
     starts: &[u16; MOST_WORDS],
     firsts: &[u16; MOST_WORDS],
+    next: &[u16; MOST_WORDS],
     w: usize,
     i: usize,
     j: usize,
-    k: usize,
-) -> bool
-    requires { ⌜ SearchRows w (now starts) (now firsts) × (i < w) × (j < w) × (k < w) ⌝ }
-    ensures { λ r. ⌜ r ≡ refutesIn (now (starts .entry)) (now (firsts .entry)) w i j k ⌝ }
-{
-    if starts[i] != starts[j] {
-        return false;
-    }
-    if firsts[i] != firsts[k] {
-        return false;
-    }
-    !has_ending(starts, firsts, w, k, j)
-}
-
-// One more where the numbers are equal.
-fn more_if_equal(j: usize, x: u16, y: u16) -> usize
-    requires { ⌜ j < mostWords ⌝ }
-    ensures { λ r. ⌜ r ≡ j + one-if (eqb x y) ⌝ }
-{
-    if x == y { j + 1 } else { j }
-}
-
-// True only if each ending of i's run is in k's. Endings ascend along a run, so one walk along both runs tells.
-fn run_within(
-    starts: &[u16; MOST_WORDS],
-    firsts: &[u16; MOST_WORDS],
-    w: usize,
-    i: usize,
-    k: usize,
-) -> bool
-    requires { ⌜ SearchRows w (now starts) (now firsts) × (i < w) × (k < w) ⌝ }
-    ensures { λ r. ⌜ (r ≡ true → Within (now (starts .entry)) (now (firsts .entry)) w i k) ⌝ }
-{
-    let a = starts[i];
-    let b = starts[k];
-    let mut j = wide(a);
-    let mut l = wide(b);
-    loop {
-        if !in_run(starts, w, a, j) {
-            return true;
-        }
-        if !in_run(starts, w, b, l) {
-            return false;
-        }
-        j = more_if_equal(j, firsts[l], firsts[j]);
-        l += 1;
-    }
-}
-
-// True only if k has another ending than i, or each ending of i's run is in k's.
-fn within_if_alike(
-    starts: &[u16; MOST_WORDS],
-    firsts: &[u16; MOST_WORDS],
-    w: usize,
-    i: usize,
-    k: usize,
-) -> bool
-    requires { ⌜ SearchRows w (now starts) (now firsts) × (i < w) × (k < w) ⌝ }
-    ensures { λ r. ⌜ (r ≡ true → at (now (firsts .entry)) i ≡ at (now (firsts .entry)) k
-        → Within (now (starts .entry)) (now (firsts .entry)) w i k) ⌝ }
-{
-    if firsts[i] != firsts[k] {
-        return true;
-    }
-    run_within(starts, firsts, w, i, k)
-}
-
-// True only if no witness begins with i, where none begins with an earlier word. If an earlier word has the ending of i and its run has all
-// endings of i's run, then a witness that begins with i would give one that begins with that word. Otherwise all runs with i's ending are
-// looked at.
-fn begins_none(starts: &[u16; MOST_WORDS], firsts: &[u16; MOST_WORDS], w: usize, i: usize) -> bool
-    requires { ⌜ SearchRows w (now starts) (now firsts) × (i < w) ⌝ }
-    ensures { λ r. ⌜ (r ≡ true → NoneBefore (refutesIn (now (starts .entry)) (now (firsts .entry)) w) w i
-        → NoneFrom (refutesIn (now (starts .entry)) (now (firsts .entry)) w) w i) ⌝ }
-{
-    let first = wide(firsts[i]);
-    if first < i {
-        return run_within(starts, firsts, w, i, first);
-    }
-    let mut k = i + 1;
-    while k < w {
-        if !within_if_alike(starts, firsts, w, i, k) {
-            return false;
-        }
-        k += 1;
-    }
-    true
-}
-
-// The next word, i or a later one, from which a witness may begin.
-fn next_candidate(
-    starts: &[u16; MOST_WORDS],
-    firsts: &[u16; MOST_WORDS],
-    w: usize,
-    i: usize,
 ) -> usize
-    requires { ⌜ SearchRows w (now starts) (now firsts) × NoneBefore (refutesIn (now starts) (now firsts) w) w i ⌝ }
-    ensures { λ r. ⌜ Next (refutesIn (now (starts .entry)) (now (firsts .entry)) w) w i r ⌝ }
+    requires { ⌜ Asked w (now starts) (now firsts) (now next) i j ⌝ }
+    ensures { λ r. ⌜ FirstWith (refutesIn (now (starts .entry)) (now (firsts .entry)) w) w i j r ⌝ }
 {
-    let mut next = i;
-    while next < w {
-        if !begins_none(starts, firsts, w, next) {
-            return next;
-        }
-        next += 1;
+    let mut k = wide(firsts[i]);
+    let mut l = wide(firsts[j]);
+    if in_run(starts, i, starts[l], k) {
+        return w;
     }
-    next
+    while k < w {
+        let a = starts[k];
+        l = reach(starts, next, w, a, l);
+        if !in_run(starts, w, a, l) {
+            return k;
+        }
+        k = wide(next[k]);
+    }
+    k
 }
 
-// The first i, then j, then k that refute the table. No j before i's run begins like i, and no k before the first word with i's ending ends
-// like i.
+// Whether j is to be tried with i: it is of i's run, and one of them is the run's first word. If that word begins no witness, another word
+// of its run begins one only together with it.
+fn to_try(starts: &[u16; MOST_WORDS], w: usize, i: usize, j: usize) -> bool
+    requires { ⌜ (w ≤ mostWords) × (i < w) ⌝ }
+    ensures { λ r. ⌜ r ≡ toTry (now (starts .entry)) w i j ⌝ }
+{
+    let start = starts[i];
+    let a = wide(start);
+    if a < i {
+        return j == a;
+    }
+    in_run(starts, w, start, j)
+}
+
+// The first i, then j, then k that refute the table. All words with an ending are gone along only for its first word: so the search takes a
+// few steps for each word, whatever the table is.
 fn first_witness(starts: &[u16; MOST_WORDS], firsts: &[u16; MOST_WORDS], w: usize) -> Witness
     requires { ⌜ SearchRows w (now starts) (now firsts) ⌝ }
     ensures { λ r. ⌜ FirstIn (refutesIn (now (starts .entry)) (now (firsts .entry)) w) w r ⌝ }
 {
+    let mut next = [NOTHING; MOST_WORDS];
+    put_next(firsts, w, &mut next);
     let mut i: usize = 0;
     'search: loop {
-        i = next_candidate(starts, firsts, w, i);
         if i >= w {
             break Witness::Nothing;
         }
         let mut j = wide(starts[i]);
-        while j < w {
-            let mut k = wide(firsts[i]);
-            while k < w {
-                if refutes(starts, firsts, w, i, j, k) {
-                    break 'search Witness::At(i, j, k);
-                }
-                k += 1;
+        while to_try(starts, w, i, j) {
+            let k = first_lacking(starts, firsts, &next, w, i, j);
+            if k < w {
+                break 'search Witness::At(i, j, k);
             }
             j += 1;
         }

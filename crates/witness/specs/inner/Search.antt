@@ -25,6 +25,11 @@ module _ (test : ℕ → ℕ → ℕ → Bool) (w : ℕ) where
     pub le : i ≤ w
     pub none : (x : ℕ) → x < i → NoneFrom x
 
+  -- k is the first that passes with i and j, or none does and k is no word
+  pub record FirstWith (i j k : ℕ) : Type 0 where
+    pub none : (z : ℕ) → z < k → z < w → test i j z ≡ false
+    pub passes : k < w → test i j k ≡ true
+
   pub record FirstAt (i j k : ℕ) : Type 0 where
     pub below : (i < w) × (j < w) × (k < w)
     pub passes : test i j k ≡ true
@@ -35,8 +40,3 @@ module _ (test : ℕ → ℕ → ℕ → Bool) (w : ℕ) where
   abbrev pub FirstIn : Witness → Type 0
   FirstIn (At i j k) = FirstAt i j k
   FirstIn Nothing = NoneBefore w
-
-  -- words from `low` to i, and all before, begin no triple that passes
-  pub record Next (low i : ℕ) : Type 0 where
-    pub from : low ≤ i
-    pub before : NoneBefore i
