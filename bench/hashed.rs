@@ -1,6 +1,7 @@
 //! Merging as one would write it with hash maps: at each inner depth the endings of each beginning are collected, and beginnings with the same endings
 //! share a vertex. A table is not rectangular at a depth if an ending stands at two vertices.
 
+use super::access::Checked;
 use super::reading::{Words, read};
 use link_kit::Merged;
 use std::collections::{BTreeSet, HashMap};
@@ -12,17 +13,19 @@ fn vertices(words: &Words, t: usize) -> Option<Vec<u16>> {
     let mut endings: HashMap<(u8, u16), Vec<Ending>> = HashMap::new();
     for i in 0..words.count {
         endings
-            .entry(words.beginning(i, t))
+            .entry(words.beginning::<Checked>(i, t))
             .or_default()
-            .push(words.ending(i, t));
+            .push(words.ending::<Checked>(i, t));
     }
     let mut numbers: HashMap<&[Ending], u16> = HashMap::new();
     let mut owners: HashMap<Ending, u16> = HashMap::new();
     let mut row = Vec::with_capacity(words.count);
     for i in 0..words.count {
         let next = numbers.len() as u16;
-        let vertex = *numbers.entry(&endings[&words.beginning(i, t)]).or_insert(next);
-        if *owners.entry(words.ending(i, t)).or_insert(vertex) != vertex {
+        let vertex = *numbers
+            .entry(&endings[&words.beginning::<Checked>(i, t)])
+            .or_insert(next);
+        if *owners.entry(words.ending::<Checked>(i, t)).or_insert(vertex) != vertex {
             return None;
         }
         row.push(vertex);
@@ -40,12 +43,12 @@ fn outer(states: &[u8]) -> (Vec<u16>, Vec<u16>) {
 
 /// The edges of each step in order.
 fn edges(words: &Words, rows: &[Vec<u16>]) -> Vec<BTreeSet<(u16, u16, u16)>> {
-    let step = |t: usize| (0..words.count).map(move |i| (rows[t][i], words.symbol(i, t), rows[t + 1][i]));
+    let step = |t: usize| (0..words.count).map(move |i| (rows[t][i], words.symbol::<Checked>(i, t), rows[t + 1][i]));
     (0..words.n).map(|t| step(t).collect()).collect()
 }
 
 pub fn merge(file: &[u8], map: &mut [u16], section: &mut [u16]) -> Merged {
-    let words = match read(file) {
+    let words = match read::<Checked>(file) {
         Ok(words) => words,
         Err(refusal) => return refusal,
     };

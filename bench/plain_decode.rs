@@ -1,101 +1,16 @@
-//! Decoding in plain Rust by the kit's own algorithm: each section is checked; over the edges, from the last block to the first, a number is kept at each
-//! vertex that ranks distance, label and goal; and forward the words that the least numbers hold are followed.
+//! Decoding in plain Rust by the kit's own algorithm: each section is checked; over the edges, from the last block to the first, a number is kept at
+//! each vertex that ranks distance, label and goal; and forward the words that the least numbers hold are followed.
 
+use super::access::Access;
+use super::plain_section::Section;
 use link_kit::{COSTS_A_BLOCK, Decoded, Frame, NO_COST, Room};
 
-/// The parts of a section at the front of some numbers.
-#[derive(Clone, Copy)]
-struct Section<'a> {
-    q: u16,
-    n: usize,
-    states: u16,
-    vertices: &'a [u16],
-    edges: &'a [u16],
-    roots: &'a [u16],
-    goals: &'a [u16],
-    pairs: &'a [u16],
-    symbols: &'a [u16],
-    length: usize,
-}
+/// A number is distance·2^22 + label·2^6 + goal.
+const WORD_BITS: usize = 22;
+const GOAL_BITS: usize = 6;
 
-fn within(numbers: &[u16], least: u16, most: u16) -> bool {
-    numbers.iter().all(|x| (least..=most).contains(x))
-}
-
-impl<'a> Section<'a> {
-    /// The section by its own counts, if its sizes and counts are in bounds and it is not cut short.
-    fn split(numbers: &'a [u16]) -> Option<Section<'a>> {
-        let sizes = numbers.get(..3)?;
-        let n = sizes[1] as usize;
-        if !within(&sizes[..1], 2, 4) || !within(&sizes[1..2], 1, 8) || !within(&sizes[2..], 1, 64) {
-            return None;
-        }
-        let counts = numbers.get(3..4 + 2 * n).filter(|counts| within(counts, 1, 1024))?;
-        let (vertices, edges) = counts.split_at(n + 1);
-        let total: usize = edges.iter().map(|&count| count as usize).sum();
-        let (roots, goals) = (vertices[0] as usize, vertices[n] as usize);
-        let length = 4 + 2 * n + roots + goals + 3 * total;
-        let rest = numbers.get(4 + 2 * n..length)?;
-        let (roots, rest) = rest.split_at(roots);
-        let (goals, rest) = rest.split_at(goals);
-        let (pairs, symbols) = rest.split_at(2 * total);
-        let (q, states) = (sizes[0], sizes[2]);
-        Some(Section {
-            q,
-            n,
-            states,
-            vertices,
-            edges,
-            roots,
-            goals,
-            pairs,
-            symbols,
-            length,
-        })
-    }
-
-    fn edge(&self, i: usize) -> (u16, u16, u16) {
-        (self.pairs[2 * i], self.symbols[i], self.pairs[2 * i + 1])
-    }
-
-    fn is_usable(&self) -> bool {
-        let rises = |states: &[u16]| within(states, 0, self.states - 1) && states.is_sorted_by(|a, b| a < b);
-        let mut lo = 0;
-        let mut step_right = |t: usize| {
-            let hi = lo + self.edges[t] as usize;
-            let right = self.is_step_right(t, lo, hi);
-            lo = hi;
-            right
-        };
-        rises(self.roots) && rises(self.goals) && (0..self.n).all(&mut step_right)
-    }
-
-    fn is_step_right(&self, t: usize, lo: usize, hi: usize) -> bool {
-        let (froms, tos) = (self.vertices[t], self.vertices[t + 1]);
-        let (mut left, mut reached) = ([false; 1024], [false; 1024]);
-        let (mut onward, mut inward) = ([NO_VERTEX; 4096], [NO_VERTEX; 4096]);
-        let mut before = None;
-        for i in lo..hi {
-            let (from, symbol, to) = self.edge(i);
-            if from >= froms || to >= tos || symbol >= self.q || before >= Some((from, symbol, to)) {
-                return false;
-            }
-            before = Some((from, symbol, to));
-            left[from as usize] = true;
-            reached[to as usize] = true;
-            let next = &mut onward[4 * from as usize + symbol as usize];
-            let last = &mut inward[4 * to as usize + symbol as usize];
-            let twins = t + 1 < self.n && *next != NO_VERTEX && *next != to;
-            if twins || t > 0 && *last != NO_VERTEX && *last != from {
-                return false;
-            }
-            (*next, *last) = (to, from);
-        }
-        left[..froms as usize].iter().all(|&has| has) && reached[..tos as usize].iter().all(|&has| has)
-    }
-}
-
-const NO_VERTEX: u16 = u16::MAX;
+/// The number of no path: what a block adds to it stays above all others, and below 2^64.
+const NO_PATH: u64 = 1 << 62;
 
 /// What was received over one block.
 #[derive(Clone, Copy)]
@@ -118,46 +33,68 @@ impl Heard {
         self.label as u32 >> (2 * n) == 0 && self.mask as u32 >> n == 0 && (0..n).all(right)
     }
 
-    /// What each symbol of each step adds: its cost, and below it its place in the label.
-    fn prices(self, n: usize) -> [[u64; 4]; 8] {
-        let mut prices = [[0; 4]; 8];
-        for (t, step) in prices[..n].iter_mut().enumerate() {
-            for (symbol, price) in (0..).zip(step) {
-                let cost = (self.is_erased(n, t) || self.symbol(n, t) != symbol) as u64;
-                *price = cost << 32 | (symbol as u64) << (2 * (n - 1 - t) + 16);
-            }
-        }
-        prices
+    /// What each symbol of a step adds: its cost, and below it its place in the label.
+    fn prices(self, n: usize, t: usize) -> [u64; 4] {
+        [0, 1, 2, 3].map(|symbol| {
+            let cost = (self.is_erased(n, t) || self.symbol(n, t) != symbol) as u64;
+            cost << WORD_BITS | (symbol as u64) << (2 * (n - 1 - t) + GOAL_BITS)
+        })
     }
 }
 
-type Rows = [[u64; 1024]; 9];
+/// Of the depths only two are needed at a time: even ones have the first row, odd ones the second.
+type Rows = [[u64; 1024]; 2];
 
-/// The least number from each vertex of a section, where `after` is what it costs to go on from each state.
-fn sweep(section: &Section, prices: &[[u64; 4]; 8], after: &[u32], rows: &mut Rows) {
-    for (place, &goal) in rows[section.n].iter_mut().zip(section.goals) {
-        let cost = after[goal as usize];
-        *place = if cost == NO_COST {
-            u64::MAX
+/// The row of a depth, and the row of the next.
+fn two_rows(rows: &mut Rows, t: usize) -> (&mut [u64; 1024], &[u64; 1024]) {
+    let [even, odd] = rows;
+    if t % 2 == 0 { (even, odd) } else { (odd, even) }
+}
+
+/// The numbers of the goals, where `after` is what it costs to go on from each state.
+fn put_goals<A: Access>(section: &Section, after: &[u32], rows: &mut Rows) {
+    let (row, _) = two_rows(rows, section.n);
+    for (place, &goal) in section.goals.iter().enumerate() {
+        let cost = A::get(after, goal as usize);
+        let number = if cost == NO_COST {
+            NO_PATH
         } else {
-            (cost as u64) << 32 | goal as u64
+            (cost as u64) << WORD_BITS | goal as u64
         };
+        A::put(row, place, number);
     }
+}
+
+/// The least number from each vertex of a section down to its roots.
+fn sweep<A: Access>(section: &Section, heard: Heard, rows: &mut Rows) {
     let mut hi = section.symbols.len();
     for t in (0..section.n).rev() {
         let lo = hi - section.edges[t] as usize;
-        let (front, back) = rows.split_at_mut(t + 1);
-        let (here, next) = (&mut front[t], &back[0]);
-        here[..section.vertices[t] as usize].fill(u64::MAX);
-        for (pair, &symbol) in section.pairs[2 * lo..2 * hi]
-            .chunks_exact(2)
-            .zip(&section.symbols[lo..hi])
-        {
-            let number = next[pair[1] as usize].saturating_add(prices[t][symbol as usize]);
-            let least = &mut here[pair[0] as usize];
-            *least = number.min(*least);
+        let prices = heard.prices(section.n, t);
+        let (here, next) = two_rows(rows, t);
+        here[..section.vertices[t] as usize].fill(NO_PATH);
+        let pairs = section.pairs[2 * lo..2 * hi].chunks_exact(2);
+        for (pair, &symbol) in pairs.zip(&section.symbols[lo..hi]) {
+            let number = A::get(next, pair[1] as usize) + A::get(&prices, symbol as usize);
+            let least = A::get(here, pair[0] as usize);
+            A::put(here, pair[0] as usize, number.min(least));
         }
         hi = lo;
+    }
+}
+
+/// The costs of one block, and for each state the word picked.
+fn put_roots<A: Access>(section: &Section, rows: &Rows, costs: &mut [u32], picks: &mut [u32]) {
+    costs.fill(NO_COST);
+    for (place, &root) in section.roots.iter().enumerate() {
+        let number = A::get(&rows[0], place);
+        let cost = if number < NO_PATH {
+            (number >> WORD_BITS) as u32
+        } else {
+            NO_COST
+        };
+        A::put(costs, root as usize, cost);
+        A::put(picks, root as usize, number as u32 % (1 << WORD_BITS));
     }
 }
 
@@ -211,45 +148,48 @@ fn heard(frame: &Frame, b: usize) -> Heard {
     Heard { label, mask }
 }
 
-fn search(frame: &Frame, room: Room, sections: &[Option<Section>; 16]) -> Decoded {
+type Picks = [u32; COSTS_A_BLOCK * 256];
+
+/// Backward: the cost table, and the picks.
+fn fill_table<A: Access>(frame: &Frame, sections: &[Option<Section>; 16], costs: &mut [u32], picks: &mut Picks) {
     let blocks = frame.indices.len();
-    let mut rows: Rows = [[u64::MAX; 1024]; 9];
-    let mut picks = [0; COSTS_A_BLOCK * 256];
+    let mut rows: Rows = [[NO_PATH; 1024]; 2];
     let mut last = [NO_COST; COSTS_A_BLOCK];
     last[frame.end as usize] = 0;
     for b in (0..blocks).rev() {
-        let section = sections[frame.indices[b] as usize].expect("an index below K");
-        let prices = heard(frame, b).prices(section.n);
-        let (front, back) = room.costs.split_at_mut(COSTS_A_BLOCK * (b + 1));
-        sweep(&section, &prices, if b + 1 < blocks { back } else { &last }, &mut rows);
-        let here = &mut front[COSTS_A_BLOCK * b..];
-        here.fill(NO_COST);
-        for (&root, &number) in section.roots.iter().zip(&rows[0]) {
-            here[root as usize] = (number >> 32) as u32;
-            picks[COSTS_A_BLOCK * b + root as usize] = number as u32;
-        }
+        let section = sections[frame.indices[b] as usize].as_ref().expect("an index below K");
+        let (front, back) = costs.split_at_mut(COSTS_A_BLOCK * (b + 1));
+        put_goals::<A>(section, if b + 1 < blocks { back } else { &last }, &mut rows);
+        sweep::<A>(section, heard(frame, b), &mut rows);
+        let lo = COSTS_A_BLOCK * b;
+        put_roots::<A>(section, &rows, &mut front[lo..], &mut picks[lo..lo + COSTS_A_BLOCK]);
     }
+}
+
+fn search<A: Access>(frame: &Frame, room: Room, sections: &[Option<Section>; 16]) -> Decoded {
+    let mut picks = [0; COSTS_A_BLOCK * 256];
+    fill_table::<A>(frame, sections, room.costs, &mut picks);
     let distance = room.costs[frame.start as usize];
     if distance == NO_COST {
         return Decoded::NoPath;
     }
     let mut state = frame.start;
-    for b in 0..blocks {
-        let pick = picks[COSTS_A_BLOCK * b + state as usize];
-        room.labels[b] = (pick >> 16) as u16;
-        room.goals[b] = pick as u8;
-        state = room.goals[b];
+    for b in 0..frame.indices.len() {
+        let pick = A::get(&picks, COSTS_A_BLOCK * b + state as usize);
+        state = (pick % (1 << GOAL_BITS)) as u8;
+        A::put(room.labels, b, (pick >> GOAL_BITS) as u16);
+        A::put(room.goals, b, state);
     }
     Decoded::Distance(distance as usize)
 }
 
-pub fn decode(frame: &Frame, room: Room) -> Decoded {
+pub fn decode<A: Access>(frame: &Frame, room: Room) -> Decoded {
     let sections = match sections_of(frame) {
         Ok(sections) => sections,
         Err(refusal) => return refusal,
     };
     match check(frame, &room, &sections) {
-        Ok(()) => search(frame, room, &sections),
+        Ok(()) => search::<A>(frame, room, &sections),
         Err(refusal) => refusal,
     }
 }

@@ -1,5 +1,6 @@
-//! A table file read into words, with document 01's checks 1 to 4: what both plain ways of merging begin with.
+//! A table file read into words, with document 01's checks 1 to 4: what the plain ways of merging begin with.
 
+use super::access::Access;
 use super::common::tables::size_outside;
 use link_kit::Merged;
 
@@ -14,35 +15,36 @@ pub struct Words {
 }
 
 impl Words {
-    pub fn symbol(&self, i: usize, t: usize) -> u16 {
-        self.labels[i] >> (2 * (self.n - 1 - t)) & 3
+    pub fn symbol<A: Access>(&self, i: usize, t: usize) -> u16 {
+        A::get(&self.labels, i) >> (2 * (self.n - 1 - t)) & 3
     }
 
     /// Root and first t symbols.
-    pub fn beginning(&self, i: usize, t: usize) -> (u8, u16) {
+    pub fn beginning<A: Access>(&self, i: usize, t: usize) -> (u8, u16) {
         // no shift by all 16 bits
-        (self.roots[i], (self.labels[i] as u32 >> (2 * (self.n - t))) as u16)
+        let front = A::get(&self.labels, i) as u32 >> (2 * (self.n - t));
+        (A::get(&self.roots, i), front as u16)
     }
 
     /// The other symbols and the goal.
-    pub fn ending(&self, i: usize, t: usize) -> (u16, u8) {
+    pub fn ending<A: Access>(&self, i: usize, t: usize) -> (u16, u8) {
         let rest = (1u32 << (2 * (self.n - t))) - 1;
-        (self.labels[i] & rest as u16, self.goals[i])
+        (A::get(&self.labels, i) & rest as u16, A::get(&self.goals, i))
     }
 
-    fn is_bad(&self, i: usize) -> bool {
-        let (label, states) = (self.labels[i] as u32, self.states as u8);
-        let symbols_fit = (0..self.n).all(|t| self.symbol(i, t) < self.q);
-        self.roots[i] >= states || self.goals[i] >= states || label >> (2 * self.n) != 0 || !symbols_fit
+    fn is_bad<A: Access>(&self, i: usize) -> bool {
+        let ((root, label, goal), states) = (self.word::<A>(i), self.states as u8);
+        let symbols_fit = (0..self.n).all(|t| self.symbol::<A>(i, t) < self.q);
+        root >= states || goal >= states || label as u32 >> (2 * self.n) != 0 || !symbols_fit
     }
 
-    fn word(&self, i: usize) -> (u8, u16, u8) {
-        (self.roots[i], self.labels[i], self.goals[i])
+    fn word<A: Access>(&self, i: usize) -> (u8, u16, u8) {
+        (A::get(&self.roots, i), A::get(&self.labels, i), A::get(&self.goals, i))
     }
 }
 
 /// The words of a file, or its refusal.
-pub fn read(file: &[u8]) -> Result<Words, Merged> {
+pub fn read<A: Access>(file: &[u8]) -> Result<Words, Merged> {
     if file.len() < 5 {
         return Err(Merged::Length(file.len()));
     }
@@ -67,10 +69,10 @@ pub fn read(file: &[u8]) -> Result<Words, Merged> {
         (words.roots[i], words.goals[i]) = (pair[0], pair[1]);
         words.labels[i] = u16::from_le_bytes([label[0], label[1]]);
     }
-    if let Some(i) = (0..count).find(|&i| words.is_bad(i)) {
+    if let Some(i) = (0..count).find(|&i| words.is_bad::<A>(i)) {
         return Err(Merged::Word(i));
     }
-    if let Some(i) = (1..count).find(|&i| words.word(i) <= words.word(i - 1)) {
+    if let Some(i) = (1..count).find(|&i| words.word::<A>(i) <= words.word::<A>(i - 1)) {
         return Err(Merged::Order(i));
     }
     Ok(words)

@@ -101,6 +101,16 @@ fn encoder(n: u8, states: usize, inputs: usize, step: impl Fn(usize, usize) -> (
     }
 }
 
+/// Case 3: two words of two symbols.
+pub fn case_3() -> Table {
+    Table {
+        q: 2,
+        n: 2,
+        states: 1,
+        words: vec![(0, 0b0000, 0), (0, 0b0101, 0)],
+    }
+}
+
 /// Case 9: the rate 2/3 section of document 004.
 pub fn case_9() -> Table {
     encoder(3, 4, 4, |root, goal| {

@@ -6,6 +6,7 @@ pub mod archive;
 pub mod codes;
 pub mod decoding;
 pub mod frames;
+pub mod hard;
 pub mod listing;
 pub mod merging;
 pub mod sections;
@@ -18,6 +19,13 @@ pub struct Numbers(u64);
 impl Numbers {
     pub fn new() -> Numbers {
         Numbers(2_685_821_657_736_338_717)
+    }
+
+    /// Another such sequence for each seed.
+    pub fn seeded(seed: usize) -> Numbers {
+        let mut numbers = Numbers::new();
+        numbers.0 ^= (seed as u64).wrapping_mul(0x9e37_79b9_7f4a_7c15);
+        numbers
     }
 
     fn next(&mut self) -> u64 {

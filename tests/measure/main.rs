@@ -1,6 +1,6 @@
 //! One call of the archive on a large argument, named by the first word after the program's name, for counting the instructions that it takes:
 //! `valgrind --tool=callgrind --callgrind-out-file=/dev/null --toggle-collect=link_merge target/bench/measure merge-sparse`.
-//! `bash bench/run` builds it.
+//! `merge-hard FAMILY NUMBER..` takes a table of `tests/common/hard.rs`. `bash bench/run` builds it.
 
 #[path = "../common/mod.rs"]
 mod common;
@@ -8,9 +8,10 @@ mod common;
 use common::Numbers;
 use common::archive::{self, Answer, Buffers, Frame};
 use common::codes::case_9;
+use common::hard::hard;
 use common::merging::section_of;
 use common::sections::{Edge, Section, gather, spread, usable};
-use common::tables::{Table, Word, large_tables};
+use common::tables::{Table, large_tables};
 use std::collections::BTreeSet;
 
 fn merge(table: &Table) -> Answer {
@@ -33,38 +34,6 @@ fn sparse(numbers: &mut Numbers) -> Table {
         n: 8,
         states: 64,
         words: endings.iter().enumerate().map(word).collect(),
-    }
-}
-
-/// 1,024 words of which depth 1 refuses only the last three. Before them stand beginnings with the same `run` endings, and in front of these as many words
-/// with endings of their own as there is room for.
-fn refused_late(beginnings: usize, run: usize) -> Table {
-    let mut words: Vec<Word> = (0..1021 - beginnings * run).map(|i| (0, i as u16, 1)).collect();
-    for b in 0..beginnings {
-        words.extend((0..run).map(|e| ((1 + b / 4) as u8, (b % 4 * 16_384 + e) as u16, 0)));
-    }
-    words.extend([(62, 16_000, 9), (62, 16_001, 9), (63, 16_000, 9)]);
-    Table {
-        q: 4,
-        n: 8,
-        states: 64,
-        words,
-    }
-}
-
-/// Beginnings with the same `run` endings, the last of them with one ending more behind these: its first word is the first of a witness, its last one
-/// the second.
-fn refused_at_one_more(beginnings: usize, run: usize) -> Table {
-    let mut words: Vec<Word> = Vec::new();
-    for b in 0..beginnings {
-        words.extend((0..run).map(|e| (b as u8, e as u16, 0)));
-    }
-    words.push((beginnings as u8 - 1, run as u16, 0));
-    Table {
-        q: 4,
-        n: 8,
-        states: 64,
-        words,
     }
 }
 
@@ -122,8 +91,7 @@ fn main() {
         "merge-long" => merge(&long),
         "merge-wide" => merge(&wide),
         "merge-sparse" => merge(&sparse(&mut Numbers::new())),
-        "merge-refused" => merge(&refused_late(number(1), number(2))),
-        "merge-one-more" => merge(&refused_at_one_more(number(1), number(2))),
+        "merge-hard" => merge(&hard(&words[1], &(2..words.len()).map(number).collect::<Vec<usize>>())),
         "read-long" => read_back(section_of(&long), 0),
         "read-largest" => read_back(largest(number(1) as u16).numbers(), number(2)),
         "decode-case-9" => decode(section_of(&case_9()), number(1)),

@@ -1,0 +1,112 @@
+//! The calls that are measured, and the ways in which each is done: the kit's first.
+
+use super::access::{Checked, Unchecked};
+use super::common::archive::{Buffers, Frame};
+use super::common::codes::{benchmarked, case_3};
+use super::common::hard::hard;
+use super::common::tables::Table;
+use super::common::{Numbers, frames};
+use super::measuring::Job;
+use super::{hashed, plain_decode, plain_merge};
+use link_kit::{ANY_MAP, ANY_SECTION, Decoded, Merged, Room};
+
+pub const BLOCKS: usize = 256;
+
+type Merging = fn(&[u8], &mut [u16], &mut [u16]) -> Merged;
+type Decoding = fn(&link_kit::Frame, Room) -> Decoded;
+
+pub const NAMES: [&str; 4] = ["kit", "safe", "unchecked", "hash map"];
+
+/// All but the last find the words of a refusal too.
+const MERGING: [Merging; 4] = [
+    link_kit::merge,
+    plain_merge::merge::<Checked>,
+    plain_merge::merge::<Unchecked>,
+    hashed::merge,
+];
+const DECODING: [Decoding; 3] = [
+    link_kit::decode,
+    plain_decode::decode::<Checked>,
+    plain_decode::decode::<Unchecked>,
+];
+
+fn merge_job(table: &Table, merge: Merging) -> Job {
+    let (file, mut map, mut section) = (table.file(), vec![0; ANY_MAP], vec![0; ANY_SECTION]);
+    Box::new(move || {
+        std::hint::black_box(merge(&file, &mut map, &mut section));
+    })
+}
+
+/// Merging by the kit alone.
+pub fn kit_merges(table: &Table) -> Job {
+    merge_job(table, link_kit::merge)
+}
+
+/// A chain of blocks over one code, received with errors and erasures, and its first block alone.
+fn chain(table: &Table) -> [Frame; 2] {
+    let ends = [table.words[0].0, table.words[0].2];
+    let whole = frames::over(&[table.clone()], ends, BLOCKS, usize::MAX, &mut Numbers::new());
+    let mut block = whole.clone();
+    block.indices.truncate(1);
+    block.received.truncate(1);
+    block.erased.truncate(1);
+    [whole, block]
+}
+
+fn room_for(frame: &Frame) -> Buffers {
+    let blocks = frame.indices.len();
+    Buffers::new(64 * blocks, blocks, blocks)
+}
+
+fn decode_jobs(frame: &Frame) -> [Job; 3] {
+    DECODING.map(|decode| {
+        let (frame, mut buffers) = (frame.clone(), room_for(frame));
+        let job: Job = Box::new(move || {
+            std::hint::black_box(decode(&frame.lent(), buffers.lent()));
+        });
+        job
+    })
+}
+
+/// The jobs of a call in all its ways, for words that name it: `merge CODE`; `decode CODE`, a chain in all ways and then its first block; `frame`,
+/// one block of case 3; `refuse FAMILY NUMBER..`.
+pub fn jobs(words: &[String]) -> Vec<Job> {
+    let number = |word: &String| word.parse::<usize>().expect("a number");
+    let code = |word: &String| benchmarked()[number(word)].1.clone();
+    match words[0].as_str() {
+        "merge" => MERGING.map(|merge| merge_job(&code(&words[1]), merge)).into(),
+        "decode" => chain(&code(&words[1])).iter().flat_map(decode_jobs).collect(),
+        "frame" => decode_jobs(&chain(&case_3())[1]).into(),
+        "refuse" => {
+            let table = hard(&words[1], &words[2..].iter().map(number).collect::<Vec<usize>>());
+            MERGING[..3].iter().map(|&merge| merge_job(&table, merge)).collect()
+        }
+        other => panic!("{other} is no call of the kit"),
+    }
+}
+
+/// The first so many ways leave the same of a table; gives the kit's answer. Only then is it worth while to compare their times.
+pub fn merge_alike(table: &Table, ways: usize) -> Merged {
+    let left = |merge: &Merging| {
+        let (mut map, mut section) = (vec![7; ANY_MAP], vec![7; ANY_SECTION]);
+        (merge(&table.file(), &mut map, &mut section), map, section)
+    };
+    let (answer, map, section) = left(&MERGING[0]);
+    for merge in &MERGING[1..ways] {
+        assert!(left(merge) == (answer, map.clone(), section.clone()), "merging differs");
+    }
+    answer
+}
+
+/// The same of a code's chain and of its first block.
+pub fn decode_alike(table: &Table) {
+    for frame in chain(table) {
+        let left = DECODING.map(|decode| {
+            let mut buffers = room_for(&frame);
+            let answer = decode(&frame.lent(), buffers.lent());
+            assert_eq!(answer.number(), 0, "the chains have a path");
+            (answer, buffers)
+        });
+        assert!(left[0] == left[1] && left[0] == left[2], "decoding differs");
+    }
+}
