@@ -11,8 +11,10 @@ ghost use Rattle.paths.specs.inner.Ranked.{labelUnit, distanceUnit, topRank, ra
 ghost use Rattle.section_file.specs.inner.View.{Seen};
 ghost use Rattle.sweep.specs.inner.Rows.{side};
 ghost use Rattle.passes.specs.inner.Blocks.{Passed};
+ghost use Rattle.passes.specs.inner.Chains.{Followed, FollowedTo};
 ghost use Rattle.passes.specs.inner.Loops.{GoalsRanked, RootsAsked, RootsPut};
 use numbers::wide;
+use numbers::widened;
 use paths::DISTANCE_UNIT;
 use paths::LABEL_UNIT;
 use paths::TOP_RANK;
@@ -131,15 +133,39 @@ pub fn pass_block(
 }
 
 // The label and the goal of a pick.
-pub fn label_of(pick: u32) -> u16
+fn label_of(pick: u32) -> u16
     requires { ⌜ pick < distanceUnit ⌝ }
     ensures { λ r. ⌜ r ≡ pick / labelUnit ⌝ }
 {
     (pick / (LABEL_UNIT as u32)) as u16
 }
 
-pub fn goal_of(pick: u32) -> u8
+fn goal_of(pick: u32) -> u8
     ensures { λ r. ⌜ r ≡ pick % labelUnit ⌝ }
 {
     (pick % (LABEL_UNIT as u32)) as u8
+}
+
+// The first path of least cost from state `start`: writes the labels and goals of its words, by the picks.
+pub fn follow(
+    blocks: usize,
+    start: usize,
+    picks: &[u32],
+    labels: &mut [u16],
+    goals: &mut [u8],
+)
+    requires { ⌜ Followed blocks start (now picks) (now labels) (now goals) ⌝ }
+    ensures { λ _. ⌜ FollowedTo blocks start (now (picks .entry)) (now (labels .entry)) (now (labels .exit)) (now (goals .entry))
+        (now (goals .exit)) ⌝ }
+{
+    let mut s = start;
+    let mut b: usize = 0;
+    while b < blocks {
+        let pick = picks[COSTS_A_BLOCK * b + s];
+        let goal = goal_of(pick);
+        labels[b] = label_of(pick);
+        goals[b] = goal;
+        s = widened(goal);
+        b += 1;
+    }
 }

@@ -270,7 +270,7 @@ module _ {ws : List Word} {price : Word → ℕ} {edges : ℕ → List Edge} {n 
   pub ranked-pick : (v : ℕ) → v ∈ roots → leastOver ws price unreached left (rootOf v) < unreached
       → Pick ws price left (rootOf v) (rankFrom v % distanceUnit)
   unfolding firstOver wordOf
-  ranked-pick v m h = record { goal-lt = subst (λ x. x < mostStates) (K .goal-is) (M .goal-lt); first = first ∙ ap just same }
+  ranked-pick v m h = record { small = omega arith; goal-lt = subst (λ x. x < mostStates) (K .goal-is) (M .goal-lt); first = first ∙ ap just same }
     where
       c : ℕ
       c = leastOver ws price unreached left (rootOf v)

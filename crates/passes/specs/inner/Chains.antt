@@ -10,7 +10,7 @@ use Rattle.trellis.specs.Bounds.{mostStates, costsABlock}
 use Rattle.trellis.specs.Word.{Word, word, wordAt}
 use Rattle.paths.specs.Chain.{unreached}
 use Rattle.paths.specs.inner.Chains.{chainLeast, chainTrace}
-use Rattle.paths.specs.inner.Ranked.{labelUnit}
+use Rattle.paths.specs.inner.Ranked.{labelUnit, distanceUnit}
 
 pub record Chain : Type 0 where
   pub words : ℕ → List Word
@@ -28,22 +28,23 @@ module _ (C : Chain) where
   pathFrom b s = chainTrace (C .words) (C .ends) (C .price) unreached (C .blocks - b) b s
 
   -- the least costs from the states before block b
-  abbrev pub LeftAt : ℕ → List ℕ → Type 0
-  LeftAt b left = (s : ℕ) → s < mostStates → getD left s 0 ≡ leastFrom b s
+  pub record LeftAt (b : ℕ) (left : List ℕ) : Type 0 where
+    pub at : (s : ℕ) → s < mostStates → getD left s 0 ≡ leastFrom b s
 
   -- the path from state s before block b begins with the word whose label and goal are in this number
   pub record PickAt (b s pick : ℕ) : Type 0 where
+    pub small : pick < distanceUnit
     pub goal-lt : pick % labelUnit < mostStates
     pub path : pathFrom b s ≡ word s (pick / labelUnit) (pick % labelUnit) ∷ pathFrom (suc b) (pick % labelUnit)
 
   -- where there is a path from a state before block b or a later one, its first word is picked
-  abbrev pub Picked : ℕ → List ℕ → Type 0
-  Picked b picks = (c s : ℕ) → b ≤ c → c < C .blocks → s < mostStates → leastFrom c s < unreached
-      → PickAt c s (getD picks (costsABlock * c + s) 0)
+  pub record Picked (b : ℕ) (picks : List ℕ) : Type 0 where
+    pub at : (c s : ℕ) → b ≤ c → c < C .blocks → s < mostStates → leastFrom c s < unreached
+        → PickAt c s (getD picks (costsABlock * c + s) 0)
 
   -- the cost table from block b on
-  abbrev pub CostsFrom : ℕ → List ℕ → Type 0
-  CostsFrom b costs = (c s : ℕ) → b ≤ c → c < C .blocks → s < mostStates → getD costs (costsABlock * c + s) 0 ≡ leastFrom c s
+  pub record CostsFrom (b : ℕ) (costs : List ℕ) : Type 0 where
+    pub at : (c s : ℕ) → b ≤ c → c < C .blocks → s < mostStates → getD costs (costsABlock * c + s) 0 ≡ leastFrom c s
 
   -- the labels and goals of the first b words of the path from state `start` are written, and places beyond them are as they were
   pub record Written (start b : ℕ) (labels newLabels goals newGoals : List ℕ) : Type 0 where
@@ -69,3 +70,10 @@ pub record Followed (blocks start : ℕ) (picks labels goals : List ℕ) : Type 
   pub few : blocks ≤ 256
   pub labelsLong : blocks ≤ length labels
   pub goalsLong : blocks ≤ length goals
+
+-- whatever chain the picks are of, the path's labels and goals are written
+pub record FollowedTo (blocks start : ℕ) (picks labels newLabels goals newGoals : List ℕ) : Type 0 where
+  pub labelsLong : length newLabels ≡ length labels
+  pub goalsLong : length newGoals ≡ length goals
+  pub written : (C : Chain) → C .blocks ≡ blocks → Picked C 0 picks → leastFrom C 0 start < unreached
+      → Written C start blocks labels newLabels goals newGoals

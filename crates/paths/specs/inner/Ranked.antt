@@ -41,5 +41,6 @@ pub record Room (prices : List ℕ) : Type 0 where
 
 -- the first word of least cost from state s has the label and the goal that are in this number
 pub record Pick (ws : List Word) (price : Word → ℕ) (left : ℕ → ℕ) (s pick : ℕ) : Type 0 where
+  pub small : pick < distanceUnit
   pub goal-lt : pick % labelUnit < mostStates
   pub first : firstOver ws price unreached left s ≡ just (word s (pick / labelUnit) (pick % labelUnit))

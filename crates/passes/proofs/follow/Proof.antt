@@ -1,0 +1,88 @@
+-- `passes::follow` goes from block to block by the picks. The loop's invariant: whatever chain the picks are of, the words written are the
+-- beginning of its path, and what is left of the path starts in this state. The measure is how many blocks are left.
+use borrow.Author.Needs.{needs}
+use Prim.Native.Nat.{_-_}
+use Rattle.passes.proofs.Chains.{InFollow, follow-start, here, follow-more, follow-end}
+use Rattle.passes.proofs.follow.Statement.{statement}
+use Rattle.passes.proofs.follow.Tie as tie
+
+abbrev Inv-loop : tie.InvT-loop
+Inv-loop blocks start picks labels₀ goals₀ s₀ b₀ labels goals s b = InFollow blocks start picks labels₀ labels goals₀ goals b s
+
+abbrev μ-loop : tie.MeasureT-loop
+μ-loop blocks start picks labels₀ goals₀ s₀ b₀ labels goals s b = blocks - b
+
+loop-holds : tie.Need-loop-holds Inv-loop μ-loop
+loop-holds c = follow-start (c .before .before .before .pre)
+
+mul-pick : tie.Need-mul-pick Inv-loop μ-loop
+mul-pick c = search (needs, here (c .before .before .before .before .before .pre) (c .before .loop .inv) (c .loop-test .taken))
+
+add-pick : tie.Need-add-pick Inv-loop μ-loop
+add-pick c = search (needs, here (c .before .before .before .before .before .pre) (c .before .loop .inv) (c .loop-test .taken))
+
+mul-pick-2 : tie.Need-mul-pick-2 Inv-loop μ-loop
+mul-pick-2 c = search (needs, here (c .before .before .before .before .before .pre) (c .before .loop .inv) (c .loop-test .taken))
+
+shared-slice-read-pick : tie.Need-shared-slice-read-pick Inv-loop μ-loop
+shared-slice-read-pick c = search (needs, here (c .before .before .before .before .before .before .pre) (c .before .before .loop .inv) (c .before .loop-test .taken))
+
+goal-of-requires : tie.Need-goal-of-requires Inv-loop μ-loop
+goal-of-requires c κs = search needs
+
+label-of-requires : tie.Need-label-of-requires Inv-loop μ-loop
+label-of-requires c κs = search (needs, here (c .before .before .before .before .before .before .before .pre) (c .before .before .before .loop .inv) (c .before .before .loop-test .taken))
+
+mul-labels : tie.Need-mul-labels Inv-loop μ-loop
+mul-labels c = search (needs, here (c .before .before .before .before .before .before .before .before .pre) (c .before .before .before .before .loop .inv) (c .before .before .before .loop-test .taken))
+
+slice-write-labels : tie.Need-slice-write-labels Inv-loop μ-loop
+slice-write-labels c = search (needs, here (c .before .before .before .before .before .before .before .before .pre) (c .before .before .before .before .loop .inv) (c .before .before .before .loop-test .taken))
+
+slice-write-goals : tie.Need-slice-write-goals Inv-loop μ-loop
+slice-write-goals c = search (needs, here (c .before .before .before .before .before .before .before .before .pre) (c .before .before .before .before .loop .inv) (c .before .before .before .loop-test .taken))
+
+widened-requires : tie.Need-widened-requires Inv-loop μ-loop
+widened-requires c κs = search needs
+
+add-b : tie.Need-add-b Inv-loop μ-loop
+add-b c = search needs
+
+loop-less : tie.Need-loop-less Inv-loop μ-loop
+loop-less c = search needs
+
+loop-again : tie.Need-loop-again Inv-loop μ-loop
+loop-again c = follow-more (c .before .before .before .before .before .before .before .before .before .pre) (c .before .before .before .before .before .loop .inv) (c .before .before .before .before .loop-test .taken) (c .before .label-of .ensures) (c .before .before .goal-of .ensures) (c .widened .ensures .0)
+
+same-length : tie.Need-same-length Inv-loop μ-loop
+same-length c = c .before .loop .inv .labelsLong
+
+same-length-2 : tie.Need-same-length-2 Inv-loop μ-loop
+same-length-2 c = c .before .loop .inv .goalsLong
+
+returns : tie.Need-returns Inv-loop μ-loop
+returns c = follow-end (c .before .loop .inv) (search needs)
+
+pub follow-spec : {M : Type 1} → statement M
+follow-spec =
+    tie.close
+    (tie.spec
+    Inv-loop
+    μ-loop
+    loop-holds
+    mul-pick
+    add-pick
+    mul-pick-2
+    shared-slice-read-pick
+    goal-of-requires
+    label-of-requires
+    mul-labels
+    slice-write-labels
+    slice-write-goals
+    widened-requires
+    add-b
+    loop-less
+    loop-again
+    same-length
+    same-length-2
+    returns)
