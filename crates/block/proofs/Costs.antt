@@ -5,14 +5,15 @@ use Prim.Native.Nat.{ℕ, zero, suc, _+_, _-_, _*_, _^_, _≤_, _<_}
 use native.Mathlib.Nat.{add-zero, mul-assoc, pow-suc, pow-le-pow-right, mul-le-mul}
 use native.Mathlib.Decide.{ℕ-discrete, decLt}
 use native.Mathlib.Omega.{arith}
-use mathlib.Core.Bool.{Bool}
-use lib.Dec.{lit<}
+use mathlib.Core.Bool.{Bool, true, false, not}
+use lib.Dec.{eqb, lit<}
 use lib.ListN.{length, getD, set, length-set}
 use lib.Seq.{getD-set-same, getD-set-other, set-out}
 use Rattle.trellis.specs.Bounds.{mostSymbols}
+use Rattle.trellis.specs.Lists.{one-if, sum}
 use Rattle.trellis.specs.Label.{symbol}
 use Rattle.paths.specs.inner.Ranked.{labelUnit, distanceUnit, topRank, ranked, rankedCost, Room}
-use Rattle.block.specs.Received.{erasedAt, costOver, symbolCost}
+use Rattle.block.specs.Received.{erasedAt, costOver, symbolCost, blockDistance}
 use Rattle.block.specs.inner.Prices.{Prices}
 
 -- what the symbols from t on add is there, and the next one's weight is known
@@ -152,3 +153,21 @@ prices-end I h = record { room = I .room; at = λ u a k. I .at u a (omega arith)
 
 pub symbol-least : (symbol weight : ℕ) → symbol ≤ 3 → weight ≤ distanceUnit → symbol * weight ≤ 12582912
 symbol-least symbol weight h k = let m : symbol * weight ≤ 3 * distanceUnit = mul-le-mul h k in m
+
+-- ---- the distance of a label: each symbol costs 1 at most
+
+pub block-at-most : (n received mask label : ℕ) → blockDistance n received mask label ≤ n
+unfolding blockDistance symbolCost sum
+block-at-most n received mask label = each n 0
+  where
+    one : (b : Bool) (r a : ℕ) → costOver b r a ≤ 1
+    one true r a = omega arith
+    one false r a = go (eqb a r)
+      where
+        go : (c : Bool) → one-if (not c) ≤ 1
+        go true = omega arith
+        go false = omega arith
+
+    each : (k t : ℕ) → sum (λ u. costOver (erasedAt n u mask) (symbol n u received) (symbol n u label)) t k ≤ k
+    each zero t = omega arith
+    each (suc k) t = let h = each k (suc t) in let l = one (erasedAt n t mask) (symbol n t received) (symbol n t label) in omega arith

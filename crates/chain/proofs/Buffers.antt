@@ -5,10 +5,11 @@ use mathlib.Core.List.{List}
 use Prim.Native.Nat.{ℕ, _*_, _≤_, _<_}
 use native.Mathlib.Decide.{decLt}
 use native.Mathlib.Omega.{arith}
-use lib.ListN.{length}
+use lib.ListN.{length, replicate, length-replicate}
 use borrow.Author.Tests.{lt-ltb, le-ltb}
-use Rattle.trellis.specs.Bounds.{costsABlock}
+use Rattle.trellis.specs.Bounds.{mostBlocks, costsABlock}
 use Rattle.chain.specs.Decoding.{neededOf}
+use Rattle.chain.specs.inner.Checked.{Room}
 
 module _ (blocks costs labels goals : ℕ) where
   pub needed-costs : costs < costsABlock * blocks → costsABlock * blocks ≡ neededOf blocks costs labels goals
@@ -27,13 +28,6 @@ module _ (blocks costs labels goals : ℕ) where
   unfolding neededOf
   needed-none h k l = simp (le-ltb costs (costsABlock * blocks) h, le-ltb labels blocks k, le-ltb goals blocks l)
 
--- no buffer is short
-pub record Room (indices costs labels goals : List ℕ) : Type 0 where
-  pub none-short : neededOf (length indices) (length costs) (length labels) (length goals) ≤ 0
-  pub forCosts : costsABlock * length indices ≤ length costs
-  pub forLabels : length indices ≤ length labels
-  pub forGoals : length indices ≤ length goals
-
 pub room-of : {indices costs labels goals : List ℕ} {n : ℕ} → 0 < length indices
     → n ≡ neededOf (length indices) (length costs) (length labels) (length goals) → n ≤ 0 → Room indices costs labels goals
 room-of {indices} {costs} {labels} {goals} {n} pos e h =
@@ -46,3 +40,7 @@ room-of {indices} {costs} {labels} {goals} {n} pos e h =
     go (no a) (yes b) c = let z = e ∙ sym (needed-labels _ _ _ _ (omega arith) b) in absurd (omega arith)
     go (no a) (no b) (yes c) = let z = e ∙ sym (needed-goals _ _ _ _ (omega arith) (omega arith) c) in absurd (omega arith)
     go (no a) (no b) (no c) = record { none-short = omega arith; forCosts = omega arith; forLabels = omega arith; forGoals = omega arith }
+
+-- so many picks are enough for every frame
+pub picks-enough : {blocks : ℕ} → blocks ≤ mostBlocks → costsABlock * blocks ≤ length (replicate {A = ℕ} (costsABlock * mostBlocks) 0)
+picks-enough h = omega (arith, length-replicate {A = ℕ} (costsABlock * mostBlocks) 0)

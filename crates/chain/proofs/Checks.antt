@@ -1,14 +1,14 @@
 -- The checks of the frame come out as the definition's: each test of the code is the next test of `frameBad`. A block's test reads the
--- section where its index says, which is the block's section; the blocks are tested in their order, so the first bad one is found.
-use mathlib.Core.Path.{_≡_, refl, sym, ap, subst, _∙_}
+-- view that its index names, which is that of the block's section; the blocks are tested in their order, so the first bad one is found.
+use mathlib.Core.Path.{_≡_, sym, ap, subst, _∙_}
 use mathlib.Core.Bool.{Bool, true, false, not, _&&_}
 use mathlib.Core.List.{List}
-use Prim.Native.Nat.{ℕ, _+_, _-_, _≤_, _<_}
+use Prim.Native.Nat.{ℕ, _+_, _≤_, _<_}
 use native.Mathlib.Nat.{not-suc-le-zero}
 use native.Mathlib.Decide.{ℕ-discrete}
 use native.Mathlib.Omega.{arith}
-use lib.Dec.{T, ltb, leb}
-use lib.ListN.{length, getD, take, drop}
+use lib.Dec.{ltb, leb}
+use lib.ListN.{length, getD}
 use borrow.Author.Tests.{lt-ltb, le-ltb, eq-eqb, ne-eqb, not-true, not-false, eqb-true, ltb-true}
 use Rattle.trellis.specs.Bounds.{mostStates, mostBlocks}
 use Rattle.trellis.specs.Lists.{first, within}
@@ -16,157 +16,174 @@ use Rattle.trellis.specs.Layout.{qOf, nOf}
 use Rattle.trellis.proofs.Bools.{holds, fails, is-true, is-false, both, neither}
 use Rattle.trellis.proofs.Lists.{first-is, first-ok}
 use Rattle.block.specs.Received.{fitsBlock}
-use Rattle.block.proofs.Masks.{clean-of}
 use Rattle.chain.specs.Sections.{sectionAt}
-use Rattle.chain.specs.Frame.{frameBad, blockSection, blockBad}
-use Rattle.chain.specs.inner.Checked.{AllFound, Framed, BlockGood, FrameChecked}
+use Rattle.chain.specs.Frame.{Frame, frame, blockCount, frameBad, blockSection, blockBad}
+use Rattle.section_file.specs.inner.View.{viewOf}
+use Rattle.section_file.specs.declared.View.{View}
+use Rattle.section_file.proofs.Usable.{usable-sound}
+use Rattle.chain.specs.inner.Loops.{SectionsFound, noView}
+use Rattle.chain.specs.inner.Checked.{Views, AllFound, Framed, FrameChecked}
 use Rattle.chain.proofs.Bounds.{within-of, at-least}
-use Rattle.chain.proofs.Starts.{Taken}
 
 -- ---- the frame
 
-module _ (indices received erased : List ℕ) (start end : ℕ) where
-  pub frame-many : {w : Bool} → w ≡ within 1 mostBlocks (length indices) → not w ≡ true → true ≡ frameBad indices received erased start end
+module _ (f : Frame) where
+  pub frame-many : {w : Bool} → w ≡ within 1 mostBlocks (blockCount f) → not w ≡ true → true ≡ frameBad f
   unfolding frameBad
   frame-many {w} e h = simp (sym e, not-true w h)
 
-  module _ {w : Bool} (e : w ≡ within 1 mostBlocks (length indices)) (h : not w ≡ false) where
-    pub frame-received : (length received ≡ length indices → ⊥) → true ≡ frameBad indices received erased start end
+  module _ {w : Bool} (e : w ≡ within 1 mostBlocks (blockCount f)) (h : not w ≡ false) where
+    pub frame-received : (length (f .received) ≡ blockCount f → ⊥) → true ≡ frameBad f
     unfolding frameBad
-    frame-received n = simp (sym e, not-false w h, ne-eqb (length received) (length indices) n)
+    frame-received n = simp (sym e, not-false w h, ne-eqb (length (f .received)) (blockCount f) n)
 
-    module _ (p : length received ≡ length indices) where
-      pub frame-erased : (length erased ≡ length indices → ⊥) → true ≡ frameBad indices received erased start end
+    module _ (p : length (f .received) ≡ blockCount f) where
+      pub frame-erased : (length (f .erased) ≡ blockCount f → ⊥) → true ≡ frameBad f
       unfolding frameBad
-      frame-erased n = simp (sym e, not-false w h, eq-eqb (length received) (length indices) p, ne-eqb (length erased) (length indices) n)
+      frame-erased n = simp (sym e, not-false w h, eq-eqb (length (f .received)) (blockCount f) p, ne-eqb (length (f .erased)) (blockCount f) n)
 
-      module _ (q : length erased ≡ length indices) where
-        pub frame-start : mostStates ≤ start → true ≡ frameBad indices received erased start end
+      module _ (q : length (f .erased) ≡ blockCount f) where
+        pub frame-start : mostStates ≤ f .start → true ≡ frameBad f
         unfolding frameBad
         frame-start n =
             simp (
               sym e,
               not-false w h,
-              eq-eqb (length received) (length indices) p,
-              eq-eqb (length erased) (length indices) q,
-              le-ltb start mostStates n,
+              eq-eqb (length (f .received)) (blockCount f) p,
+              eq-eqb (length (f .erased)) (blockCount f) q,
+              le-ltb (f .start) mostStates n,
             )
 
-        pub frame-end : start < mostStates → leb mostStates end ≡ frameBad indices received erased start end
+        pub frame-end : f .start < mostStates → leb mostStates (f .end) ≡ frameBad f
         unfolding frameBad
         frame-end n =
             simp (
               sym e,
               not-false w h,
-              eq-eqb (length received) (length indices) p,
-              eq-eqb (length erased) (length indices) q,
-              lt-ltb start mostStates n,
+              eq-eqb (length (f .received)) (blockCount f) p,
+              eq-eqb (length (f .erased)) (blockCount f) q,
+              lt-ltb (f .start) mostStates n,
             )
-            (at-least mostStates end)
+            (at-least mostStates (f .end))
 
-pub framed-of : {indices received erased : List ℕ} {start end : ℕ} {bad : Bool} → bad ≡ frameBad indices received erased start end
-    → bad ≡ false
-    → Framed indices received erased start end
+pub framed-of : {f : Frame} → frameBad f ≡ false → Framed f
 unfolding frameBad
-framed-of {indices} {received} {erased} {start} {end} e h =
-    let a = neither _ _ (sym e ∙ h) in
+framed-of {f} e =
+    let a = neither _ _ e in
     let b = neither _ _ (a .1) in
     let c = neither _ _ (b .1) in
     let d = neither _ _ (c .1) in
-    let w = within-of 1 mostBlocks (length indices) (not-false _ (a .0)) in
+    let w = within-of 1 mostBlocks (blockCount f) (not-false _ (a .0)) in
     record {
       some = w .0;
       many = w .1;
-      receivedLong = eqb-true (length received) (length indices) (not-false _ (b .0));
-      erasedLong = eqb-true (length erased) (length indices) (not-false _ (c .0));
-      startBelow = ltb-true start mostStates (not-false _ (d .0));
-      endBelow = ltb-true end mostStates (not-false _ (d .1));
+      receivedLong = eqb-true (length (f .received)) (blockCount f) (not-false _ (b .0));
+      erasedLong = eqb-true (length (f .erased)) (blockCount f) (not-false _ (c .0));
+      startBelow = ltb-true (f .start) mostStates (not-false _ (d .0));
+      endBelow = ltb-true (f .end) mostStates (not-false _ (d .1));
     }
 
 -- ---- one block
 
-module _ (sections indices received erased : List ℕ) (k b : ℕ) {i : ℕ} (e : i ≡ getD indices b 0) where
-  pub block-index : k ≤ i → true ≡ blockBad sections indices received erased k b
+module _ (f : Frame) (b : ℕ) {i : ℕ} (e : i ≡ getD (f .indices) b 0) where
+  block-index : f .k ≤ i → blockBad f b ≡ true
   unfolding blockBad
-  block-index h = simp (le-ltb (getD indices b 0) k (omega arith))
+  block-index h = simp (le-ltb (getD (f .indices) b 0) (f .k) (omega arith))
 
-  abbrev fits-with : ℕ → List ℕ → Bool
-  fits-with n l = fitsBlock n (getD received b 0) (getD erased b 0) (qOf l)
-
-  pub block-fits : {starts : List ℕ} {n : ℕ} {f : Bool} → i < k → Taken sections starts i
-      → n ≡ nOf (take (length sections - getD starts i 0) (drop (getD starts i 0) sections))
-      → f ≡ fits-with n (take (length sections - getD starts i 0) (drop (getD starts i 0) sections))
-      → not f ≡ blockBad sections indices received erased k b
-  unfolding blockBad
-  block-fits {starts} {n} {f} h A p q =
-      let l = take (length sections - getD starts i 0) (drop (getD starts i 0) sections) in
-      let z : l ≡ blockSection sections indices received erased b = A .part-is ∙ ap (sectionAt sections) e in
-      let s : f ≡ fits-with (nOf (blockSection sections indices received erased b)) (blockSection sections indices received erased b)
-      = q ∙ ap (λ j. fits-with j l) p ∙ ap (λ x. fits-with (nOf x) x) z in
-      simp (lt-ltb (getD indices b 0) k (omega arith), s)
+  -- the view of its section has its q and n
+  block-fits : {starts : List ℕ} {views : List View} {fits : Bool} → i < f .k → SectionsFound (f .sections) starts views (f .k)
+      → fits ≡ fitsBlock (getD views i noView .n) (getD (f .received) b 0) (getD (f .erased) b 0) (getD views i noView .q)
+      → blockBad f b ≡ not fits
+  unfolding blockBad viewOf
+  block-fits {views = views} h F q =
+      let s : getD views i noView ≡ viewOf (blockSection f b) = F .view i h ∙ ap (λ j. viewOf (sectionAt (f .sections) j)) e in
+      let r = q ∙ ap (λ (w : View). fitsBlock (w .n) (getD (f .received) b 0) (getD (f .erased) b 0) (w .q)) s in
+      simp (lt-ltb (getD (f .indices) b 0) (f .k) (omega arith), r)
 
 -- ---- the loop over the blocks
 
--- no block before b is bad
-pub record InBlocks (sections indices received erased : List ℕ) (k b : ℕ) : Type 0 where
+-- no block before b is bad, whatever the sections are that have these views
+pub record InBlocks (views : List View) (k : ℕ) (indices received erased : List ℕ) (b : ℕ) : Type 0 where
   pub b-le : b ≤ length indices
-  pub none : (c : ℕ) → c < b → T (blockBad sections indices received erased k c) → ⊥
+  pub none : (sections starts : List ℕ) (start end : ℕ) → SectionsFound sections starts views k → (c : ℕ) → c < b
+      → blockBad (frame sections k indices received erased start end) c ≡ false
 
-module _ {sections indices received erased : List ℕ} {k : ℕ} where
-  pub blocks-start : InBlocks sections indices received erased k 0
-  blocks-start = record { b-le = omega arith; none = λ c h. absurd (not-suc-le-zero h) }
+pub blocks-start : {views : List View} {k : ℕ} {indices received erased : List ℕ} → InBlocks views k indices received erased 0
+blocks-start = record { b-le = omega arith; none = λ s t u v F c h. absurd (not-suc-le-zero h) }
 
-  module _ {b : ℕ} (I : InBlocks sections indices received erased k b) where
-    pub blocks-found : {r : Bool} → b < length indices → r ≡ blockBad sections indices received erased k b → r ≡ true
-        → b ≡ first (blockBad sections indices received erased k) (length indices)
-    blocks-found h e q =
-        sym (first-is (blockBad sections indices received erased k) (length indices) b
-        (record { most = I .b-le; hit = λ l. holds (sym e ∙ q); miss = I .none }))
+module _ {views : List View} {k : ℕ} {indices received erased : List ℕ} {b i : ℕ} (I : InBlocks views k indices received erased b)
+    (e : i ≡ getD indices b 0) where
+  abbrev Answer : ℕ → Type 0
+  Answer r = (sections starts : List ℕ) (start end : ℕ) → SectionsFound sections starts views k
+      → r ≡ first (blockBad (frame sections k indices received erased start end)) (length indices)
 
-    pub blocks-more : {r : Bool} → b < length indices → r ≡ blockBad sections indices received erased k b → r ≡ false
-        → InBlocks sections indices received erased k (b + 1)
-    blocks-more h e q = record { b-le = omega arith; none = none }
+  bad-here : b < length indices
+      → ((sections starts : List ℕ) (start end : ℕ) → SectionsFound sections starts views k
+      → blockBad (frame sections k indices received erased start end) b ≡ true) → Answer b
+  bad-here h bad sections starts start end F =
+      let f = frame sections k indices received erased start end in
+      sym (first-is (blockBad f) (length indices) b
+      (record { most = I .b-le; hit = λ l. holds (bad sections starts start end F); miss = λ c l t. fails (I .none sections starts start end F c l) t }))
+
+  pub blocks-index : b < length indices → k ≤ i → Answer b
+  blocks-index h l = bad-here h (λ s t u v F. block-index (frame s k indices received erased u v) b e l)
+
+  module _ {fits : Bool} (l : i < k)
+      (q : fits ≡ fitsBlock (getD views i noView .n) (getD received b 0) (getD erased b 0) (getD views i noView .q)) where
+    pub blocks-unfit : b < length indices → not fits ≡ true → Answer b
+    blocks-unfit h n = bad-here h (λ s t u v F. block-fits (frame s k indices received erased u v) b e l F q ∙ n)
+
+    pub blocks-more : b < length indices → not fits ≡ false → InBlocks views k indices received erased (b + 1)
+    blocks-more h n = record { b-le = omega arith; none = λ s t u v F c m. go s t u v F c m (ℕ-discrete c b) }
       where
-        none : (c : ℕ) → c < b + 1 → T (blockBad sections indices received erased k c) → ⊥
-        none c l = go (ℕ-discrete c b)
-          where
-            go : Dec (c ≡ b) → T (blockBad sections indices received erased k c) → ⊥
-            go (yes z) s = fails (sym e ∙ q) (subst (λ x. T (blockBad sections indices received erased k x)) z s)
-            go (no z) s = I .none c (omega arith) s
+        go : (sections starts : List ℕ) (start end : ℕ) → SectionsFound sections starts views k → (c : ℕ) → c < b + 1 → Dec (c ≡ b)
+            → blockBad (frame sections k indices received erased start end) c ≡ false
+        go s t u v F c m (yes z) =
+            subst (λ x. blockBad (frame s k indices received erased u v) x ≡ false) (sym z)
+            (block-fits (frame s k indices received erased u v) b e l F q ∙ n)
+        go s t u v F c m (no z) = I .none s t u v F c (omega arith)
 
-    pub blocks-none : length indices ≤ b → b ≡ first (blockBad sections indices received erased k) (length indices)
-    blocks-none h =
-        sym (first-is (blockBad sections indices received erased k) (length indices) b
-        (record { most = I .b-le; hit = λ l. absurd (omega arith); miss = I .none }))
+pub blocks-none : {views : List View} {k : ℕ} {indices received erased : List ℕ} {b : ℕ} → InBlocks views k indices received erased b
+    → length indices ≤ b → (sections starts : List ℕ) (start end : ℕ) → SectionsFound sections starts views k
+    → b ≡ first (blockBad (frame sections k indices received erased start end)) (length indices)
+blocks-none {k = k} {indices} {received} {erased} {b} I h sections starts start end F =
+    let f = frame sections k indices received erased start end in
+    sym (first-is (blockBad f) (length indices) b
+    (record { most = I .b-le; hit = λ l. absurd (omega arith); miss = λ c l t. fails (I .none sections starts start end F c l) t }))
 
 -- ---- no fault 9
 
 -- neither the frame nor a block is bad
-pub record FramePassed (sections : List ℕ) (k : ℕ) (indices received erased : List ℕ) (start end : ℕ) : Type 0 where
-  pub frameGood : frameBad indices received erased start end ≡ false
-  pub blocksGood : length indices ≤ first (blockBad sections indices received erased k) (length indices)
+pub record FramePassed (f : Frame) : Type 0 where
+  pub frameGood : frameBad f ≡ false
+  pub blocksGood : blockCount f ≤ first (blockBad f) (blockCount f)
 
-pub frame-passed : {sections : List ℕ} {k : ℕ} {indices received erased : List ℕ} {start end : ℕ} {bad : Bool} {b : ℕ}
-    → bad ≡ frameBad indices received erased start end → bad ≡ false
-    → b ≡ first (blockBad sections indices received erased k) (length indices) → length indices ≤ b
-    → FramePassed sections k indices received erased start end
-frame-passed {indices = indices} e h p l = record { frameGood = sym e ∙ h; blocksGood = subst (λ x. length indices ≤ x) p l }
+pub frame-passed : {f : Frame} {bad : Bool} {b : ℕ} → bad ≡ frameBad f → bad ≡ false → b ≡ first (blockBad f) (blockCount f)
+    → blockCount f ≤ b → FramePassed f
+frame-passed {f} e h p l = record { frameGood = sym e ∙ h; blocksGood = subst (λ x. blockCount f ≤ x) p l }
 
-pub block-good : {sections indices received erased : List ℕ} {k : ℕ}
-    → length indices ≤ first (blockBad sections indices received erased k) (length indices)
-    → (b : ℕ) → b < length indices → BlockGood sections indices received erased k b
+pub checked : {f : Frame} {starts : List ℕ} {views : List View} → AllFound (f .sections) starts views (f .k) → FramePassed f
+    → FrameChecked f starts views
 unfolding blockBad
-block-good {sections} {indices} {received} {erased} {k} l b h =
-    let s = blockSection sections indices received erased b in
-    let f = fitsBlock (nOf s) (getD received b 0) (getD erased b 0) (qOf s) in
-    let F = first-ok (blockBad sections indices received erased k) (length indices) in
-    let e = is-false (blockBad sections indices received erased k b) (F .miss b (omega arith)) in
-    let t = both (ltb (getD indices b 0) k) f (holds (not-false (ltb (getD indices b 0) k && f) e)) in
-    record {
-      indexBelow = ltb-true (getD indices b 0) k (is-true _ (t .0));
-      clean = clean-of (qOf s) (nOf s) (getD received b 0) (getD erased b 0) (is-true _ (t .1));
-    }
+checked {f} A P = record {
+  sectionsFound = A;
+  framed = framed-of (P .frameGood);
+  indexBelow = λ b h.
+      let F = first-ok (blockBad f) (blockCount f) in
+      let e = is-false (blockBad f b) (F .miss b (omega (arith, P .blocksGood))) in
+      let s = blockSection f b in
+      let fits = fitsBlock (nOf s) (getD (f .received) b 0) (getD (f .erased) b 0) (qOf s) in
+      let t = both (ltb (getD (f .indices) b 0) (f .k)) fits (holds (not-false (ltb (getD (f .indices) b 0) (f .k) && fits) e)) in
+      ltb-true (getD (f .indices) b 0) (f .k) (is-true _ (t .0));
+}
 
-pub checked : {sections starts : List ℕ} {k : ℕ} {indices received erased : List ℕ} {start end : ℕ} → AllFound sections starts k
-    → FramePassed sections k indices received erased start end → FrameChecked sections starts indices received erased start end
-checked {k = k} A P = record { k = k; sectionsFound = A; frame = framed-of refl (P .frameGood); good = block-good (P .blocksGood) }
+pub views-of : {sections starts : List ℕ} {views : List View} {k : ℕ} → AllFound sections starts views k → Views views k
+unfolding viewOf
+views-of {sections} A = record {
+  few = A .few;
+  long = A .found .viewsLong;
+  short = λ j h.
+      let e = ap (λ (w : View). w .n) (A .found .view j h) in
+      let s = usable-sound (sectionAt sections j) (A .found .usable-before j h) .nTo in
+      omega arith;
+}

@@ -1,78 +1,264 @@
--- The two ways to end behind all checks. The passes are called with the states widened, which are the same numbers; so what they
--- leave is what the definition's best path gives.
-use mathlib.Core.Path.{_≡_, sym, ap, subst, _∙_}
-use mathlib.Core.List.{List}
-use Prim.Native.Nat.{ℕ, _≤_, _<_}
+-- Behind all checks. The blocks as the code holds them are the frame's: the places that were found are the places where the sections begin. So
+-- the table that is filled is the frame's cost table, as no distance reaches its mark for no path. Where the start state's place has that
+-- mark there is no path; elsewhere the path that is followed is the first of least distance.
+use mathlib.Core.Path.{_≡_, refl, sym, ap, subst, _∙_}
+use mathlib.Core.List.{List, map}
+use Prim.Native.Nat.{ℕ, _+_, _-_, _*_, _/_, _%_, _≤_, _<_}
+use native.Mathlib.Nat.{sub-zero}
+use native.Mathlib.Decide.{decLt}
 use native.Mathlib.Omega.{arith}
-use lib.ListN.{length, getD}
-use Rattle.trellis.specs.Bounds.{mostStates}
+use lib.ListN.{length, getD, drop, length-map, List·getD-map, List·getD-eq-default, length-drop}
+use Rattle.trellis.specs.Bounds.{mostSymbols, costsABlock}
+use Rattle.trellis.specs.Word.{Word, word, wordAt}
 use Rattle.trellis.specs.Outcome.{success, noPath}
-use Rattle.paths.specs.Chain.{unreached}
-use Rattle.passes.specs.inner.Blocks.{leastFrom, Ready, Picked, Filled}
-use Rattle.passes.specs.inner.Loops.{Named}
-use Rattle.chain.specs.Decoding.{left, fitted}
-use Rattle.chain.specs.inner.Checked.{FrameChecked}
-use Rattle.chain.proofs.Buffers.{Room}
+use Rattle.trellis.specs.Layout.{nOf, sectionWords}
+use Rattle.trellis.specs.Lists.{over}
+use Rattle.trellis.proofs.Lists.{length-run, each-at}
+use Rattle.trellis.proofs.Buffers.{over-is}
+use Rattle.paths.specs.Choice.{Choice, none, some}
+use Rattle.paths.specs.Chain.{bestPath, costTable, IsChainPath, unreached, endsIn}
+use Rattle.paths.proofs.Chain.{cost-table, least-le, best-traced, no-path}
+use Rattle.paths.proofs.Winner.{best-right}
+use Rattle.section_file.specs.inner.Sound.{Sound}
+use Rattle.section_file.specs.inner.View.{Seen}
+use Rattle.section_file.specs.declared.View.{View}
+use Rattle.section_file.proofs.Usable.{usable-sound}
+use Rattle.block.specs.Received.{blockDistance}
+use Rattle.block.proofs.Costs.{block-at-most}
+use Rattle.passes.specs.inner.Chains.{Chain, leastFrom, pathFrom, CostsFrom, Written, Followed, FollowedTo}
+use Rattle.chain.specs.Sections.{sectionStart, sectionAt}
+use Rattle.chain.specs.Frame.{Frame, frame, blockCount, blockSection, blockWords, wordDistance}
+use Rattle.chain.specs.Decoding.{left, bestOf, tableOf, found, fitted}
+use Rattle.chain.specs.inner.Checked.{FrameChecked, Checked, Room, Ends}
+use Rattle.chain.specs.inner.Filled.{EndsAs, Held, held, partOf, viewAt, Ready, ChainOf, Filled}
+use Rattle.chain.proofs.Sections.{long-enough}
 use Rattle.chain.proofs.Faults.{past-room}
-use Rattle.chain.proofs.Frames.{ready}
-use Rattle.chain.proofs.Tables.{best-none, opened, none-found, path-found}
 
--- the table is filled, and the states are widened
-pub record Tabled (sections starts indices received erased : List ℕ) (start end : ℕ) (costs labels goals new picks : List ℕ)
-    (from to : ℕ) : Type 0 where
-  pub checks : FrameChecked sections starts indices received erased start end
-  pub room : Room indices costs labels goals
-  pub from-is : from ≡ start
-  pub to-is : to ≡ end
-  pub filled : Filled sections starts indices received erased to 0 costs new picks
+-- the chain that a frame is
+abbrev pub chainOf : Frame → Chain
+chainOf f = record { words = blockWords f; ends = endsIn (f .end); price = wordDistance f; blocks = blockCount f }
 
-pub tabled : {sections starts indices received erased : List ℕ} {start end : ℕ} {costs labels goals new picks : List ℕ} {from to : ℕ}
-    → FrameChecked sections starts indices received erased start end → Room indices costs labels goals → from ≡ start → to ≡ end
-    → Filled sections starts indices received erased to 0 costs new picks
-    → Tabled sections starts indices received erased start end costs labels goals new picks from to
-tabled C R p q F = record { checks = C; room = R; from-is = p; to-is = q; filled = F }
+module _ {f : Frame} {starts : List ℕ} {views : List View} (K : FrameChecked f starts views) where
+  abbrev pub heldOf : Held
+  heldOf = held (f .sections) starts views (f .indices) (f .received) (f .erased)
 
-module _ {sections starts indices received erased : List ℕ} {start end : ℕ} {costs labels goals new picks : List ℕ} {from to : ℕ}
-    (B : Tabled sections starts indices received erased start end costs labels goals new picks from to) where
-  filled-end : Filled sections starts indices received erased end 0 costs new picks
-  filled-end = subst (λ x. Filled sections starts indices received erased x 0 costs new picks) (B .to-is) (B .filled)
+  -- past the last block the index reads as 0, and there is a section 0
+  index-below : (b : ℕ) → getD (f .indices) b 0 < f .k
+  index-below b = go (decLt b (blockCount f))
+    where
+      go : Dec (b < blockCount f) → getD (f .indices) b 0 < f .k
+      go (yes h) = K .indexBelow b h
+      go (no h) =
+          let e : getD (f .indices) b 0 ≡ 0 = List·getD-eq-default (f .indices) 0 (omega arith) in
+          let s = K .sectionsFound .some in
+          omega arith
+
+  -- so every block's section is usable
+  sound-at : (b : ℕ) → Sound (blockSection f b)
+  sound-at b = usable-sound (blockSection f b) (K .sectionsFound .found .usable-before (getD (f .indices) b 0) (index-below b))
+
+  place-is : (b : ℕ) → getD starts (getD (f .indices) b 0) 0 ≡ sectionStart (f .sections) (getD (f .indices) b 0)
+  place-is b = K .sectionsFound .found .at (getD (f .indices) b 0) (omega (arith, index-below b))
+
+  part-is : (b : ℕ) → partOf heldOf b ≡ blockSection f b
+  unfolding sectionAt
+  part-is b = ap (λ x. drop x (f .sections)) (place-is b)
+
+  inside : (b : ℕ) → getD starts (getD (f .indices) b 0) 0 ≤ length (f .sections)
+  unfolding sectionAt
+  inside b =
+      let w = sound-at b .whole in
+      let l = long-enough (blockSection f b) in
+      let d = length-drop (sectionStart (f .sections) (getD (f .indices) b 0)) (f .sections) in
+      omega (arith, place-is b)
+
+  pub ready : Ready heldOf
+  ready = record {
+    many = K .framed .many;
+    receivedLong = K .framed .receivedLong;
+    erasedLong = K .framed .erasedLong;
+    startsLong = K .sectionsFound .found .long;
+    viewsLong = K .sectionsFound .found .viewsLong;
+    indexBelow = λ b h. let l = index-below b in let g = K .sectionsFound .few in omega arith;
+    inside = λ b h. inside b;
+    seen = λ b h.
+        subst (λ l. Seen l (viewAt heldOf b)) (sym (part-is b))
+        (record { sound = sound-at b; is = K .sectionsFound .found .view (getD (f .indices) b 0) (index-below b) });
+  }
+
+  chain-of : ChainOf heldOf (chainOf f)
+  unfolding blockWords wordDistance
+  chain-of = record {
+    blocksIs = refl;
+    wordsAre = λ b h. ap sectionWords (sym (part-is b));
+    priceIs = λ b h w. ap (λ l. blockDistance (nOf l) (getD (f .received) b 0) (getD (f .erased) b 0) (w .label)) (sym (part-is b));
+  }
+
+  -- no distance is above 8
+  distance-to : (b : ℕ) (w : Word) → wordDistance f b w ≤ mostSymbols
+  unfolding wordDistance
+  distance-to b w =
+      omega (arith, block-at-most (nOf (blockSection f b)) (getD (f .received) b 0) (getD (f .erased) b 0) (w .label), sound-at b .nTo)
+
+  abbrev tableFrom : ℕ → ℕ → ℕ
+  tableFrom b s = costTable (blockWords f) (endsIn (f .end)) (wordDistance f) (blockCount f - b) b s
+
+  least-is : (b s : ℕ) → leastFrom (chainOf f) b s ≡ tableFrom b s
+  unfolding leastFrom
+  least-is b s =
+      let m = K .framed .many in
+      sym (cost-table (blockWords f) (endsIn (f .end)) (wordDistance f) mostSymbols distance-to (blockCount f - b) b s (omega arith))
+
+  abbrev best : Choice (List Word)
+  best = bestPath (blockWords f) (endsIn (f .end)) (wordDistance f) (blockCount f) 0 (f .start)
+
+  abbrev path : List Word
+  path = pathFrom (chainOf f) 0 (f .start)
+
+  module _ {ends costs new oldPicks picks labels goals : List ℕ} (E : Ends (f .end) ends) (R : Room (f .indices) costs labels goals)
+      (F : Filled heldOf ends costs new oldPicks picks) where
+    ends-as : EndsAs (chainOf f) ends
+    ends-as = record { at = E .at }
+
+    filled : CostsFrom (chainOf f) 0 new
+    filled = F .costs (chainOf f) chain-of ends-as
+
+    table-over : new ≡ over (tableOf f) costs
+    unfolding tableOf
+    table-over = over-is (tableOf f) costs new (omega (arith, long, R .forCosts)) (F .long) at (λ i h. F .kept i (omega (arith, long)))
+      where
+        long : length (tableOf f) ≡ costsABlock * blockCount f
+        long = length-run _ 0 (costsABlock * blockCount f)
+
+        at : (i : ℕ) → i < length (tableOf f) → getD new i 0 ≡ getD (tableOf f) i 0
+        at i h =
+            let l = long in
+            let e : costsABlock * (i / costsABlock) + i % costsABlock ≡ i = omega arith in
+            ap (λ j. getD new j 0) (sym e)
+            ∙ filled .at (i / costsABlock) (i % costsABlock) (omega arith) (omega arith) (omega arith)
+            ∙ least-is (i / costsABlock) (i % costsABlock)
+            ∙ sym (each-at (λ j. tableFrom (j / costsABlock) (j % costsABlock)) (costsABlock * blockCount f) i 0 (omega arith))
+
+    -- the start state's place
+    pub start-in : f .start < length new
+    start-in = omega (arith, K .framed .startBelow, K .framed .some, R .forCosts, F .long)
+
+    start-at : getD new (f .start) 0 ≡ leastFrom (chainOf f) 0 (f .start)
+    start-at =
+        let a : costsABlock * 0 + f .start ≡ f .start = omega arith in
+        ap (λ j. getD new j 0) (sym a) ∙ filled .at 0 (f .start) (omega arith) (K .framed .some) (K .framed .startBelow)
+
+    pub ends-none : getD new (f .start) 0 ≡ unreached → left noPath new labels goals ≡ fitted f costs labels goals
+    unfolding found bestOf
+    ends-none e =
+        let z = sub-zero (blockCount f) in
+        let t : costTable (blockWords f) (endsIn (f .end)) (wordDistance f) (blockCount f) 0 (f .start) ≡ unreached
+        = ap (λ j. costTable (blockWords f) (endsIn (f .end)) (wordDistance f) j 0 (f .start)) (sym z) ∙ sym (least-is 0 (f .start))
+        ∙ sym start-at ∙ e in
+        let m = K .framed .many in
+        let n : best ≡ none
+        = no-path (blockWords f) (endsIn (f .end)) (wordDistance f) mostSymbols distance-to (blockCount f) 0 (f .start) (omega arith) t in
+        past-room f costs labels goals (R .none-short)
+        (ap (λ c. left noPath c labels goals) table-over ∙ sym (ap (found f costs labels goals) n))
+
+    module _ (n : getD new (f .start) 0 ≡ unreached → ⊥) where
+      opened : leastFrom (chainOf f) 0 (f .start) < unreached
+      unfolding leastFrom
+      opened = go (decLt (leastFrom (chainOf f) 0 (f .start)) unreached) start-at
+          (least-le (blockWords f) (endsIn (f .end)) (wordDistance f) unreached (blockCount f - 0) 0 (f .start))
+        where
+          go : {a : ℕ} → Dec (a < unreached) → getD new (f .start) 0 ≡ a → a ≤ unreached → a < unreached
+          go (yes i) c l = i
+          go (no i) c l = absurd (n (omega arith))
+
+      pub followed : costsABlock * blockCount f ≤ length oldPicks → Followed (blockCount f) (f .start) picks labels goals
+      followed p = record {
+        chain = chainOf f;
+        blocksIs = refl;
+        picked = F .picked (chainOf f) chain-of ends-as;
+        start-lt = K .framed .startBelow;
+        some = opened;
+        long = omega (arith, F .picksLong);
+        few = K .framed .many;
+        labelsLong = R .forLabels;
+        goalsLong = R .forGoals;
+      }
+
+      best-some : best ≡ some (getD new (f .start) 0) path
+      unfolding leastFrom pathFrom
+      best-some =
+          ap (λ j. bestPath (blockWords f) (endsIn (f .end)) (wordDistance f) j 0 (f .start)) (sym (sub-zero (blockCount f)))
+          ∙ best-traced (blockWords f) (endsIn (f .end)) (wordDistance f) unreached (blockCount f - 0) 0 (f .start) opened
+          ∙ ap (λ d. some d path) (sym start-at)
+
+      path-right : IsChainPath (blockWords f) (endsIn (f .end)) (blockCount f) 0 (f .start) path
+      path-right = best-right (blockWords f) (endsIn (f .end)) (wordDistance f) (blockCount f) 0 (f .start) best-some
+
+      -- what was written of each word stands in front
+      put : (g : Word → ℕ) (old written : List ℕ) → blockCount f ≤ length old → length written ≡ length old
+          → ((i : ℕ) → i < blockCount f → getD written i 0 ≡ g (wordAt path i))
+          → ((i : ℕ) → blockCount f ≤ i → getD written i 0 ≡ getD old i 0)
+          → g (word 0 0 0) ≡ 0 → written ≡ over (map g path) old
+      put g old written fits same front back blank =
+          let l = length-map path g in
+          let m = path-right .long in
+          over-is (map g path) old written (omega arith) same
+          (λ i h. front i (omega arith) ∙ sym (ap (getD (map g path) i) (sym blank) ∙ List·getD-map g path i (word 0 0 0)))
+          (λ i h. back i (omega arith))
+
+      pub ends-path : {newLabels newGoals : List ℕ} → FollowedTo (blockCount f) (f .start) picks labels newLabels goals newGoals
+          → left (success (getD new (f .start) 0)) new newLabels newGoals ≡ fitted f costs labels goals
+      unfolding found bestOf
+      ends-path {newLabels} {newGoals} T =
+          past-room f costs labels goals (R .none-short)
+          (whole table-over
+          (put (λ w. w .label) labels newLabels (R .forLabels) (T .labelsLong) (Z .labelAt) (Z .labelsKept) refl)
+          (put (λ w. w .goal) goals newGoals (R .forGoals) (T .goalsLong) (Z .goalAt) (Z .goalsKept) refl)
+          ∙ sym (ap (found f costs labels goals) best-some))
+        where
+          Z : Written (chainOf f) (f .start) (blockCount f) labels newLabels goals newGoals
+          Z = T .written (chainOf f) refl (F .picked (chainOf f) chain-of ends-as) opened
+
+          whole : {a b c : List ℕ} → new ≡ a → newLabels ≡ b → newGoals ≡ c
+              → left (success (getD new (f .start) 0)) new newLabels newGoals ≡ left (success (getD new (f .start) 0)) a b c
+          whole p q r = λ i. left (success (getD new (f .start) 0)) (p i) (q i) (r i)
+
+-- behind fault 9 K plays no part
+pub any-k : (sections indices received erased : List ℕ) (start end i j : ℕ) (costs labels goals : List ℕ)
+    → fitted (frame sections i indices received erased start end) costs labels goals
+    ≡ fitted (frame sections j indices received erased start end) costs labels goals
+unfolding fitted found bestOf tableOf blockWords wordDistance
+any-k sections indices received erased start end i j costs labels goals = refl
+
+-- ---- as the code has it: the states are widened, and K is any
+
+module _ {sections starts : List ℕ} {views : List View} {indices received erased : List ℕ} {start end from to : ℕ}
+    {ends costs new oldPicks picks labels goals : List ℕ} (C : Checked sections starts views indices received erased start end)
+    (p : from ≡ start) (q : to ≡ end) (E : Ends to ends) (R : Room indices costs labels goals)
+    (F : Filled (held sections starts views indices received erased) ends costs new oldPicks picks) where
+  E-end : Ends end ends
+  E-end = subst (λ x. Ends x ends) q E
 
   pub from-in : from < length new
-  from-in =
-      omega (arith, B .from-is, B .checks .frame .startBelow, B .checks .frame .some, B .room .forCosts, B .filled .long)
+  from-in = omega (arith, start-in (C .checks) E-end R F)
 
-  pub ends-none : getD new from 0 ≡ unreached
-      → (k : ℕ) → left noPath new labels goals ≡ fitted sections k indices received erased start end costs labels goals
-  ends-none e k =
-      let n = best-none (B .checks) filled-end (ap (λ j. getD new j 0) (sym (B .from-is)) ∙ e) in
-      past-room sections indices received erased start end costs labels goals k (B .room .none-short)
-      (none-found (B .checks) filled-end k labels goals (B .room .forCosts) n)
+  pub with-none : getD new from 0 ≡ unreached
+      → (k : ℕ) → left noPath new labels goals ≡ fitted (frame sections k indices received erased start end) costs labels goals
+  with-none e k =
+      ends-none (C .checks) E-end R F (ap (λ x. getD new x 0) (sym p) ∙ e)
+      ∙ any-k sections indices received erased start end (C .k) k costs labels goals
 
   module _ (n : getD new from 0 ≡ unreached → ⊥) where
-    opened-end : leastFrom sections starts indices received erased end 0 start < unreached
-    opened-end = opened (B .checks) filled-end (λ e. n (ap (λ j. getD new j 0) (B .from-is) ∙ e))
+    n-start : getD new start 0 ≡ unreached → ⊥
+    n-start e = n (ap (λ x. getD new x 0) p ∙ e)
 
-    pub names-ready : Ready sections starts indices received erased × Picked sections starts indices received erased to 0 picks
-        × (length indices ≤ length labels) × (length indices ≤ length goals) × (from < mostStates)
-        × (leastFrom sections starts indices received erased to 0 from < unreached)
-    names-ready = (ready (B .checks), B .filled .picked, B .room .forLabels, B .room .forGoals, small, onward)
-      where
-        small : from < mostStates
-        small = omega (arith, B .from-is, B .checks .frame .startBelow)
+    pub with-picks : costsABlock * length indices ≤ length oldPicks → Followed (length indices) from picks labels goals
+    with-picks l = subst (λ x. Followed (length indices) x picks labels goals) (sym p) (followed (C .checks) E-end R F n-start l)
 
-        onward : leastFrom sections starts indices received erased to 0 from < unreached
-        onward =
-            subst (λ x. leastFrom sections starts indices received erased x 0 from < unreached) (sym (B .to-is))
-            (subst (λ x. leastFrom sections starts indices received erased end 0 x < unreached) (sym (B .from-is)) opened-end)
-
-    pub ends-path : {newLabels newGoals : List ℕ} {total : ℕ}
-        → Named sections starts indices received erased to from labels newLabels goals newGoals total
-        → (k : ℕ) → left (success total) new newLabels newGoals ≡ fitted sections k indices received erased start end costs labels goals
-    ends-path {newLabels} {newGoals} {total} N k =
-        past-room sections indices received erased start end costs labels goals k (B .room .none-short)
-        (path-found (B .checks) opened-end named k (B .room) filled-end)
-      where
-        named : Named sections starts indices received erased end start labels newLabels goals newGoals total
-        named =
-            subst (λ x. Named sections starts indices received erased end x labels newLabels goals newGoals total) (B .from-is)
-            (subst (λ x. Named sections starts indices received erased x from labels newLabels goals newGoals total) (B .to-is) N)
+    pub with-path : {newLabels newGoals : List ℕ} → FollowedTo (length indices) from picks labels newLabels goals newGoals
+        → (k : ℕ) → left (success (getD new from 0)) new newLabels newGoals
+        ≡ fitted (frame sections k indices received erased start end) costs labels goals
+    with-path {newLabels} {newGoals} T k =
+        ap (λ x. left (success (getD new x 0)) new newLabels newGoals) p
+        ∙ ends-path (C .checks) E-end R F n-start (subst (λ x. FollowedTo (length indices) x picks labels newLabels goals newGoals) p T)
+        ∙ any-k sections indices received erased start end (C .k) k costs labels goals

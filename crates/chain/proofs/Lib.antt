@@ -1,10 +1,9 @@
--- Laws of chain decoding, lowest first.
-pub mod Goodness
+-- Why decoding is right.
 pub mod Bounds
-pub mod Starts
-pub mod Checks
+pub mod Rows
 pub mod Buffers
-pub mod Faults
-pub mod Frames
+pub mod Sections
 pub mod Tables
+pub mod Checks
+pub mod Faults
 pub mod Ends

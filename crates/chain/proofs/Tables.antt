@@ -1,144 +1,174 @@
--- What the two passes leave is what the definition says. Each place of the table is the definition's cost from there. Where the start
--- state's place is unreached there is no path; elsewhere the path that was named is the first of least distance.
-use mathlib.Core.Path.{_≡_, refl, sym, ap, ap₂, _∙_}
-use mathlib.Core.List.{List, map}
-use Prim.Native.Nat.{ℕ, _+_, _-_, _*_, _/_, _%_, _≤_, _<_}
-use native.Mathlib.Nat.{sub-zero}
+-- The loop over the blocks: what is left to pay, the cost table and the picks are those of whatever chain the blocks are, from block b on. One
+-- block more is passed as the laws of a chain say, and its rows are put in their places.
+use mathlib.Core.Path.{_≡_, refl, sym, ap, subst, _∙_}
+use mathlib.Core.Logic.{inr}
+use mathlib.Core.List.{List}
+use Prim.Native.Nat.{ℕ, suc, _+_, _-_, _*_, _≤_, _<_}
 use native.Mathlib.Decide.{decLt}
 use native.Mathlib.Omega.{arith}
-use lib.ListN.{length, getD, length-map, List·getD-map}
-use Rattle.trellis.specs.Bounds.{mostSymbols, mostStates, costsABlock}
-use Rattle.trellis.specs.Word.{Word, word, wordAt}
-use Rattle.trellis.specs.Outcome.{success, noPath}
-use Rattle.trellis.specs.Lists.{over}
-use Rattle.trellis.proofs.Lists.{length-run, each-at}
-use Rattle.trellis.proofs.Buffers.{over-is}
-use Rattle.paths.specs.Choice.{Choice, none, some}
-use Rattle.paths.specs.Chain.{bestPath, costTable, IsChainPath, unreached, endsIn}
-use Rattle.paths.proofs.Chain.{least-le, best-traced, no-path}
-use Rattle.paths.proofs.Winner.{best-right}
-use Rattle.passes.specs.inner.Blocks.{leastFrom, pathFrom, Filled, Written}
-use Rattle.passes.specs.inner.Loops.{Named}
-use Rattle.chain.specs.Frame.{blockWords, wordDistance}
-use Rattle.chain.specs.Decoding.{left, bestOf, tableOf, found}
-use Rattle.chain.specs.inner.Checked.{FrameChecked}
-use Rattle.chain.proofs.Buffers.{Room}
-use Rattle.chain.proofs.Frames.{distance-to, least-same, path-same, least-is}
+use lib.ListN.{length, getD, take, drop, replicate, length-replicate, getD-replicate, List·getD-eq-default}
+use Rattle.trellis.specs.Bounds.{mostStates, mostWords, mostSections, costsABlock}
+use Rattle.trellis.specs.Layout.{nOf}
+use Rattle.trellis.proofs.Lists.{rest-of}
+use Rattle.paths.specs.inner.OneBlock.{wordPrice}
+use Rattle.paths.specs.inner.Ranked.{topRank, Room}
+use Rattle.section_file.specs.inner.View.{Seen}
+use Rattle.block.specs.Received.{symbolCost, blockDistance}
+use Rattle.block.specs.inner.Prices.{Prices}
+use Rattle.passes.specs.inner.Blocks.{Passed}
+use Rattle.passes.specs.inner.Chains.{Chain, LeftAt, CostsFrom, Picked, RowPut}
+use Rattle.passes.proofs.Chains.{Uses, left-last, left-more, pick-more, costs-more, picks-more}
+use Rattle.chain.specs.inner.Loops.{noView}
+use Rattle.chain.specs.inner.Filled.{Copied, Working, BlockFilled, EndsAs, Held, partOf, Ready, ChainOf, Filled}
 
-module _ {sections starts indices received erased : List ℕ} {start end : ℕ}
-    (C : FrameChecked sections starts indices received erased start end) where
-  abbrev words : ℕ → List Word
-  words = blockWords sections indices received erased
+pub record InFill (H : Held) (ends old new oldPicks picks left prices even odd : List ℕ) (b : ℕ) : Type 0 where
+  pub b-le : b ≤ length (H .indices)
+  pub long : length new ≡ length old
+  pub picksLong : length picks ≡ length oldPicks
+  pub working : Working left prices even odd
+  pub kept : (i : ℕ) → costsABlock * length (H .indices) ≤ i → getD new i 0 ≡ getD old i 0
+  pub leftIs : (C : Chain) → ChainOf H C → EndsAs C ends → LeftAt C b left
+  pub costs : (C : Chain) → ChainOf H C → EndsAs C ends → CostsFrom C b new
+  pub picked : (C : Chain) → ChainOf H C → EndsAs C ends → Picked C b picks
 
-  abbrev dist : ℕ → Word → ℕ
-  dist = wordDistance sections indices received erased
+-- prices that are not there yet
+room-none : Room (replicate 32 0)
+room-none = record { long = length-replicate {A = ℕ} 32 0; small = λ i. go i (decLt i 32) }
+  where
+    go : (i : ℕ) → Dec (i < 32) → getD (replicate 32 0) i 0 ≤ topRank
+    go i (yes h) = let e = getD-replicate {A = ℕ} 32 i 0 0 h in omega arith
+    go i (no h) =
+        let n = length-replicate {A = ℕ} 32 0 in
+        let e = List·getD-eq-default {A = ℕ} (replicate 32 0) 0 {n = i} (omega arith) in
+        omega arith
 
-  abbrev tableFrom : ℕ → ℕ → ℕ
-  tableFrom b s = costTable words (endsIn end) dist (length indices - b) b s
+pub fill-start : {H : Held} {ends costs picks : List ℕ} → length ends ≡ mostStates
+    → InFill H ends costs costs picks picks ends (replicate 32 0) (replicate mostWords 0) (replicate mostWords 0) (length (H .indices))
+fill-start {H} {ends} {costs} {picks} h = record {
+  b-le = omega arith;
+  long = refl;
+  picksLong = refl;
+  working = record {
+    leftLong = h;
+    room = room-none;
+    evenLong = length-replicate {A = ℕ} mostWords 0;
+    oddLong = length-replicate {A = ℕ} mostWords 0;
+  };
+  kept = λ i k. refl;
+  leftIs = λ C O E. subst (λ b. LeftAt C b ends) (O .blocksIs) (left-last C ends (E .at));
+  costs = λ C O E. record { at = λ c s k l. absurd (omega (arith, O .blocksIs)) };
+  picked = λ C O E. record { at = λ c s k l. absurd (omega (arith, O .blocksIs)) };
+}
 
-  abbrev table : ℕ → List ℕ
-  table k = tableOf sections k indices received erased start end
+-- ---- one block, as the code takes it
 
-  abbrev best : Choice (List Word)
-  best = bestPath words (endsIn end) dist (length indices) 0 start
+pub block-filled : {l : List ℕ} {n received mask : ℕ} {prices left new costs picks : List ℕ} → n ≡ nOf l → Prices n received mask prices
+    → Passed l prices left new picks → Copied new costs mostStates → BlockFilled l received mask left new costs picks
+block-filled {received = received} {mask} {prices} e P B C =
+    record { prices = prices; priced = subst (λ n. Prices n received mask prices) e P; passed = B; copied = C }
 
-  abbrev path : List Word
-  path = pathFrom sections starts indices received erased end 0 start
+pub record BlockAt (H : Held) (b i : ℕ) : Type 0 where
+  pub index-lt : i < mostSections
+  pub inside : getD (H .starts) i 0 ≤ length (H .sections)
+  pub part-is : take (length (H .sections) - getD (H .starts) i 0) (drop (getD (H .starts) i 0) (H .sections)) ≡ partOf H b
+  pub seen : Seen (take (length (H .sections) - getD (H .starts) i 0) (drop (getD (H .starts) i 0) (H .sections))) (getD (H .views) i noView)
+  pub few : b < 256
 
-  -- ---- the table
+pub block-at : {H : Held} {b i : ℕ} → Ready H → b < length (H .indices) → i ≡ getD (H .indices) b 0 → BlockAt H b i
+block-at {H} {b} {i} R h e =
+    let p : take (length (H .sections) - getD (H .starts) i 0) (drop (getD (H .starts) i 0) (H .sections)) ≡ partOf H b
+    = rest-of (H .sections) (getD (H .starts) i 0) ∙ ap (λ j. drop (getD (H .starts) j 0) (H .sections)) e in
+    record {
+      index-lt = omega (arith, R .indexBelow b h);
+      inside = subst (λ j. getD (H .starts) j 0 ≤ length (H .sections)) (sym e) (R .inside b h);
+      part-is = p;
+      seen = subst (λ l. Seen l (getD (H .views) i noView)) (sym p)
+          (subst (λ j. Seen (partOf H b) (getD (H .views) j noView)) (sym e) (R .seen b h));
+      few = omega (arith, R .many);
+    }
 
-  module _ {costs new picks : List ℕ} (F : Filled sections starts indices received erased end 0 costs new picks) where
-    pub table-at : (b s : ℕ) → b < length indices → s < mostStates → getD new (costsABlock * b + s) 0 ≡ tableFrom b s
-    table-at b s h l = F .table .at b s (omega arith) h l ∙ least-is C b s
+pub filled-part : {H : Held} {b i received mask : ℕ} {left new costs picks : List ℕ} → BlockAt H b i
+    → BlockFilled (take (length (H .sections) - getD (H .starts) i 0) (drop (getD (H .starts) i 0) (H .sections))) received mask left new
+    costs picks
+    → BlockFilled (partOf H b) received mask left new costs picks
+filled-part {received = received} {mask} {left} {new} {costs} {picks} A B =
+    subst (λ l. BlockFilled l received mask left new costs picks) (A .part-is) B
 
-    pub table-over : (k : ℕ) → costsABlock * length indices ≤ length costs → new ≡ over (table k) costs
-    unfolding tableOf
-    table-over k room = over-is (table k) costs new (omega (arith, long)) (F .long) at (λ i h. F .kept i (omega (arith, long)))
-      where
-        long : length (table k) ≡ costsABlock * length indices
-        long = length-run _ 0 (costsABlock * length indices)
+-- the rows of the block in the two lists
+pub record RowsAt (H : Held) (costs picks : List ℕ) (b : ℕ) : Type 0 where
+  pub costs-in : costsABlock * b + costsABlock ≤ length costs
+  pub picks-in : costsABlock * b + costsABlock ≤ length picks
 
-        at : (i : ℕ) → i < length (table k) → getD new i 0 ≡ getD (table k) i 0
-        at i h =
-            let l = long in
-            let e : costsABlock * (i / costsABlock) + i % costsABlock ≡ i = omega arith in
-            ap (λ j. getD new j 0) (sym e) ∙ table-at (i / costsABlock) (i % costsABlock) (omega arith) (omega arith)
-            ∙ sym (each-at (λ j. tableFrom (j / costsABlock) (j % costsABlock)) (costsABlock * length indices) i 0 (omega arith))
+pub fill-below : {H : Held} {ends old new oldPicks picks left prices even odd : List ℕ} {b : ℕ}
+    → InFill H ends old new oldPicks picks left prices even odd b → 0 < b → b - 1 < length (H .indices)
+fill-below I h = omega (arith, I .b-le)
 
-    -- the start state's place
-    start-at : getD new start 0 ≡ leastFrom sections starts indices received erased end 0 start
-    start-at =
-        let a : costsABlock * 0 + start ≡ start = omega arith in
-        let m = C .frame .some in
-        ap (λ j. getD new j 0) (sym a) ∙ F .table .at 0 start (omega arith) (omega arith) (C .frame .startBelow)
+pub rows-at : {H : Held} {ends old new oldPicks picks left prices even odd : List ℕ} {b : ℕ}
+    → InFill H ends old new oldPicks picks left prices even odd b
+    → costsABlock * length (H .indices) ≤ length old → costsABlock * length (H .indices) ≤ length oldPicks → 0 < b
+    → RowsAt H new picks (b - 1)
+rows-at I c p h = record { costs-in = omega (arith, I .long, I .b-le); picks-in = omega (arith, I .picksLong, I .b-le) }
 
-    pub best-none : getD new start 0 ≡ unreached → best ≡ none
-    best-none e =
-        let z = sub-zero (length indices) in
-        let t : costTable words (endsIn end) dist (length indices) 0 start ≡ unreached
-        = ap (λ j. costTable words (endsIn end) dist j 0 start) (sym z) ∙ sym (least-is C 0 start) ∙ sym start-at ∙ e in
-        let m = C .frame .many in
-        no-path words (endsIn end) dist mostSymbols (distance-to C) (length indices) 0 start (omega arith) t
+module _ {H : Held} {ends old mid new oldPicks midPicks picks left newLeft prices newPrices even newEven odd newOdd : List ℕ} {b : ℕ}
+    {row pickRow : List ℕ} (I : InFill H ends old mid oldPicks midPicks left prices even odd b) (h : 0 < b)
+    (B : BlockFilled (partOf H (b - 1)) (getD (H .received) (b - 1) 0) (getD (H .erased) (b - 1) 0) left newLeft row pickRow)
+    (W : Working newLeft newPrices newEven newOdd) (P : RowPut (costsABlock * (b - 1)) row mid new)
+    (Q : RowPut (costsABlock * (b - 1)) pickRow midPicks picks) where
+  below : b - 1 < length (H .indices)
+  below = omega (arith, I .b-le)
 
-    -- there is a path where the table says so
-    pub opened : (getD new start 0 ≡ unreached → ⊥) → leastFrom sections starts indices received erased end 0 start < unreached
-    opened n =
-        go (decLt (leastFrom sections starts indices received erased end 0 start) unreached) start-at (least-same C 0 start)
-        (least-le words (endsIn end) dist unreached (length indices - 0) 0 start)
-      where
-        go : {a t : ℕ} → Dec (a < unreached) → getD new start 0 ≡ a → a ≡ t → t ≤ unreached → a < unreached
-        go (yes i) c e l = i
-        go (no i) c e l = absurd (n (omega arith))
+  next : b ≡ suc (b - 1)
+  next = omega arith
 
-    pub none-found : (k : ℕ) (labels goals : List ℕ) → costsABlock * length indices ≤ length costs → best ≡ none
-        → left noPath new labels goals
-        ≡ found sections k indices received erased start end costs labels goals (bestOf sections k indices received erased start end)
-    unfolding found bestOf
-    none-found k labels goals room e =
-        ap (λ c. left noPath c labels goals) (table-over k room)
-        ∙ sym (ap (found sections k indices received erased start end costs labels goals) e)
+  module _ (C : Chain) (O : ChainOf H C) (E : EndsAs C ends) where
+    in-chain : b - 1 < C .blocks
+    in-chain = omega (arith, O .blocksIs, below)
 
-  -- ---- the path
+    uses : Uses C (b - 1) (partOf H (b - 1)) (B .prices)
+    unfolding blockDistance wordPrice
+    uses = record {
+      cost = symbolCost (nOf (partOf H (b - 1))) (getD (H .received) (b - 1) 0) (getD (H .erased) (b - 1) 0);
+      wordsAre = O .wordsAre (b - 1) below;
+      priceIs = O .priceIs (b - 1) below;
+      priced = record { at = B .priced .at };
+    }
 
-  module _ {labels newLabels goals newGoals : List ℕ} {total : ℕ}
-      (o : leastFrom sections starts indices received erased end 0 start < unreached)
-      (N : Named sections starts indices received erased end start labels newLabels goals newGoals total) where
-    pub best-some : best ≡ some total path
-    best-some =
-        let t = least-same C 0 start in
-        ap (λ j. bestPath words (endsIn end) dist j 0 start) (sym (sub-zero (length indices)))
-        ∙ best-traced words (endsIn end) dist unreached (length indices - 0) 0 start (omega arith)
-        ∙ ap₂ some (sym (N .totalIs ∙ t)) (sym (path-same C 0 start))
+    behind : LeftAt C (suc (b - 1)) left
+    behind = subst (λ c. LeftAt C c left) next (I .leftIs C O E)
 
-    path-right : IsChainPath words (endsIn end) (length indices) 0 start path
-    path-right = best-right words (endsIn end) dist (length indices) 0 start best-some
+    here : LeftAt C (b - 1) newLeft
+    here = left-more C in-chain uses behind (B .passed)
 
-    -- what was written of each word stands in front
-    put : (f : Word → ℕ) (old written : List ℕ) → length indices ≤ length old → length written ≡ length old
-        → ((i : ℕ) → i < length indices → getD written i 0 ≡ f (wordAt path i))
-        → ((i : ℕ) → length indices ≤ i → getD written i 0 ≡ getD old i 0)
-        → f (word 0 0 0) ≡ 0 → written ≡ over (map f path) old
-    put f old written fits same front back blank =
-        let l = length-map path f in
-        let n = path-right .long in
-        over-is (map f path) old written (omega arith) same
-        (λ i h. front i (omega arith) ∙ sym (ap (getD (map f path) i) (sym blank) ∙ List·getD-map f path i (word 0 0 0)))
-        (λ i h. back i (omega arith))
+    row-here : LeftAt C (b - 1) row
+    row-here = record { at = λ s k. B .copied .at s k ∙ here .at s k }
 
-    pub path-found : {costs new picks : List ℕ} (k : ℕ) → Room indices costs labels goals
-        → Filled sections starts indices received erased end 0 costs new picks
-        → left (success total) new newLabels newGoals
-        ≡ found sections k indices received erased start end costs labels goals (bestOf sections k indices received erased start end)
-    unfolding found bestOf
-    path-found {costs} {new} k R F =
-        whole (table-over F k (R .forCosts))
-        (put (λ w. w .label) labels newLabels (R .forLabels) (Z .labelsLong) (Z .labelAt) (Z .labelsKept) refl)
-        (put (λ w. w .goal) goals newGoals (R .forGoals) (Z .goalsLong) (Z .goalAt) (Z .goalsKept) refl)
-        ∙ sym (ap (found sections k indices received erased start end costs labels goals) best-some)
-      where
-        Z : Written sections starts indices received erased end start (length indices) labels newLabels goals newGoals
-        Z = N .written
+    costs-here : CostsFrom C (b - 1) new
+    costs-here = costs-more C (subst (λ c. CostsFrom C c mid) next (I .costs C O E)) row-here P
 
-        whole : {a b c : List ℕ} → new ≡ a → newLabels ≡ b → newGoals ≡ c
-            → left (success total) new newLabels newGoals ≡ left (success total) a b c
-        whole p q r = λ i. left (success total) (p i) (q i) (r i)
+    picks-here : Picked C (b - 1) picks
+    picks-here =
+        picks-more C (subst (λ c. Picked C c midPicks) next (I .picked C O E)) (pick-more C in-chain uses behind (B .passed)) Q
+
+  pub fill-more : InFill H ends old new oldPicks picks newLeft newPrices newEven newOdd (b - 1)
+  fill-more = record {
+    b-le = omega (arith, I .b-le);
+    long = P .long ∙ I .long;
+    picksLong = Q .long ∙ I .picksLong;
+    working = W;
+    kept = λ i k. P .kept i (inr (omega (arith, below))) ∙ I .kept i k;
+    leftIs = here;
+    costs = costs-here;
+    picked = picks-here;
+  }
+
+pub fill-end : {H : Held} {ends old new oldPicks picks left prices even odd : List ℕ} {b : ℕ}
+    → InFill H ends old new oldPicks picks left prices even odd b → b ≤ 0 → Filled H ends old new oldPicks picks
+fill-end {new = new} {picks = picks} {b = b} I h =
+    let e : b ≡ 0 = omega arith in
+    record {
+      long = I .long;
+      picksLong = I .picksLong;
+      kept = I .kept;
+      costs = λ C O E. subst (λ c. CostsFrom C c new) e (I .costs C O E);
+      picked = λ C O E. subst (λ c. Picked C c picks) e (I .picked C O E);
+    }

@@ -12,7 +12,7 @@ use Rattle.trellis.specs.Outcome.{Outcome, success, badSection, badBlock, short
 use Rattle.paths.specs.Choice.{Choice, none, some}
 use Rattle.paths.specs.Chain.{bestPath, costTable, endsIn}
 use Rattle.chain.specs.Sections.{sectionsBad, badSectionOf}
-use Rattle.chain.specs.Frame.{frameBad, blockWords, wordDistance, blockBad}
+use Rattle.chain.specs.Frame.{Frame, blockCount, frameBad, blockWords, wordDistance, blockBad}
 use Rattle.chain.specs.declared.Decoded.{Decoded}
 use Rattle.chain.specs.declared.Decoded.the-variants.{Distance, Section, Block, Short, NoPath}
 
@@ -38,21 +38,18 @@ unfoldable pub neededOf : ℕ → ℕ → ℕ → ℕ → ℕ
 neededOf blocks costs labels goals =
     cond (ltb costs (costsABlock * blocks)) (costsABlock * blocks) (cond (ltb labels blocks) blocks (cond (ltb goals blocks) blocks 0))
 
-module _ (sections : List ℕ) (k : ℕ) (indices received erased : List ℕ) (start end : ℕ) where
+module _ (f : Frame) where
   -- the first path of least distance from the start state to the end state
   unfoldable pub bestOf : Choice (List Word)
-  bestOf =
-      bestPath (blockWords sections indices received erased) (endsIn end) (wordDistance sections indices received erased)
-      (length indices) 0 start
+  bestOf = bestPath (blockWords f) (endsIn (f .end)) (wordDistance f) (blockCount f) 0 (f .start)
 
   -- block after block, for each state s the least distance from s before the block to the end state after the last block
   unfoldable pub tableOf : List ℕ
   tableOf =
       each
       (λ i.
-      costTable (blockWords sections indices received erased) (endsIn end) (wordDistance sections indices received erased)
-      (length indices - i / costsABlock) (i / costsABlock) (i % costsABlock))
-      (costsABlock * length indices)
+      costTable (blockWords f) (endsIn (f .end)) (wordDistance f) (blockCount f - i / costsABlock) (i / costsABlock) (i % costsABlock))
+      (costsABlock * blockCount f)
 
   module _ (costs labels goals : List ℕ) where
     -- 11, or success
@@ -63,17 +60,17 @@ module _ (sections : List ℕ) (k : ℕ) (indices received erased : List ℕ) (s
     -- 10: the first short buffer
     unfoldable pub fitted : Decoding
     fitted =
-        cond (ltb 0 (neededOf (length indices) (length costs) (length labels) (length goals)))
-        (left (shortBuffer (neededOf (length indices) (length costs) (length labels) (length goals))) costs labels goals)
+        cond (ltb 0 (neededOf (blockCount f) (length costs) (length labels) (length goals)))
+        (left (shortBuffer (neededOf (blockCount f) (length costs) (length labels) (length goals))) costs labels goals)
         (found bestOf)
 
     -- 9: a length or a state, else the first bad block
     unfoldable pub framed : Decoding
     framed =
-        cond (frameBad indices received erased start end) (left (badBlock (length indices)) costs labels goals)
-        (cond (ltb (first (blockBad sections indices received erased k) (length indices)) (length indices))
-        (left (badBlock (first (blockBad sections indices received erased k) (length indices))) costs labels goals) fitted)
+        cond (frameBad f) (left (badBlock (blockCount f)) costs labels goals)
+        (cond (ltb (first (blockBad f) (blockCount f)) (blockCount f))
+        (left (badBlock (first (blockBad f) (blockCount f))) costs labels goals) fitted)
 
     -- 8
     unfoldable pub decoding : Decoding
-    decoding = cond (sectionsBad sections k) (left (badSection (badSectionOf sections k)) costs labels goals) framed
+    decoding = cond (sectionsBad (f .sections) (f .k)) (left (badSection (badSectionOf (f .sections) (f .k))) costs labels goals) framed

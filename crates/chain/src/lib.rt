@@ -2,30 +2,35 @@
 // end state. `decode` answers for all arguments, by an equation with `decoding`: the outcome of document 01 and the whole content of
 // the three buffers.
 ghost use mathlib.Core.Path.{_≡_};
-ghost use mathlib.Core.Bool.{cond};
-ghost use Prim.Native.Nat.{ℕ, suc, _+_, _*_, _<_, _≤_};
-ghost use lib.ListN.{length, drop};
-ghost use Rattle.trellis.specs.Bounds.{mostSections, mostBlocks};
+ghost use mathlib.Core.List.{List};
+ghost use Prim.Native.Nat.{ℕ, _*_, _<_, _≤_};
+ghost use lib.ListN.{length};
+ghost use Rattle.trellis.specs.Bounds.{mostStates, mostBlocks, costsABlock};
 ghost use Rattle.trellis.specs.Lists.{first, within};
-ghost use Rattle.trellis.specs.Layout.{sectionLength};
 ghost use Rattle.outcomes.specs.inner.Holds.{Holds};
-ghost use Rattle.section_file.specs.Usable.{usable};
-ghost use Rattle.chain.specs.Frame.{frameBad, blockBad};
+ghost use Rattle.chain.specs.Frame.{frame, frameBad, blockBad};
 ghost use Rattle.chain.specs.Decoding.{left, neededOf, fitted, framed, decoding, decodedOutcome};
-ghost use Rattle.chain.specs.inner.Loops.{SectionsFound, FirstUnusable, partLength};
-ghost use Rattle.chain.specs.inner.Checked.{AllFound, FrameChecked};
-use numbers::wide;
+ghost use Rattle.chain.specs.inner.Loops.{SectionsFound};
+ghost use Rattle.chain.specs.inner.Checked.{Views, AllFound, Checked, Room, Ends};
+
+mod filling;
+mod finding;
+
+use filling::fill_table;
+use finding::find_sections;
 use numbers::widened;
 use outcomes::Returned;
 use outcomes::no_value;
 use outcomes::one_value;
 use passes::NO_PATH;
-use passes::fill_table;
-use passes::name_words;
-use section_file::Part;
+use passes::follow;
+use section_file::View;
 use trellis::COSTS_A_BLOCK;
 use trellis::MOST_BLOCKS;
 use trellis::MOST_SECTIONS;
+
+// Frames of so many blocks have a small array for their picks.
+const FEW_BLOCKS: usize = 16;
 
 // The bound on states in the width of a state.
 const MOST_STATES: u8 = trellis::MOST_STATES as u8;
@@ -58,44 +63,9 @@ fn is_within(low: usize, high: usize, x: usize) -> bool
     if x < low { false } else { x <= high }
 }
 
-// The length of a part, or 0 where it is unusable.
-fn length_of(part: Part) -> usize
-    ensures { λ r. ⌜ r ≡ partLength part ⌝ }
-{
-    match part {
-        Part::Usable(view) => view.end,
-        Part::Unusable => 0,
-    }
-}
-
-fn length_at(sections: &[u16], at: usize) -> usize
-    ensures { λ r. ⌜ r ≡ cond (usable (drop at (now (sections .entry)))) (sectionLength (drop at (now (sections .entry)))) 0 ⌝ }
-{
-    length_of(section_file::usable_at(sections, at))
-}
-
-// The first unusable section, or k, and the places where the sections before it and the next one begin.
-fn find_sections(sections: &[u16], k: usize, starts: &mut [usize; MOST_SECTIONS + 1]) -> usize
-    requires { ⌜ (k ≤ mostSections) × (length (now starts) ≡ suc mostSections) ⌝ }
-    ensures { λ r. ⌜ FirstUnusable (now (sections .entry)) (now (starts .exit)) k r ⌝ }
-{
-    starts[0] = 0;
-    let mut at: usize = 0;
-    let mut i: usize = 0;
-    while i < k {
-        let length = length_at(sections, at);
-        if length == 0 {
-            return i;
-        }
-        at += length;
-        i += 1;
-        starts[i] = at;
-    }
-    i
-}
-
 fn frame_bad(indices: &[u8], received: &[u16], erased: &[u8], start: u8, end: u8) -> bool
-    ensures { λ r. ⌜ r ≡ frameBad (now (indices .entry)) (now (received .entry)) (now (erased .entry)) start end ⌝ }
+    ensures { λ r. ⌜ ((sections : List ℕ) (k : ℕ)
+        → r ≡ frameBad (frame sections k (now (indices .entry)) (now (received .entry)) (now (erased .entry)) start end)) ⌝ }
 {
     if !is_within(1, MOST_BLOCKS, indices.len()) {
         return true;
@@ -112,45 +82,27 @@ fn frame_bad(indices: &[u8], received: &[u16], erased: &[u8], start: u8, end: u8
     end >= MOST_STATES
 }
 
-fn block_bad(
-    sections: &[u16],
-    starts: &[usize; MOST_SECTIONS + 1],
-    k: usize,
-    indices: &[u8],
-    received: &[u16],
-    erased: &[u8],
-    b: usize,
-) -> bool
-    requires { ⌜ SectionsFound (now sections) (now starts) k × (k ≤ mostSections) × (b < length (now indices))
-        × (length (now received) ≡ length (now indices)) × (length (now erased) ≡ length (now indices)) ⌝ }
-    ensures { λ r. ⌜ r ≡ blockBad (now (sections .entry)) (now (indices .entry)) (now (received .entry)) (now (erased .entry)) k b ⌝ }
-{
-    let i = widened(indices[b]);
-    if i >= k {
-        return true;
-    }
-    let at = starts[i];
-    let l = &sections[at..];
-    !block::fits(l[0], wide(l[1]), received[b], erased[b])
-}
-
 // The first bad block, or the number of blocks.
 fn first_bad(
-    sections: &[u16],
-    starts: &[usize; MOST_SECTIONS + 1],
+    views: [View; MOST_SECTIONS],
     k: usize,
     indices: &[u8],
     received: &[u16],
     erased: &[u8],
 ) -> usize
-    requires { ⌜ SectionsFound (now sections) (now starts) k × (k ≤ mostSections)
-        × (length (now received) ≡ length (now indices)) × (length (now erased) ≡ length (now indices)) ⌝ }
-    ensures { λ r. ⌜ r ≡ first (blockBad (now (sections .entry)) (now (indices .entry)) (now (received .entry)) (now (erased .entry)) k)
-        (length (now (indices .entry))) ⌝ }
+    requires { ⌜ Views views k × (length (now received) ≡ length (now indices)) × (length (now erased) ≡ length (now indices)) ⌝ }
+    ensures { λ r. ⌜ ((sections starts : List ℕ) (start end : ℕ) → SectionsFound sections starts views k
+        → r ≡ first (blockBad (frame sections k (now (indices .entry)) (now (received .entry)) (now (erased .entry)) start end))
+        (length (now (indices .entry)))) ⌝ }
 {
     let mut b: usize = 0;
     while b < indices.len() {
-        if block_bad(sections, starts, k, indices, received, erased, b) {
+        let i = widened(indices[b]);
+        if i >= k {
+            return b;
+        }
+        let at = views[i];
+        if !block::fits(at.q, at.n, received[b], erased[b]) {
             return b;
         }
         b += 1;
@@ -172,11 +124,64 @@ fn needed(blocks: usize, costs: usize, labels: usize, goals: usize) -> usize
     if goals < blocks { blocks } else { 0 }
 }
 
-// Fault 10, and then the two passes: the cost table, and where it has a path from the start state, the words of the first best one. K
-// plays no part here, so the promise is for any.
+// Nothing is left to pay in the end state, and there is no path from any other.
+fn ends_in(end: usize) -> [u32; COSTS_A_BLOCK]
+    requires { ⌜ end < mostStates ⌝ }
+    ensures { λ r. ⌜ Ends end r ⌝ }
+{
+    let mut ends = [NO_PATH; COSTS_A_BLOCK];
+    ends[end] = 0;
+    ends
+}
+
+// The two passes: the cost table, and where it has a path from the start state, the words of the first best one. K plays no part here, so
+// the promise is for any.
+fn decode_with(
+    sections: &[u16],
+    starts: &[usize; MOST_SECTIONS + 1],
+    views: [View; MOST_SECTIONS],
+    indices: &[u8],
+    received: &[u16],
+    erased: &[u8],
+    start: u8,
+    end: u8,
+    picks: &mut [u32],
+    costs: &mut [u32],
+    labels: &mut [u16],
+    goals: &mut [u8],
+) -> Decoded
+    requires { ⌜ Checked (now sections) (now starts) views (now indices) (now received) (now erased) start end
+        × Room (now indices) (now costs) (now labels) (now goals) × (costsABlock * length (now indices) ≤ length (now picks)) ⌝ }
+    ensures { λ r. ⌜ ((k : ℕ) → left (decodedOutcome r) (now (costs .exit)) (now (labels .exit)) (now (goals .exit))
+        ≡ fitted (frame (now (sections .entry)) k (now (indices .entry)) (now (received .entry)) (now (erased .entry)) start end)
+        (now (costs .entry)) (now (labels .entry)) (now (goals .entry))) ⌝ }
+{
+    let from = widened(start);
+    let ends = ends_in(widened(end));
+    fill_table(
+        sections,
+        starts,
+        views,
+        indices,
+        received,
+        erased,
+        ends,
+        costs,
+        picks,
+    );
+    let distance = costs[from];
+    if distance == NO_PATH {
+        return Decoded::NoPath;
+    }
+    follow(indices.len(), from, picks, labels, goals);
+    Decoded::Distance(distance)
+}
+
+// Fault 10, and then the passes. A frame of few blocks has a smaller array for its picks, since an array has to be cleared.
 fn decode_blocks(
     sections: &[u16],
     starts: &[usize; MOST_SECTIONS + 1],
+    views: [View; MOST_SECTIONS],
     indices: &[u8],
     received: &[u16],
     erased: &[u8],
@@ -186,39 +191,54 @@ fn decode_blocks(
     labels: &mut [u16],
     goals: &mut [u8],
 ) -> Decoded
-    requires { ⌜ FrameChecked (now sections) (now starts) (now indices) (now received) (now erased) start end ⌝ }
+    requires { ⌜ Checked (now sections) (now starts) views (now indices) (now received) (now erased) start end ⌝ }
     ensures { λ r. ⌜ ((k : ℕ) → left (decodedOutcome r) (now (costs .exit)) (now (labels .exit)) (now (goals .exit))
-        ≡ fitted (now (sections .entry)) k (now (indices .entry)) (now (received .entry)) (now (erased .entry)) start end
+        ≡ fitted (frame (now (sections .entry)) k (now (indices .entry)) (now (received .entry)) (now (erased .entry)) start end)
         (now (costs .entry)) (now (labels .entry)) (now (goals .entry))) ⌝ }
 {
     let short = needed(indices.len(), costs.len(), labels.len(), goals.len());
     if short > 0 {
         return Decoded::Short(short);
     }
-    let from = widened(start);
-    let to = widened(end);
-    let picks = fill_table(sections, starts, indices, received, erased, to, costs);
-    if costs[from] == NO_PATH {
-        return Decoded::NoPath;
+    if indices.len() <= FEW_BLOCKS {
+        let mut picks = [0u32; COSTS_A_BLOCK * FEW_BLOCKS];
+        return decode_with(
+            sections,
+            starts,
+            views,
+            indices,
+            received,
+            erased,
+            start,
+            end,
+            &mut picks,
+            costs,
+            labels,
+            goals,
+        );
     }
-    Decoded::Distance(name_words(
+    let mut picks = [0u32; COSTS_A_BLOCK * MOST_BLOCKS];
+    decode_with(
         sections,
         starts,
+        views,
         indices,
         received,
         erased,
-        from,
-        to,
-        &picks,
+        start,
+        end,
+        &mut picks,
+        costs,
         labels,
         goals,
-    ))
+    )
 }
 
 // Fault 9, and then what follows where there is none.
 fn decode_frame(
     sections: &[u16],
     starts: &[usize; MOST_SECTIONS + 1],
+    views: [View; MOST_SECTIONS],
     k: usize,
     indices: &[u8],
     received: &[u16],
@@ -229,21 +249,22 @@ fn decode_frame(
     labels: &mut [u16],
     goals: &mut [u8],
 ) -> Decoded
-    requires { ⌜ AllFound (now sections) (now starts) k ⌝ }
+    requires { ⌜ AllFound (now sections) (now starts) views k ⌝ }
     ensures { λ r. ⌜ left (decodedOutcome r) (now (costs .exit)) (now (labels .exit)) (now (goals .exit))
-        ≡ framed (now (sections .entry)) k (now (indices .entry)) (now (received .entry)) (now (erased .entry)) start end
+        ≡ framed (frame (now (sections .entry)) k (now (indices .entry)) (now (received .entry)) (now (erased .entry)) start end)
         (now (costs .entry)) (now (labels .entry)) (now (goals .entry)) ⌝ }
 {
     if frame_bad(indices, received, erased, start, end) {
         return Decoded::Block(indices.len());
     }
-    let bad = first_bad(sections, starts, k, indices, received, erased);
+    let bad = first_bad(views, k, indices, received, erased);
     if bad < indices.len() {
         return Decoded::Block(bad);
     }
     decode_blocks(
         sections,
         starts,
+        views,
         indices,
         received,
         erased,
@@ -273,23 +294,25 @@ pub fn decode(
     goals: &mut [u8],
 ) -> Decoded
     ensures { λ r. ⌜ left (decodedOutcome r) (now (costs .exit)) (now (labels .exit)) (now (goals .exit))
-        ≡ decoding (now (sections .entry)) k (now (indices .entry)) (now (received .entry)) (now (erased .entry)) start end
+        ≡ decoding (frame (now (sections .entry)) k (now (indices .entry)) (now (received .entry)) (now (erased .entry)) start end)
         (now (costs .entry)) (now (labels .entry)) (now (goals .entry)) ⌝ }
 {
     if !is_within(1, MOST_SECTIONS, k) {
         return Decoded::Section(k);
     }
-    let mut starts = [0usize; MOST_SECTIONS + 1];
-    let unusable = find_sections(sections, k, &mut starts);
-    if unusable < k {
-        return Decoded::Section(unusable);
+    let found = find_sections(sections, k);
+    if found.first < k {
+        return Decoded::Section(found.first);
     }
+    let starts = found.starts;
+    let views = found.views;
     if starts[k] != sections.len() {
         return Decoded::Section(k);
     }
     decode_frame(
         sections,
         &starts,
+        views,
         k,
         indices,
         received,

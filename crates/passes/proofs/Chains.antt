@@ -2,14 +2,14 @@
 -- definition, and the pick is the word that they name. Forward, each turn moves the first word of what is left of the path to what is
 -- written.
 use mathlib.Core.Path.{_≡_, refl, sym, ap, ap₂, subst, _∙_}
-use mathlib.Core.Logic.{_⊎_, inl, inr}
-use mathlib.Core.List.{List, _∷_, _++_}
+use mathlib.Core.Logic.{inr}
+use mathlib.Core.List.{List, _∷_}
 use Prim.Native.Nat.{ℕ, suc, _+_, _-_, _*_, _/_, _%_, _≤_, _<_}
 use native.Mathlib.Nat.{not-suc-le-zero, add-zero}
 use native.Mathlib.Decide.{ℕ-discrete}
 use native.Mathlib.Numerals.{add-one}
 use native.Mathlib.Omega.{arith}
-use lib.ListN.{length, getD, take, drop, set, length-set, length-append, length-take, length-drop}
+use lib.ListN.{length, getD, drop, set, length-set}
 use lib.Seq.{getD-set-same, getD-set-other, getD-drop, drop-drop}
 use Rattle.trellis.specs.Bounds.{mostStates, costsABlock}
 use Rattle.trellis.specs.Word.{Word, word, wordAt}
@@ -18,7 +18,7 @@ use Rattle.paths.specs.Chain.{unreached}
 use Rattle.paths.specs.inner.Costs.{least}
 use Rattle.paths.specs.inner.Chains.{atEnd, chainLeast, chainTrace}
 use Rattle.paths.specs.inner.OneBlock.{leastOver, firstOver, wordPrice}
-use Rattle.paths.specs.inner.Ranked.{labelUnit, distanceUnit, rankedCost, Pick}
+use Rattle.paths.specs.inner.Ranked.{labelUnit, distanceUnit, rankedCost}
 use Rattle.paths.proofs.Chain.{least-le, least-drops, least-block, trace-block}
 use Rattle.sweep.specs.inner.Rows.{Priced}
 use Rattle.passes.specs.inner.Blocks.{Costs, Passed}

@@ -147,13 +147,7 @@ fn goal_of(pick: u32) -> u8
 }
 
 // The first path of least cost from state `start`: writes the labels and goals of its words, by the picks.
-pub fn follow(
-    blocks: usize,
-    start: usize,
-    picks: &[u32],
-    labels: &mut [u16],
-    goals: &mut [u8],
-)
+pub fn follow(blocks: usize, start: usize, picks: &[u32], labels: &mut [u16], goals: &mut [u8])
     requires { ⌜ Followed blocks start (now picks) (now labels) (now goals) ⌝ }
     ensures { λ _. ⌜ FollowedTo blocks start (now (picks .entry)) (now (labels .entry)) (now (labels .exit)) (now (goals .entry))
         (now (goals .exit)) ⌝ }

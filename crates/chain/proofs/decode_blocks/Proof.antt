@@ -1,72 +1,27 @@
--- `chain::decode_blocks` meets its contract: a short buffer is answered as in the definition. Where none is short,
--- every check is passed, so the two passes leave the definition's cost table and, where the start state's place in
--- it is not unreached, its first path of least distance.
+-- `chain::decode_blocks` names the first short buffer, or decodes with an array for the picks that is long enough.
 use borrow.Author.Needs.{needs}
-use Rattle.chain.proofs.Buffers.{Room, room-of}
+use native.Mathlib.Omega.{arith}
+use Rattle.chain.specs.Frame.{frame}
+use Rattle.chain.proofs.Buffers.{room-of, picks-enough}
 use Rattle.chain.proofs.Faults.{ends-short}
-use Rattle.chain.proofs.Frames.{ready}
-use Rattle.chain.proofs.Ends.{tabled, from-in, ends-none, names-ready, ends-path}
 use Rattle.chain.proofs.decode_blocks.Statement.{statement}
 use Rattle.chain.proofs.decode_blocks.Tie as tie
-
-abbrev entry : tie.After-needed → tie.Start
-entry c = c .before .before .before .before .before .before .before .before
-
--- from where the table is filled, back to where the states are widened
-abbrev from : tie.After-fill-table → tie.After-widened
-from filled = filled .before .before .before
-
-abbrev to : tie.After-fill-table → tie.After-widened2
-to filled = filled .before .before
-
--- behind the first test no buffer is short
-room : (c : tie.Else1) → let a = entry (c .before) .args in Room (a .indices .now) (a .costs .now) (a .labels .now) (a .goals .now)
-room c = room-of (entry (c .before) .pre .frame .some) (c .before .needed .ensures) (c .if1 .left)
 
 needed-requires : tie.Need-needed-requires
 needed-requires c κs = search needs
 
 returns : tie.Need-returns
-returns c = ends-short _ _ _ _ _ _ _ _ _ (c .before .needed .ensures) (c .if1 .taken)
+returns c = λ k. ends-short (frame _ k _ _ _ _ _) _ _ _ (c .before .needed .ensures) (search needs)
 
-widened-requires : tie.Need-widened-requires
-widened-requires c κs = search needs
+slice-aggregate-decode-with : tie.Need-slice-aggregate-decode-with
+slice-aggregate-decode-with c = search needs
 
-widened-requires-2 : tie.Need-widened-requires-2
-widened-requires-2 c κs = search needs
-
-fill-table-requires : tie.Need-fill-table-requires
-fill-table-requires c κs = let fits = c .before .before .before in (ready (entry (fits .before) .pre), room fits .forCosts)
-
-mul-if2 : tie.Need-mul-if2
-mul-if2 c = search needs
-
-slice-read-if2 : tie.Need-slice-read-if2
-slice-read-if2 c =
-    let filled = c .before .before .before in
-    let fits = from filled .before in
-    from-in (tabled (entry (fits .before) .pre) (room fits) (from filled .widened .ensures .0) (to filled .widened2 .ensures .0)
-    (filled .fill-table .ensures))
+decode-with-requires : tie.Need-decode-with-requires
+decode-with-requires c κs =
+    (c .before .before .before .before .before .before .before .before .before .before .before .before .before .before .pre, room-of (c .before .before .before .before .before .before .before .before .before .before .before .before .before .before .pre .checks .framed .some) (c .before .before .before .before .before .before .needed .ensures) (search needs), omega (arith, c .before .before .before .before .if2 .taken))
 
 same-length : tie.Need-same-length
 same-length c = search needs
-
-returns-2 : tie.Need-returns-2
-returns-2 c =
-    let filled = c .before .before .before .before in
-    let fits = from filled .before in
-    ends-none (tabled (entry (fits .before) .pre) (room fits) (from filled .widened .ensures .0) (to filled .widened2 .ensures .0)
-    (filled .fill-table .ensures))
-    (c .if2 .taken)
-
-name-words-requires : tie.Need-name-words-requires
-name-words-requires c κs =
-    let at-test = c .before .before .before in
-    let filled = at-test .before .before .before .before in
-    let fits = from filled .before in
-    names-ready (tabled (entry (fits .before) .pre) (room fits) (from filled .widened .ensures .0) (to filled .widened2 .ensures .0)
-    (filled .fill-table .ensures))
-    (at-test .if2 .left)
 
 same-length-2 : tie.Need-same-length-2
 same-length-2 c = search needs
@@ -74,18 +29,27 @@ same-length-2 c = search needs
 same-length-3 : tie.Need-same-length-3
 same-length-3 c = search needs
 
+returns-2 : tie.Need-returns-2
+returns-2 c = search needs
+
+slice-aggregate-decode-with-2 : tie.Need-slice-aggregate-decode-with-2
+slice-aggregate-decode-with-2 c = search needs
+
+decode-with-requires-2 : tie.Need-decode-with-requires-2
+decode-with-requires-2 c κs =
+    (c .before .before .before .before .before .before .before .before .before .before .before .before .before .before .pre, room-of (c .before .before .before .before .before .before .before .before .before .before .before .before .before .before .pre .checks .framed .some) (c .before .before .before .before .before .before .needed .ensures) (search needs), picks-enough (c .before .before .before .before .before .before .before .before .before .before .before .before .before .before .pre .checks .framed .many))
+
 same-length-4 : tie.Need-same-length-4
 same-length-4 c = search needs
 
+same-length-5 : tie.Need-same-length-5
+same-length-5 c = search needs
+
+same-length-6 : tie.Need-same-length-6
+same-length-6 c = search needs
+
 returns-3 : tie.Need-returns-3
-returns-3 c =
-    let at-words = c .before .before .before .before in
-    let at-test = at-words .before .before .before .before in
-    let filled = at-test .before .before .before .before in
-    let fits = from filled .before in
-    ends-path (tabled (entry (fits .before) .pre) (room fits) (from filled .widened .ensures .0) (to filled .widened2 .ensures .0)
-    (filled .fill-table .ensures))
-    (at-test .if2 .left) (at-words .name-words .ensures)
+returns-3 c = search needs
 
 pub decode-blocks-spec : {M : Type 1} → statement M
 decode-blocks-spec =
@@ -93,15 +57,15 @@ decode-blocks-spec =
     (tie.spec
     needed-requires
     returns
-    widened-requires
-    widened-requires-2
-    fill-table-requires
-    mul-if2
-    slice-read-if2
+    slice-aggregate-decode-with
+    decode-with-requires
     same-length
-    returns-2
-    name-words-requires
     same-length-2
     same-length-3
+    returns-2
+    slice-aggregate-decode-with-2
+    decode-with-requires-2
     same-length-4
+    same-length-5
+    same-length-6
     returns-3)

@@ -1,40 +1,47 @@
--- `chain::decode_frame` meets its contract: it makes the definition's tests of the frame and of the blocks in the definition's order, and
--- behind them what is left is what the definition has there.
+-- `chain::decode_frame` names a fault of the frame or the first bad block, or goes on with the blocks.
 use borrow.Author.Needs.{needs}
-use Rattle.chain.proofs.Checks.{framed-of, frame-passed, checked}
+use mathlib.Core.Path.{sym, _∙_}
+use Rattle.chain.specs.Frame.{Frame, frame}
+use Rattle.chain.proofs.Checks.{FramePassed, views-of, framed-of, frame-passed, checked}
 use Rattle.chain.proofs.Faults.{ends-frame, ends-block, past-frame}
 use Rattle.chain.proofs.decode_frame.Statement.{statement}
 use Rattle.chain.proofs.decode_frame.Tie as tie
 
-abbrev entry : tie.After-frame-bad → tie.Start
-entry c = c .before .before .before .before .before .before .before .before
+-- the frame that the function is called with
+abbrev frame-of : tie.Start → Frame
+frame-of s =
+    frame (s .args .sections .now) (s .args .k) (s .args .indices .now) (s .args .received .now) (s .args .erased .now) (s .args .start)
+    (s .args .end)
+
+-- it passes where neither test names a fault
+passed : (e : tie.Else2) → FramePassed (frame-of (e .before .before .before .before .before .before .before .before .before .before .before))
+passed e =
+    let s = e .before .before .before .before .before .before .before .before .before .before .before in
+    let f = frame-of s in
+    frame-passed (e .before .before .before .frame-bad .ensures (f .sections) (f .k)) (e .before .before .if1 .left)
+    (e .before .first-bad .ensures (f .sections) (s .args .starts .now) (f .start) (f .end) (s .pre .found)) (search needs)
 
 frame-bad-requires : tie.Need-frame-bad-requires
 frame-bad-requires c κs = search needs
 
 returns : tie.Need-returns
-returns c = ends-frame _ _ _ _ _ _ _ _ _ _ (c .before .frame-bad .ensures) (c .if1 .taken)
+returns c = ends-frame (frame-of (c .before .before .before .before .before .before .before .before .before)) _ _ _ (c .before .frame-bad .ensures _ _) (c .if1 .taken)
 
 first-bad-requires : tie.Need-first-bad-requires
 first-bad-requires c κs =
-    let sections-found = entry (c .before) .pre in
-    let frame = framed-of (c .before .frame-bad .ensures) (c .if1 .left) in
-    (sections-found .found, sections-found .few, frame .receivedLong, frame .erasedLong)
+    let s = c .before .before .before .before .before .before .before .before .before in
+    let G = framed-of {f = frame-of s} (sym (c .before .frame-bad .ensures (s .args .sections .now) (s .args .k)) ∙ c .if1 .left) in
+    (views-of (s .pre), G .receivedLong, G .erasedLong)
 
 returns-2 : tie.Need-returns-2
 returns-2 c =
-    let at-blocks = c .before in
-    let at-frame = at-blocks .before in
-    ends-block _ _ _ _ _ _ _ _ _ _ (at-frame .before .frame-bad .ensures) (at-frame .if1 .left) (at-blocks .first-bad .ensures)
-    (c .if2 .taken)
+    let s = c .before .before .before .before .before .before .before .before .before .before .before in
+    let f = frame-of s in
+    ends-block f _ _ _ (c .before .before .before .frame-bad .ensures _ _) (c .before .before .if1 .left)
+    (c .before .first-bad .ensures (f .sections) (s .args .starts .now) (f .start) (f .end) (s .pre .found)) (c .if2 .taken)
 
 decode-blocks-requires : tie.Need-decode-blocks-requires
-decode-blocks-requires c κs =
-    let good = c .before .before .before in
-    let at-blocks = good .before in
-    let at-frame = at-blocks .before in
-    checked (entry (at-frame .before) .pre)
-    (frame-passed (at-frame .before .frame-bad .ensures) (at-frame .if1 .left) (at-blocks .first-bad .ensures) (good .if2 .left))
+decode-blocks-requires c κs = record { k = c .before .before .before .before .before .before .before .before .before .before .before .before .before .before .args .k; checks = checked (c .before .before .before .before .before .before .before .before .before .before .before .before .before .before .pre) (passed (c .before .before .before)) }
 
 same-length : tie.Need-same-length
 same-length c = search needs
@@ -46,14 +53,7 @@ same-length-3 : tie.Need-same-length-3
 same-length-3 c = search needs
 
 returns-3 : tie.Need-returns-3
-returns-3 c =
-    let at-end = c .before .before .before .before .before .before in
-    let good = at-end .before .before .before .before in
-    let at-blocks = good .before in
-    let at-frame = at-blocks .before in
-    past-frame _ _ _ _ _ _ _ _ _ _
-    (frame-passed (at-frame .before .frame-bad .ensures) (at-frame .if1 .left) (at-blocks .first-bad .ensures) (good .if2 .left))
-    (at-end .decode-blocks .ensures _)
+returns-3 c = past-frame (frame-of (c .before .before .before .before .before .before .before .before .before .before .before .before .before .before .before .before .before .before .before .before .before)) _ _ _ (passed (c .before .before .before .before .before .before .before .before .before .before)) (c .before .before .before .before .before .before .decode-blocks .ensures (c .before .before .before .before .before .before .before .before .before .before .before .before .before .before .before .before .before .before .before .before .before .args .k))
 
 pub decode-frame-spec : {M : Type 1} → statement M
 decode-frame-spec =

@@ -1,37 +1,56 @@
--- What the checks of the sections and of the frame leave where they are passed: all that the two passes ask for.
+-- What the checks of the sections and of the frame leave where they are passed.
 use mathlib.Core.Path.{_≡_}
 use mathlib.Core.List.{List}
-use Prim.Native.Nat.{ℕ, _≤_, _<_}
+use Prim.Native.Nat.{ℕ, _*_, _≤_, _<_}
 use lib.ListN.{length, getD}
-use Rattle.trellis.specs.Bounds.{mostStates, mostSections, mostBlocks}
-use Rattle.trellis.specs.Layout.{nOf}
-use Rattle.block.specs.inner.Prices.{Clean}
-use Rattle.chain.specs.Frame.{blockSection}
-use Rattle.chain.specs.inner.Loops.{SectionsFound}
+use Rattle.trellis.specs.Bounds.{mostStates, mostSymbols, mostSections, mostBlocks, costsABlock}
+use Rattle.section_file.specs.declared.View.{View}
+use Rattle.paths.specs.Chain.{unreached, endsIn}
+use Rattle.paths.specs.inner.Chains.{atEnd}
+use Rattle.chain.specs.Decoding.{neededOf}
+use Rattle.chain.specs.Frame.{Frame, frame, blockCount}
+use Rattle.chain.specs.inner.Loops.{SectionsFound, noView}
 
 -- 1 ≤ K ≤ 16, and all K sections are usable
-pub record AllFound (sections starts : List ℕ) (k : ℕ) : Type 0 where
+pub record AllFound (sections starts : List ℕ) (views : List View) (k : ℕ) : Type 0 where
   pub some : 0 < k
   pub few : k ≤ mostSections
-  pub found : SectionsFound sections starts k
+  pub found : SectionsFound sections starts views k
+
+-- views of k sections at most, each of few symbols
+pub record Views (views : List View) (k : ℕ) : Type 0 where
+  pub few : k ≤ mostSections
+  pub long : length views ≡ mostSections
+  pub short : (j : ℕ) → j < k → getD views j noView .n ≤ mostSymbols
 
 -- a frame that is not bad
-pub record Framed (indices received erased : List ℕ) (start end : ℕ) : Type 0 where
-  pub some : 1 ≤ length indices
-  pub many : length indices ≤ mostBlocks
-  pub receivedLong : length received ≡ length indices
-  pub erasedLong : length erased ≡ length indices
-  pub startBelow : start < mostStates
-  pub endBelow : end < mostStates
-
--- a block that is not bad
-pub record BlockGood (sections indices received erased : List ℕ) (k b : ℕ) : Type 0 where
-  pub indexBelow : getD indices b 0 < k
-  pub clean : Clean (nOf (blockSection sections indices received erased b)) (getD received b 0) (getD erased b 0)
+pub record Framed (f : Frame) : Type 0 where
+  pub some : 1 ≤ blockCount f
+  pub many : blockCount f ≤ mostBlocks
+  pub receivedLong : length (f .received) ≡ blockCount f
+  pub erasedLong : length (f .erased) ≡ blockCount f
+  pub startBelow : f .start < mostStates
+  pub endBelow : f .end < mostStates
 
 -- the sections are found, and neither the frame nor a block is bad
-pub record FrameChecked (sections starts indices received erased : List ℕ) (start end : ℕ) : Type 0 where
+pub record FrameChecked (f : Frame) (starts : List ℕ) (views : List View) : Type 0 where
+  pub sectionsFound : AllFound (f .sections) starts views (f .k)
+  pub framed : Framed f
+  pub indexBelow : (b : ℕ) → b < blockCount f → getD (f .indices) b 0 < f .k
+
+-- the same, where K plays no part any more
+pub record Checked (sections starts : List ℕ) (views : List View) (indices received erased : List ℕ) (start end : ℕ) : Type 0 where
   pub k : ℕ
-  pub sectionsFound : AllFound sections starts k
-  pub frame : Framed indices received erased start end
-  pub good : (b : ℕ) → b < length indices → BlockGood sections indices received erased k b
+  pub checks : FrameChecked (frame sections k indices received erased start end) starts views
+
+-- no buffer is short
+pub record Room (indices costs labels goals : List ℕ) : Type 0 where
+  pub none-short : neededOf (length indices) (length costs) (length labels) (length goals) ≤ 0
+  pub forCosts : costsABlock * length indices ≤ length costs
+  pub forLabels : length indices ≤ length labels
+  pub forGoals : length indices ≤ length goals
+
+-- nothing is left to pay in the end state, and there is no path from any other
+pub record Ends (end : ℕ) (left : List ℕ) : Type 0 where
+  pub long : length left ≡ mostStates
+  pub at : (s : ℕ) → s < mostStates → getD left s 0 ≡ atEnd unreached (endsIn end) s

@@ -6,24 +6,31 @@ use Prim.Native.Nat.{ℕ, suc, _≤_, _<_}
 use lib.ListN.{length, getD}
 use Rattle.trellis.specs.Bounds.{mostSections}
 use Rattle.section_file.specs.Usable.{usable}
+use Rattle.section_file.specs.inner.View.{viewOf}
+use Rattle.section_file.specs.declared.View.{View}
 use Rattle.section_file.specs.declared.Part.{Part}
 use Rattle.section_file.specs.declared.Part.the-variants.{Usable, Unusable}
 use Rattle.chain.specs.Sections.{sectionStart, sectionAt}
 
--- the first i sections are usable, and the places where they and the next one begin are known
-pub record SectionsFound (sections starts : List ℕ) (i : ℕ) : Type 0 where
+-- the view of no section: its length is 0
+abbrev pub noView : View
+noView = record { q = 0; n = 0; roots = 0; goals = 0; pairs = 0; symbols = 0; edges = 0; end = 0 }
+
+abbrev pub viewIn : Part → View
+viewIn (Usable view) = view
+viewIn Unusable = noView
+
+-- the first i sections are usable, and their views and the places where they and the next one begin are known
+pub record SectionsFound (sections starts : List ℕ) (views : List View) (i : ℕ) : Type 0 where
   pub long : length starts ≡ suc mostSections
+  pub viewsLong : length views ≡ mostSections
   pub at : (j : ℕ) → j ≤ i → getD starts j 0 ≡ sectionStart sections j
   pub usable-before : (j : ℕ) → j < i → usable (sectionAt sections j) ≡ true
+  pub view : (j : ℕ) → j < i → getD views j noView ≡ viewOf (sectionAt sections j)
   pub inside : sectionStart sections i ≤ length sections
 
 -- section r is the first unusable one, or r is k
-pub record FirstUnusable (sections starts : List ℕ) (k r : ℕ) : Type 0 where
+pub record FirstUnusable (sections starts : List ℕ) (views : List View) (k r : ℕ) : Type 0 where
   pub r-le : r ≤ k
-  pub found : SectionsFound sections starts r
+  pub found : SectionsFound sections starts views r
   pub unusable-at : r < k → usable (sectionAt sections r) ≡ true → ⊥
-
--- the length of a part of the sections, 0 where it is unusable
-abbrev pub partLength : Part → ℕ
-partLength (Usable view) = view .end
-partLength Unusable = 0

@@ -1,0 +1,76 @@
+-- `chain::decode_with` fills the table and follows the picks: what these leave is what the frame's best path gives.
+use borrow.Author.Needs.{needs}
+use Rattle.chain.proofs.Ends.{ready, with-none, with-picks, with-path}
+use Rattle.chain.proofs.decode_with.Statement.{statement}
+use Rattle.chain.proofs.decode_with.Tie as tie
+
+widened-requires : tie.Need-widened-requires
+widened-requires c κs = search needs
+
+widened-requires-2 : tie.Need-widened-requires-2
+widened-requires-2 c κs = search needs
+
+ends-in-requires : tie.Need-ends-in-requires
+ends-in-requires c κs = search needs
+
+fill-table-requires : tie.Need-fill-table-requires
+fill-table-requires c κs = (ready (c .before .before .before .before .before .before .before .before .before .before .before .before .before .pre .0 .checks), c .before .before .ends-in .ensures .long, c .before .before .before .before .before .before .before .before .before .before .before .before .before .pre .1 .forCosts, c .before .before .before .before .before .before .before .before .before .before .before .before .before .pre .2)
+
+mul-distance : tie.Need-mul-distance
+mul-distance c = search needs
+
+slice-read-distance : tie.Need-slice-read-distance
+slice-read-distance c = search needs
+
+same-length : tie.Need-same-length
+same-length c = search needs
+
+same-length-2 : tie.Need-same-length-2
+same-length-2 c = search needs
+
+returns : tie.Need-returns
+returns c =
+    with-none (c .before .before .before .before .before .before .before .before .before .before .before .before .before .before .before .before .before .before .before .before .pre .0) (c .before .before .before .before .before .before .before .before .before .before .before .widened .ensures .0) (c .before .before .before .before .before .before .before .before .before .before .widened2 .ensures .0) (c .before .before .before .before .before .before .before .before .before .ends-in .ensures) (c .before .before .before .before .before .before .before .before .before .before .before .before .before .before .before .before .before .before .before .before .pre .1) (c .before .before .before .before .before .before .fill-table .ensures)
+    (c .if1 .taken)
+
+follow-requires : tie.Need-follow-requires
+follow-requires c κs =
+    with-picks (c .before .before .before .before .before .before .before .before .before .before .before .before .before .before .before .before .before .before .before .before .before .before .before .pre .0) (c .before .before .before .before .before .before .before .before .before .before .before .before .before .before .widened .ensures .0) (c .before .before .before .before .before .before .before .before .before .before .before .before .before .widened2 .ensures .0) (c .before .before .before .before .before .before .before .before .before .before .before .before .ends-in .ensures) (c .before .before .before .before .before .before .before .before .before .before .before .before .before .before .before .before .before .before .before .before .before .before .before .pre .1) (c .before .before .before .before .before .before .before .before .before .fill-table .ensures)
+    (c .before .before .before .if1 .left) (c .before .before .before .before .before .before .before .before .before .before .before .before .before .before .before .before .before .before .before .before .before .before .before .pre .2)
+
+same-length-3 : tie.Need-same-length-3
+same-length-3 c = search needs
+
+same-length-4 : tie.Need-same-length-4
+same-length-4 c = search needs
+
+same-length-5 : tie.Need-same-length-5
+same-length-5 c = search needs
+
+same-length-6 : tie.Need-same-length-6
+same-length-6 c = search needs
+
+returns-2 : tie.Need-returns-2
+returns-2 c =
+    with-path (c .before .before .before .before .before .before .before .before .before .before .before .before .before .before .before .before .before .before .before .before .before .before .before .before .before .before .before .before .pre .0) (c .before .before .before .before .before .before .before .before .before .before .before .before .before .before .before .before .before .before .before .widened .ensures .0) (c .before .before .before .before .before .before .before .before .before .before .before .before .before .before .before .before .before .before .widened2 .ensures .0) (c .before .before .before .before .before .before .before .before .before .before .before .before .before .before .before .before .before .ends-in .ensures) (c .before .before .before .before .before .before .before .before .before .before .before .before .before .before .before .before .before .before .before .before .before .before .before .before .before .before .before .before .pre .1)
+    (c .before .before .before .before .before .before .before .before .before .before .before .before .before .before .fill-table .ensures) (c .before .before .before .before .before .before .before .before .if1 .left) (c .before .before .before .before .follow .ensures)
+
+pub decode-with-spec : {M : Type 1} → statement M
+decode-with-spec =
+    tie.close
+    (tie.spec
+    widened-requires
+    widened-requires-2
+    ends-in-requires
+    fill-table-requires
+    mul-distance
+    slice-read-distance
+    same-length
+    same-length-2
+    returns
+    follow-requires
+    same-length-3
+    same-length-4
+    same-length-5
+    same-length-6
+    returns-2)

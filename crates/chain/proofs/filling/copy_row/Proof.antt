@@ -1,0 +1,62 @@
+-- `chain::filling::copy_row` copies number by number. The loop's invariant: those passed are copied. The measure is how many are left.
+use borrow.Author.Needs.{needs}
+use mathlib.Core.Path.{sym, _∙_}
+use Prim.Native.Nat.{_-_, _≤_}
+use Rattle.trellis.specs.Bounds.{mostStates}
+use Rattle.chain.specs.inner.Filled.{Copied}
+use Rattle.chain.proofs.Rows.{copy-start, copy-more, copy-end}
+use Rattle.chain.proofs.filling.copy_row.Statement.{statement}
+use Rattle.chain.proofs.filling.copy_row.Tie as tie
+
+abbrev Inv-loop : tie.InvT-loop
+Inv-loop row place₀ s₀ place s = Copied row place s × (s ≤ mostStates)
+
+abbrev μ-loop : tie.MeasureT-loop
+μ-loop row place₀ s₀ place s = mostStates - s
+
+loop-holds : tie.Need-loop-holds Inv-loop μ-loop
+loop-holds c = (copy-start (c .pre .1), search needs)
+
+mul-place : tie.Need-mul-place Inv-loop μ-loop
+mul-place c = search needs
+
+element-copy-out-place : tie.Need-element-copy-out-place Inv-loop μ-loop
+element-copy-out-place c = search needs
+
+mul-place-2 : tie.Need-mul-place-2 Inv-loop μ-loop
+mul-place-2 c = search needs
+
+slice-write-place : tie.Need-slice-write-place Inv-loop μ-loop
+slice-write-place c = search (needs, c .before .before .loop .inv .0 .long)
+
+add-s : tie.Need-add-s Inv-loop μ-loop
+add-s c = search needs
+
+loop-less : tie.Need-loop-less Inv-loop μ-loop
+loop-less c = search needs
+
+loop-again : tie.Need-loop-again Inv-loop μ-loop
+loop-again c = (copy-more (c .before .before .loop .inv .0) (search needs), search needs)
+
+same-length : tie.Need-same-length Inv-loop μ-loop
+same-length c = c .before .loop .inv .0 .long ∙ sym (c .before .before .pre .1)
+
+returns : tie.Need-returns Inv-loop μ-loop
+returns c = copy-end (c .before .loop .inv .0) (search needs)
+
+pub copy-row-spec : {M : Type 1} → statement M
+copy-row-spec =
+    tie.close
+    (tie.spec
+    Inv-loop
+    μ-loop
+    loop-holds
+    mul-place
+    element-copy-out-place
+    mul-place-2
+    slice-write-place
+    add-s
+    loop-less
+    loop-again
+    same-length
+    returns)

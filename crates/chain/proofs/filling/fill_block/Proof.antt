@@ -1,0 +1,41 @@
+-- `chain::filling::fill_block` makes the prices, passes the block and copies what is left to pay.
+use borrow.Author.Needs.{needs}
+use native.Mathlib.Omega.{arith}
+use Rattle.section_file.proofs.Seen.{header}
+use Rattle.chain.proofs.Tables.{block-filled}
+use Rattle.chain.proofs.filling.fill_block.Statement.{statement}
+use Rattle.chain.proofs.filling.fill_block.Tie as tie
+
+put-prices-requires : tie.Need-put-prices-requires
+put-prices-requires c κs = let H = header (c .before .before .before .before .pre .0) in (omega (arith, H .n-is, H .n-le), c .before .before .before .before .pre .2 .room)
+
+pass-block-requires : tie.Need-pass-block-requires
+pass-block-requires c κs = search needs
+
+copy-row-requires : tie.Need-copy-row-requires
+copy-row-requires c κs = search needs
+
+same-length : tie.Need-same-length
+same-length c = search needs
+
+same-length-2 : tie.Need-same-length-2
+same-length-2 c = search needs
+
+returns : tie.Need-returns
+returns c =
+    let P = c .before .before .before .before .before .before .before .before .before .before .before .before .before .before .put-prices .ensures in
+    let B = c .before .before .before .before .before .before .before .pass-block .ensures in (
+      block-filled (header (c .before .before .before .before .before .before .before .before .before .before .before .before .before .before .before .before .before .before .before .pre .0) .n-is) P (B .0) (c .before .before .copy-row .ensures),
+      record { leftLong = B .0 .long; room = P .room; evenLong = B .1; oddLong = B .2 },
+    )
+
+pub fill-block-spec : {M : Type 1} → statement M
+fill-block-spec =
+    tie.close
+    (tie.spec
+    put-prices-requires
+    pass-block-requires
+    copy-row-requires
+    same-length
+    same-length-2
+    returns)

@@ -1,0 +1,159 @@
+-- `chain::filling::fill_table` passes the blocks from the last to the first. The loop's invariant: what is left to pay, the cost table and the
+-- picks are those of the chain from block b on. The measure is b.
+use borrow.Author.Needs.{needs}
+use native.Mathlib.Omega.{arith}
+use lib.ListN.{length-take, length-drop}
+use Rattle.chain.specs.inner.Filled.{held}
+use Rattle.chain.proofs.Tables.{InFill, fill-start, fill-below, block-at, rows-at, filled-part, fill-more, fill-end}
+use Rattle.chain.proofs.Rows.{row-back}
+use Rattle.chain.proofs.filling.fill_table.Statement.{statement}
+use Rattle.chain.proofs.filling.fill_table.Tie as tie
+
+abbrev Inv-loop : tie.InvT-loop
+Inv-loop sections starts indices received erased costs₀ picks₀ views left₀ prices₀ even₀ odd₀ b₀ costs picks left prices even odd b = InFill (held sections starts views indices received erased) left₀ costs₀ costs picks₀ picks left prices even odd b
+
+abbrev μ-loop : tie.MeasureT-loop
+μ-loop sections starts indices received erased costs₀ picks₀ views left₀ prices₀ even₀ odd₀ b₀ costs picks left prices even odd b = b
+
+loop-holds : tie.Need-loop-holds Inv-loop μ-loop
+loop-holds c = fill-start (c .before .before .before .before .before .before .pre .1)
+
+sub-b : tie.Need-sub-b Inv-loop μ-loop
+sub-b c = search needs
+
+shared-slice-read-widened : tie.Need-shared-slice-read-widened Inv-loop μ-loop
+shared-slice-read-widened c = search (needs, c .before .before .loop .inv .b-le)
+
+widened-requires : tie.Need-widened-requires Inv-loop μ-loop
+widened-requires c κs = search needs
+
+mul-at : tie.Need-mul-at Inv-loop μ-loop
+mul-at c = search (needs, block-at (c .before .before .before .before .before .before .before .before .before .before .pre .0) (fill-below (c .before .before .before .loop .inv) (c .before .before .loop-test .taken)) (c .widened .ensures .0))
+
+array-copy-out-at : tie.Need-array-copy-out-at Inv-loop μ-loop
+array-copy-out-at c = search (needs, block-at (c .before .before .before .before .before .before .before .before .before .before .pre .0) (fill-below (c .before .before .before .loop .inv) (c .before .before .loop-test .taken)) (c .widened .ensures .0))
+
+mul-start : tie.Need-mul-start Inv-loop μ-loop
+mul-start c = search (needs, block-at (c .before .before .before .before .before .before .before .before .before .before .before .pre .0) (fill-below (c .before .before .before .before .loop .inv) (c .before .before .before .loop-test .taken)) (c .before .widened .ensures .0))
+
+element-copy-out-start : tie.Need-element-copy-out-start Inv-loop μ-loop
+element-copy-out-start c = search (needs, block-at (c .before .before .before .before .before .before .before .before .before .before .before .pre .0) (fill-below (c .before .before .before .before .loop .inv) (c .before .before .before .loop-test .taken)) (c .before .widened .ensures .0))
+
+mul-word : tie.Need-mul-word Inv-loop μ-loop
+mul-word c = search (needs, block-at (c .before .before .before .before .before .before .before .before .before .before .before .before .pre .0) (fill-below (c .before .before .before .before .before .loop .inv) (c .before .before .before .before .loop-test .taken)) (c .before .before .widened .ensures .0))
+
+shared-slice-read-word : tie.Need-shared-slice-read-word Inv-loop μ-loop
+shared-slice-read-word c = search (needs, block-at (c .before .before .before .before .before .before .before .before .before .before .before .before .before .pre .0) (fill-below (c .before .before .before .before .before .before .loop .inv) (c .before .before .before .before .before .loop-test .taken)) (c .before .before .before .widened .ensures .0), c .before .before .before .before .before .before .loop .inv .b-le)
+
+shared-slice-read-mask : tie.Need-shared-slice-read-mask Inv-loop μ-loop
+shared-slice-read-mask c = search (needs, block-at (c .before .before .before .before .before .before .before .before .before .before .before .before .before .before .pre .0) (fill-below (c .before .before .before .before .before .before .before .loop .inv) (c .before .before .before .before .before .before .loop-test .taken)) (c .before .before .before .before .widened .ensures .0), c .before .before .before .before .before .before .before .loop .inv .b-le)
+
+mul-first : tie.Need-mul-first Inv-loop μ-loop
+mul-first c = search (needs, block-at (c .before .before .before .before .before .before .before .before .before .before .before .before .before .before .pre .0) (fill-below (c .before .before .before .before .before .before .before .loop .inv) (c .before .before .before .before .before .before .loop-test .taken)) (c .before .before .before .before .widened .ensures .0))
+
+add-next : tie.Need-add-next Inv-loop μ-loop
+add-next c = search (needs, block-at (c .before .before .before .before .before .before .before .before .before .before .before .before .before .before .pre .0) (fill-below (c .before .before .before .before .before .before .before .loop .inv) (c .before .before .before .before .before .before .loop-test .taken)) (c .before .before .before .before .widened .ensures .0))
+
+mul-fill-block : tie.Need-mul-fill-block Inv-loop μ-loop
+mul-fill-block c = search (needs, block-at (c .before .before .before .before .before .before .before .before .before .before .before .before .before .before .pre .0) (fill-below (c .before .before .before .before .before .before .before .loop .inv) (c .before .before .before .before .before .before .loop-test .taken)) (c .before .before .before .before .widened .ensures .0))
+
+sub-fill-block : tie.Need-sub-fill-block Inv-loop μ-loop
+sub-fill-block c = search (needs, block-at (c .before .before .before .before .before .before .before .before .before .before .before .before .before .before .pre .0) (fill-below (c .before .before .before .before .before .before .before .loop .inv) (c .before .before .before .before .before .before .loop-test .taken)) (c .before .before .before .before .widened .ensures .0))
+
+part-fill-block-start : tie.Need-part-fill-block-start Inv-loop μ-loop
+part-fill-block-start c = search (needs, block-at (c .before .before .before .before .before .before .before .before .before .before .before .before .before .before .pre .0) (fill-below (c .before .before .before .before .before .before .before .loop .inv) (c .before .before .before .before .before .before .loop-test .taken)) (c .before .before .before .before .widened .ensures .0))
+
+part-fill-block-end : tie.Need-part-fill-block-end Inv-loop μ-loop
+part-fill-block-end c = search needs
+
+mul-fill-block-2 : tie.Need-mul-fill-block-2 Inv-loop μ-loop
+mul-fill-block-2 c = search (needs, block-at (c .before .before .before .before .before .before .before .before .before .before .before .before .before .before .before .before .pre .0) (fill-below (c .before .before .before .before .before .before .before .before .before .loop .inv) (c .before .before .before .before .before .before .before .before .loop-test .taken)) (c .before .before .before .before .before .before .widened .ensures .0))
+
+sub-fill-block-2 : tie.Need-sub-fill-block-2 Inv-loop μ-loop
+sub-fill-block-2 c = search (needs, block-at (c .before .before .before .before .before .before .before .before .before .before .before .before .before .before .before .before .pre .0) (fill-below (c .before .before .before .before .before .before .before .before .before .loop .inv) (c .before .before .before .before .before .before .before .before .loop-test .taken)) (c .before .before .before .before .before .before .widened .ensures .0))
+
+part-fill-block-start-2 : tie.Need-part-fill-block-start-2 Inv-loop μ-loop
+part-fill-block-start-2 c = search (needs, rows-at (c .before .before .before .before .before .before .before .before .before .loop .inv) (c .before .before .before .before .before .before .before .before .before .before .before .before .before .before .before .before .pre .2) (c .before .before .before .before .before .before .before .before .before .before .before .before .before .before .before .before .pre .3) (c .before .before .before .before .before .before .before .before .loop-test .taken))
+
+part-fill-block-end-2 : tie.Need-part-fill-block-end-2 Inv-loop μ-loop
+part-fill-block-end-2 c = search (needs, rows-at (c .before .before .before .before .before .before .before .before .before .loop .inv) (c .before .before .before .before .before .before .before .before .before .before .before .before .before .before .before .before .pre .2) (c .before .before .before .before .before .before .before .before .before .before .before .before .before .before .before .before .pre .3) (c .before .before .before .before .before .before .before .before .loop-test .taken))
+
+mul-fill-block-3 : tie.Need-mul-fill-block-3 Inv-loop μ-loop
+mul-fill-block-3 c = search (needs, block-at (c .before .before .before .before .before .before .before .before .before .before .before .before .before .before .before .before .before .pre .0) (fill-below (c .before .before .before .before .before .before .before .before .before .before .loop .inv) (c .before .before .before .before .before .before .before .before .before .loop-test .taken)) (c .before .before .before .before .before .before .before .widened .ensures .0))
+
+sub-fill-block-3 : tie.Need-sub-fill-block-3 Inv-loop μ-loop
+sub-fill-block-3 c = search (needs, block-at (c .before .before .before .before .before .before .before .before .before .before .before .before .before .before .before .before .before .pre .0) (fill-below (c .before .before .before .before .before .before .before .before .before .before .loop .inv) (c .before .before .before .before .before .before .before .before .before .loop-test .taken)) (c .before .before .before .before .before .before .before .widened .ensures .0))
+
+part-fill-block-start-3 : tie.Need-part-fill-block-start-3 Inv-loop μ-loop
+part-fill-block-start-3 c = search (needs, rows-at (c .before .before .before .before .before .before .before .before .before .before .loop .inv) (c .before .before .before .before .before .before .before .before .before .before .before .before .before .before .before .before .before .pre .2) (c .before .before .before .before .before .before .before .before .before .before .before .before .before .before .before .before .before .pre .3) (c .before .before .before .before .before .before .before .before .before .loop-test .taken))
+
+part-fill-block-end-3 : tie.Need-part-fill-block-end-3 Inv-loop μ-loop
+part-fill-block-end-3 c = search (needs, rows-at (c .before .before .before .before .before .before .before .before .before .before .loop .inv) (c .before .before .before .before .before .before .before .before .before .before .before .before .before .before .before .before .before .pre .2) (c .before .before .before .before .before .before .before .before .before .before .before .before .before .before .before .before .before .pre .3) (c .before .before .before .before .before .before .before .before .before .loop-test .taken))
+
+fill-block-requires : tie.Need-fill-block-requires Inv-loop μ-loop
+fill-block-requires c κs =
+    let R = rows-at (c .before .before .before .before .before .before .before .before .before .before .before .before .before .before .loop .inv) (c .before .before .before .before .before .before .before .before .before .before .before .before .before .before .before .before .before .before .before .before .before .pre .2) (c .before .before .before .before .before .before .before .before .before .before .before .before .before .before .before .before .before .before .before .before .before .pre .3) (c .before .before .before .before .before .before .before .before .before .before .before .before .before .loop-test .taken) in (
+      block-at (c .before .before .before .before .before .before .before .before .before .before .before .before .before .before .before .before .before .before .before .before .before .pre .0) (fill-below (c .before .before .before .before .before .before .before .before .before .before .before .before .before .before .loop .inv) (c .before .before .before .before .before .before .before .before .before .before .before .before .before .loop-test .taken)) (c .before .before .before .before .before .before .before .before .before .before .before .widened .ensures .0) .seen,
+      record {
+        costsLong = simp (length-take, length-drop) (omega (arith, R .costs-in));
+        picksLong = simp (length-take, length-drop) (omega (arith, R .picks-in));
+      },
+      c .before .before .before .before .before .before .before .before .before .before .before .before .before .before .loop .inv .working,
+    )
+
+loop-less : tie.Need-loop-less Inv-loop μ-loop
+loop-less c = omega (arith, c .before .before .before .before .before .before .before .before .before .before .before .before .before .before .before .before .before .before .loop-test .taken)
+
+loop-again : tie.Need-loop-again Inv-loop μ-loop
+loop-again c =
+    let E = c .before .before .before .before .fill-block .ensures in
+    let R = rows-at (c .before .before .before .before .before .before .before .before .before .before .before .before .before .before .before .before .before .before .before .loop .inv) (c .before .before .before .before .before .before .before .before .before .before .before .before .before .before .before .before .before .before .before .before .before .before .before .before .before .before .pre .2) (c .before .before .before .before .before .before .before .before .before .before .before .before .before .before .before .before .before .before .before .before .before .before .before .before .before .before .pre .3) (c .before .before .before .before .before .before .before .before .before .before .before .before .before .before .before .before .before .before .loop-test .taken) in
+    fill-more (c .before .before .before .before .before .before .before .before .before .before .before .before .before .before .before .before .before .before .before .loop .inv) (c .before .before .before .before .before .before .before .before .before .before .before .before .before .before .before .before .before .before .loop-test .taken) (filled-part (block-at (c .before .before .before .before .before .before .before .before .before .before .before .before .before .before .before .before .before .before .before .before .before .before .before .before .before .before .pre .0) (fill-below (c .before .before .before .before .before .before .before .before .before .before .before .before .before .before .before .before .before .before .before .loop .inv) (c .before .before .before .before .before .before .before .before .before .before .before .before .before .before .before .before .before .before .loop-test .taken)) (c .before .before .before .before .before .before .before .before .before .before .before .before .before .before .before .before .widened .ensures .0)) (E .0)) (E .1)
+    (row-back (E .0 .copied .long) (R .costs-in)) (row-back (E .0 .passed .picksLong) (R .picks-in))
+
+same-length : tie.Need-same-length Inv-loop μ-loop
+same-length c = c .before .loop .inv .long
+
+same-length-2 : tie.Need-same-length-2 Inv-loop μ-loop
+same-length-2 c = c .before .loop .inv .picksLong
+
+returns : tie.Need-returns Inv-loop μ-loop
+returns c = fill-end (c .before .loop .inv) (search needs)
+
+pub fill-table-spec : {M : Type 1} → statement M
+fill-table-spec =
+    tie.close
+    (tie.spec
+    Inv-loop
+    μ-loop
+    loop-holds
+    sub-b
+    shared-slice-read-widened
+    widened-requires
+    mul-at
+    array-copy-out-at
+    mul-start
+    element-copy-out-start
+    mul-word
+    shared-slice-read-word
+    shared-slice-read-mask
+    mul-first
+    add-next
+    mul-fill-block
+    sub-fill-block
+    part-fill-block-start
+    part-fill-block-end
+    mul-fill-block-2
+    sub-fill-block-2
+    part-fill-block-start-2
+    part-fill-block-end-2
+    mul-fill-block-3
+    sub-fill-block-3
+    part-fill-block-start-3
+    part-fill-block-end-3
+    fill-block-requires
+    loop-less
+    loop-again
+    same-length
+    same-length-2
+    returns)
