@@ -17,7 +17,7 @@ use Rattle.trellis.proofs.Laid.{before-none, before-more, before-le, before-few
 use Rattle.section_file.specs.Usable.{stepEdge}
 use Rattle.section_file.specs.inner.Sound.{Sound}
 use Rattle.section_file.specs.inner.View.{viewOf, Counted, Laid}
-use Rattle.section_file.specs.inner.Edges.{EdgesThere}
+use Rattle.section_file.specs.inner.Edges.{EdgesThere, EdgesSmall}
 use Rattle.section_file.specs.inner.Answer.{edgeIn}
 use Rattle.section_file.specs.declared.View.{View}
 
@@ -129,10 +129,6 @@ module _ (l : List ℕ) (i : ℕ) {pairs symbols : ℕ} (p : pairs ≡ pairsPlac
           let e : pairs + (2 * k + 1) ≡ pairsPlace l + 2 * (i + k) + 1 = omega arith in
           from-at l pairs (2 * k + 1) ∙ ap (λ x. getD l x 0) e
 
-  pub edges-there : (k : ℕ) → sectionLength l ≤ length l → i + k < allEdges l
-      → (2 * k + 1 < length (take (length l - pairs) (drop pairs l))) × (k < length (take (length l - symbols) (drop symbols l)))
-  edges-there k w h = let P = parts l in (omega (arith, from-length l pairs), omega (arith, from-length l symbols))
-
   pub run-there : {count : ℕ} → sectionLength l ≤ length l → count ≤ mostWords → i + count ≤ allEdges l
       → EdgesThere (take (length l - pairs) (drop pairs l)) (take (length l - symbols) (drop symbols l)) count
   run-there w few h =
@@ -177,6 +173,9 @@ module _ {l : List ℕ} (s : Sound l) where
   pub counted-of : Counted l
   counted-of = record { nTo = s .nTo; qTo = s .qTo; verticesTo = s .verticesTo; edgesTo = s .edgesTo }
 
+  pub laid-of : {at : View} → at ≡ viewOf l → Laid l at
+  laid-of e = record { counted = counted-of; whole = s .whole; is = e }
+
   pub section-near : sectionLength l ≤ 30000
   section-near = counts-near counted-of
 
@@ -188,6 +187,35 @@ module _ {l : List ℕ} (s : Sound l) where
 
   pub goals-few : vertexCountOf l (nOf l) ≤ mostStates
   goals-few = omega (arith, rising-few _ (vertexCountOf l (nOf l)) _ (s .goalsAscend) (s .goalsBelow), s .statesTo)
+
+  -- the edges of step t, read from where they stand
+  module _ (t : ℕ) (h : t < nOf l) {pairs symbols count : ℕ} (p : pairs ≡ pairsPlace l + 2 * edgesBefore l t)
+      (q : symbols ≡ symbolsPlace l + edgesBefore l t) (c : count ≡ edgeCountOf l t) where
+    pub step-edge : (k : ℕ) → edgeIn (take (length l - pairs) (drop pairs l)) (take (length l - symbols) (drop symbols l)) k
+        ≡ stepEdge l t k
+    unfolding stepEdge
+    step-edge k = λ i. edges-from l (edgesBefore l t) p q i k
+
+    pub step-small : EdgesSmall (take (length l - pairs) (drop pairs l)) (take (length l - symbols) (drop symbols l)) count
+    step-small =
+        let m = before-more l t in
+        let b = before-le l (suc t) (nOf l) h in
+        record {
+          there = run-there l (edgesBefore l t) p q (s .whole) (omega (arith, s .edgesTo t h)) (omega arith);
+          fromSmall = λ k i. omega (
+            arith,
+            ap (λ (e : own.Edge). e .from) (step-edge k),
+            s .fromBelow t k h (omega arith),
+            s .verticesTo t (omega arith),
+          );
+          symbolSmall = λ k i. omega (arith, ap (λ (e : own.Edge). e .symbol) (step-edge k), s .symbolBelow t k h (omega arith), s .qTo);
+          toSmall = λ k i. omega (
+            arith,
+            ap (λ (e : own.Edge). e .to) (step-edge k),
+            s .toBelow t k h (omega arith),
+            s .verticesTo (suc t) h,
+          );
+        }
 
   -- edge i, of step t
   module _ (t i : ℕ) (h : t < nOf l) (a : edgesBefore l t ≤ i) (b : i < edgesBefore l (suc t)) where

@@ -12,15 +12,14 @@ use lib.Dec.{ltb}
 use borrow.Author.Tests.{leb-true, le-leb}
 use Rattle.trellis.specs.Bounds.{mostWords, mostSymbols, leastQ, mostQ}
 use Rattle.trellis.specs.Lists.{all, within}
-use Rattle.trellis.specs.Own as own
-use Rattle.trellis.specs.Layout.{qOf, nOf, vertexCountOf, edgeCountOf, edgesBefore, pairsPlace, symbolsPlace, sectionLength, edgeNumber}
+use Rattle.trellis.specs.Layout.{qOf, nOf, vertexCountOf, edgeCountOf, edgesBefore, pairsPlace, symbolsPlace, sectionLength}
 use Rattle.trellis.proofs.Bools.{is-true, is-false, clash, left-true, right-true}
 use Rattle.trellis.proofs.Laid.{before-none, before-more, before-le}
 use Rattle.section_file.specs.Usable.{stepEdge, whole, sizesRight, countsRight, statesRight, usable}
 use Rattle.section_file.specs.inner.Steps.{inside, edgesRight, stepRight}
 use Rattle.section_file.specs.inner.View.{viewOf, Counted, Laid}
 use Rattle.section_file.specs.inner.Edges.{StepThere, EdgesSmall}
-use Rattle.section_file.specs.inner.Answer.{partOf, edgeIn, edgeAt}
+use Rattle.section_file.specs.inner.Answer.{partOf, edgeIn}
 use Rattle.section_file.specs.declared.View.{View}
 use Rattle.section_file.specs.declared.Part.{Part}
 use Rattle.section_file.specs.declared.Part.the-variants.{Usable, Unusable}
@@ -32,21 +31,6 @@ use Rattle.section_file.proofs.Usable.{Conditions, Inside, usable-says,
 use Rattle.section_file.proofs.Usable.{inside-is, onward-is, inward-is, reached-is, leading-is}
 
 -- ---- one step
-
--- the edges that the code reads are those of the step
-pub edges-at : (l : List ℕ) (t : ℕ) {pairs symbols : ℕ} → pairs ≡ pairsPlace l + 2 * edgesBefore l t
-    → symbols ≡ symbolsPlace l + edgesBefore l t → edgeAt l pairs symbols ≡ stepEdge l t
-unfolding stepEdge edgeNumber
-edges-at l t {pairs} {symbols} p q = λ i k. own.edge (getD l (first k i) 0) (getD l (second k i) 0) (getD l (third k i) 0)
-  where
-    first : (k : ℕ) → pairs + 2 * k ≡ pairsPlace l + 2 * (edgesBefore l t + k)
-    first k = omega arith
-
-    second : (k : ℕ) → symbols + k ≡ symbolsPlace l + (edgesBefore l t + k)
-    second k = omega arith
-
-    third : (k : ℕ) → pairs + 1 + 2 * k ≡ pairsPlace l + 2 * (edgesBefore l t + k) + 1
-    third k = omega arith
 
 -- what is read of a step
 pub record StepRead (l : List ℕ) (at : View) (t before count q froms tos : ℕ) : Type 0 where
