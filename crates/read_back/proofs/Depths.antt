@@ -40,7 +40,7 @@ module _ {s : List ℕ} {at : View} (S : Seen s at) where
   at-is = viewed (S .is)
 
   pub near : Near s at
-  near = near-of (laid-of (S .sound) (S .is))
+  near = near-of (laid-of S)
 
   roots-count : at .goals - at .roots ≡ vertexCountOf s 0
   roots-count = let N = near in omega arith
@@ -81,7 +81,7 @@ module _ {s : List ℕ} {at : View} (S : Seen s at) where
     deep = omega (arith, at-is .n-is)
 
     pub before-among : before ≤ at .edges
-    before-among = before-in (laid-of (S .sound) (S .is)) (le-of-lt h) (d .beforeIs)
+    before-among = before-in (laid-of S) (le-of-lt h) (d .beforeIs)
 
     module _ {y count : ℕ} (y-is : y ≡ getD s (4 + at .n + t) 0) (count-is : (count ≡ y) × (count < 65536)) where
       edges-count : count ≡ edgeCountOf s t

@@ -16,7 +16,7 @@ use Rattle.trellis.specs.Layout.{rootsPlace, goalsPlace, pairsPlace, symbolsPla
 use Rattle.trellis.proofs.Laid.{before-none, before-more, before-le, before-few}
 use Rattle.section_file.specs.Usable.{stepEdge}
 use Rattle.section_file.specs.inner.Sound.{Sound}
-use Rattle.section_file.specs.inner.View.{viewOf, Counted, Laid}
+use Rattle.section_file.specs.inner.View.{viewOf, Seen, Laid}
 use Rattle.section_file.specs.inner.Edges.{EdgesThere, EdgesSmall}
 use Rattle.section_file.specs.inner.Answer.{edgeIn}
 use Rattle.section_file.specs.declared.View.{View}
@@ -59,12 +59,6 @@ viewed e = record {
   end-is = ap (λ (v : View). v .end) e;
 }
 
-pub counts-near : {l : List ℕ} → Counted l → sectionLength l ≤ 30000
-counts-near {l} c =
-    let p = parts l in
-    let few = before-few l {n = nOf l} {most = mostWords} (c .edgesTo) (nOf l) (omega arith) in
-    omega (arith, c .nTo, c .verticesTo 0 (omega arith), c .verticesTo (nOf l) (omega arith))
-
 -- the places of a section that is there whole by counts in bounds: in their order, near, and within the list
 pub record Near (l : List ℕ) (at : View) : Type 0 where
   pub steps-few : at .n ≤ mostSymbols
@@ -79,17 +73,28 @@ pub near-of : {l : List ℕ} {at : View} → Laid l at → Near l at
 near-of {l} L =
     let p = parts l in
     let e = viewed (L .is) in
-    let n = counts-near (L .counted) in
     let w = L .whole in
+    let few = before-few l {n = nOf l} {most = mostWords} (L .edgesTo) (nOf l) (omega arith) in
     record {
-      steps-few = omega (arith, L .counted .nTo);
+      steps-few = omega (arith, L .nTo);
       roots-to = omega arith;
       goals-to = omega arith;
       pairs-to = omega arith;
       symbols-to = omega arith;
-      end-near = omega arith;
+      end-near = omega (arith, L .nTo, L .verticesTo 0 (omega arith), L .verticesTo (nOf l) (omega arith));
       end-in = omega arith;
     }
+
+-- those of a usable section
+pub laid-of : {l : List ℕ} {at : View} → Seen l at → Laid l at
+laid-of S = let s = S .sound in record {
+  nTo = s .nTo;
+  qTo = s .qTo;
+  verticesTo = s .verticesTo;
+  edgesTo = s .edgesTo;
+  whole = s .whole;
+  is = S .is;
+}
 
 -- the edges of the steps before one are among all edges
 pub before-in : {l : List ℕ} {at : View} {t before : ℕ} → Laid l at → t ≤ at .n → before ≡ edgesBefore l t → before ≤ at .edges
@@ -170,14 +175,10 @@ unfolding stepEdge
 number-of l t i h = let e : edgesBefore l t + (i - edgesBefore l t) ≡ i = omega arith in ap (edgeNumber l) e
 
 module _ {l : List ℕ} (s : Sound l) where
-  pub counted-of : Counted l
-  counted-of = record { nTo = s .nTo; qTo = s .qTo; verticesTo = s .verticesTo; edgesTo = s .edgesTo }
-
-  pub laid-of : {at : View} → at ≡ viewOf l → Laid l at
-  laid-of e = record { counted = counted-of; whole = s .whole; is = e }
-
   pub section-near : sectionLength l ≤ 30000
-  section-near = counts-near counted-of
+  section-near =
+      let S : Seen l (viewOf l) = record { sound = s; is = refl } in
+      omega (arith, viewed (S .is) .end-is, near-of (laid-of S) .end-near)
 
   pub symbols-in : symbolsPlace l + allEdges l ≤ length l
   symbols-in = let p = parts l in omega (arith, s .whole)
