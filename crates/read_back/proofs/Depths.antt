@@ -4,18 +4,20 @@ use mathlib.Core.Path.{_≡_, refl, sym, ap, ap₂, _∙_}
 use mathlib.Core.List.{List, _∷_, map, map-map, flatMap}
 use Prim.Native.Nat.{ℕ, zero, suc, _+_, _-_, _*_, _≤_, _<_}
 use native.Mathlib.Omega.{arith}
-use native.Mathlib.Nat.{zero-add}
+use native.Mathlib.Nat.{zero-add, le-of-lt}
 use native.Mathlib.Numerals.{add-one}
-use lib.ListN.{length, getD, take, length-map}
-use Rattle.trellis.specs.Bounds.{mostWords, mostSymbols}
-use Rattle.trellis.specs.Lists.{sum, run, each}
-use Rattle.trellis.specs.Layout.{nOf, vertexCountOf, edgeCountOf, edgesBefore, rootsPlace, pairsPlace, symbolsPlace, rootState}
-use Rattle.trellis.proofs.Lists.{length-run, sum-last}
-use Rattle.trellis.proofs.Laid.{before-few}
-use Rattle.section_file.specs.inner.Sound.{Sound}
-use Rattle.section_file.specs.inner.Answer.{edgeAt}
+use lib.ListN.{length, getD, take, drop, length-map}
+use Rattle.trellis.specs.Bounds.{mostWords}
+use Rattle.trellis.specs.Lists.{run, each}
+use Rattle.trellis.specs.Layout.{nOf, vertexCountOf, edgeCountOf, edgesBefore, pairsPlace, symbolsPlace, rootState}
+use Rattle.trellis.proofs.Lists.{length-run}
+use Rattle.trellis.proofs.Laid.{before-none, before-more}
+use Rattle.section_file.specs.inner.View.{Seen}
+use Rattle.section_file.specs.inner.Answer.{edgeIn}
+use Rattle.section_file.specs.declared.View.{View}
+use Rattle.section_file.proofs.Seen.{Viewed, viewed, Near, near-of, laid-of, before-in, from-length, numbers-from}
 use Rattle.read_back.specs.inner.Levels.{begun, level, code, coded, grownCodes}
-use Rattle.read_back.specs.inner.Growing.{PutBehind, StepIn, Gathered, FirstLevel, RootCodes}
+use Rattle.read_back.specs.inner.Growing.{PutBehind, StepEdges, Gathered, FirstLevel, RootCodes}
 use Rattle.read_back.proofs.Levels.{levels-rise, level-coded}
 use Rattle.read_back.proofs.Sections.{step-edges, step-in}
 
@@ -25,107 +27,114 @@ map-run f g at zero = refl
 map-run f g at (suc count) = ap (λ l. f (g at) ∷ l) (map-run f g (suc at) count)
 
 -- the beginnings up to depth t stand in the array
-pub record Depth (s : List ℕ) (n : ℕ) (codes : List ℕ) (have before t : ℕ) : Type 0 where
-  pub inside : t ≤ n
+pub record Depth (s : List ℕ) (codes : List ℕ) (have before t : ℕ) : Type 0 where
+  pub inside : t ≤ nOf s
   pub room : have ≤ mostWords
   pub long : length codes ≡ mostWords
   pub filled : take have codes ≡ map coded (level s t)
   pub count : have ≡ length (level s t)
   pub beforeIs : before ≡ edgesBefore s t
-  pub small : before ≤ mostWords * t
-  pub few : n ≤ mostSymbols
 
-module _ {s : List ℕ} (g : Sound s) {n : ℕ} (n-is : n ≡ nOf s) where
-  module _ {x have : ℕ} (x-is : x ≡ getD s 3 0) (have-is : (have ≡ x) × (have < 65536)) where
-    roots-count : have ≡ vertexCountOf s 0
-    unfolding vertexCountOf
-    roots-count = have-is .0 ∙ x-is
+module _ {s : List ℕ} {at : View} (S : Seen s at) where
+  at-is : Viewed s at
+  at-is = viewed (S .is)
 
-    pub roots-level : FirstLevel s (4 + 2 * n) have
-    unfolding rootState rootsPlace
-    roots-level = record {
-      near = omega (arith, g .nTo);
-      few = omega (arith, roots-count, g .verticesTo 0 (omega arith));
-      small = λ v h. let e : getD s (4 + 2 * n + v) 0 ≡ getD s (4 + 2 * nOf s + v) 0 = rw n-is in
-          omega (arith, g .rootsBelow v (omega (arith, roots-count)), g .statesTo);
-    }
+  pub near : Near s at
+  near = near-of (laid-of S)
 
-    pub depth-start : {codes : List ℕ} → RootCodes s (4 + 2 * n) have codes → Depth s n codes have 0 0
-    unfolding level rootState rootsPlace edgesBefore sum
-    depth-start {codes} r = record {
-      inside = omega arith;
-      room = omega (arith, roots-count, g .verticesTo 0 (omega arith));
-      long = r .long;
-      filled =
-          let a : each (λ v. code (getD s (4 + 2 * n + v) 0) v 0) have ≡ each (λ v. code (rootState s v) v 0) (vertexCountOf s 0) =
-          rw (n-is, roots-count) in
-          r .filled ∙ a ∙ sym (map-map coded (λ v. begun (rootState s v) 0 v) (each (λ v. v) (vertexCountOf s 0))
-          ∙ map-run (λ v. code (rootState s v) v 0) (λ v. v) 0 (vertexCountOf s 0));
-      count = roots-count ∙ sym
-          (length-map (each (λ v. v) (vertexCountOf s 0)) (λ v. begun (rootState s v) 0 v) ∙ length-run (λ v. v) 0 (vertexCountOf s 0));
-      beforeIs = refl;
-      small = omega arith;
-      few = omega (arith, g .nTo);
-    }
+  roots-count : at .goals - at .roots ≡ vertexCountOf s 0
+  roots-count = let N = near in omega arith
 
-  module _ {codes : List ℕ} {have before t : ℕ} (d : Depth s n codes have before t) (h : t < n) {pairs symbols y count : ℕ}
-      (p : pairs ≡ pairsPlace s) (q : symbols ≡ symbolsPlace s)
-      (y-is : y ≡ getD s (4 + n + t) 0) (count-is : (count ≡ y) × (count < 65536)) where
-    edges-count : count ≡ edgeCountOf s t
-    unfolding edgeCountOf
-    edges-count = count-is .0 ∙ y-is ∙ rw n-is
+  root-is : (v : ℕ) → getD (take (length s - at .roots) (drop (at .roots) s)) v 0 ≡ rootState s v
+  unfolding rootState
+  root-is v = λ i. numbers-from s (at-is .roots-is) i v
 
+  pub roots-level : FirstLevel (take (length s - at .roots) (drop (at .roots) s)) (at .goals - at .roots)
+  roots-level = let N = near in let c = roots-count in record {
+    there = omega (arith, from-length s (at .roots));
+    few = omega (arith, S .sound .verticesTo 0 (omega arith));
+    small = λ v h. omega (arith, root-is v, S .sound .rootsBelow v (omega arith), S .sound .statesTo);
+  }
+
+  pub depth-start : {codes : List ℕ} → RootCodes (take (length s - at .roots) (drop (at .roots) s)) (at .goals - at .roots) codes
+      → Depth s codes (at .goals - at .roots) 0 0
+  unfolding level rootState
+  depth-start {codes} r = record {
+    inside = omega arith;
+    room = roots-level .few;
+    long = r .long;
+    filled =
+        let f = numbers-from s (at-is .roots-is) in
+        let c = roots-count in
+        let a : each (λ v. code (getD (take (length s - at .roots) (drop (at .roots) s)) v 0) v 0) (at .goals - at .roots)
+        ≡ each (λ v. code (rootState s v) v 0) (vertexCountOf s 0) =
+        ap₂ (λ (g : ℕ → ℕ) m. each (λ v. code (g v) v 0) m) f c in
+        r .filled ∙ a ∙ sym (map-map coded (λ v. begun (rootState s v) 0 v) (each (λ v. v) (vertexCountOf s 0))
+        ∙ map-run (λ v. code (rootState s v) v 0) (λ v. v) 0 (vertexCountOf s 0));
+    count = roots-count ∙ sym
+        (length-map (each (λ v. v) (vertexCountOf s 0)) (λ v. begun (rootState s v) 0 v) ∙ length-run (λ v. v) 0 (vertexCountOf s 0));
+    beforeIs = sym (before-none s);
+  }
+
+  module _ {codes : List ℕ} {have before t : ℕ} (d : Depth s codes have before t) (h : t < at .n) where
     deep : t < nOf s
-    deep = omega arith
+    deep = omega (arith, at-is .n-is)
 
-    pub depth-step : pairs ≤ 10000 → symbols ≤ 50000 → StepIn s (pairs + 2 * before) (symbols + before) count
-    depth-step a b =
-        let few = before-few s (g .edgesTo) t (omega arith) in
-        step-in s t (omega (arith, d .beforeIs)) (omega (arith, d .beforeIs)) edges-count g deep (omega (arith, d .beforeIs, g .nTo))
-        (omega (arith, d .beforeIs, g .nTo))
+    pub before-among : before ≤ at .edges
+    before-among = before-in (laid-of S) (le-of-lt h) (d .beforeIs)
 
-    next-codes : flatMap (grownCodes (run (edgeAt s (pairs + 2 * before) (symbols + before)) 0 count)) (take have codes) ≡ map coded
-        (level s (suc t))
-    next-codes =
-        let a : pairs + 2 * before ≡ pairsPlace s + 2 * edgesBefore s t = omega (arith, d .beforeIs) in
-        let b : symbols + before ≡ symbolsPlace s + edgesBefore s t = omega (arith, d .beforeIs) in
-        ap₂ (λ es cs. flatMap (grownCodes es) cs) (step-edges s t a b edges-count) (d .filled) ∙ level-coded g t deep
+    module _ {y count : ℕ} (y-is : y ≡ getD s (4 + at .n + t) 0) (count-is : (count ≡ y) × (count < 65536)) where
+      edges-count : count ≡ edgeCountOf s t
+      unfolding edgeCountOf
+      edges-count = count-is .0 ∙ y-is ∙ ap (λ m. getD s (4 + m + t) 0) (at-is .n-is)
 
-    next-count : length (flatMap (grownCodes (run (edgeAt s (pairs + 2 * before) (symbols + before)) 0 count)) (take have codes)) ≡ length
-        (level s (suc t))
-    next-count = ap length next-codes ∙ length-map (level s (suc t)) coded
+      pairs-are : at .pairs + 2 * before ≡ pairsPlace s + 2 * edgesBefore s t
+      pairs-are = omega (arith, at-is .pairs-is, d .beforeIs)
 
-    module _ {start new : List ℕ} {r : ℕ}
-        (m : PutBehind (flatMap (grownCodes (run (edgeAt s (pairs + 2 * before) (symbols + before)) 0 count))
-        (take have codes)) start 0 new r) where
-      pub depth-next : r ≤ mostWords → Depth s n new r (before + count) (t + 1)
-      unfolding edgesBefore
-      depth-next b = record {
-        inside = omega arith;
-        room = b;
-        long = m .long;
-        filled = m .filled b ∙ next-codes ∙ ap (λ u. map coded (level s u)) (sym (add-one t));
-        count = m .count b ∙ zero-add _ ∙ next-count ∙ ap (λ u. length (level s u)) (sym (add-one t));
-        beforeIs =
-            let e : sum (edgeCountOf s) 0 (t + 1) ≡ sum (edgeCountOf s) 0 t + edgeCountOf s t =
-            rw (add-one t) (sum-last (edgeCountOf s) 0 t ∙ rw (zero-add t)) in
-            omega (arith, d .beforeIs, edges-count);
-        small = omega (arith, d .small, edges-count, g .edgesTo t deep);
-        few = d .few;
-      }
+      symbols-are : at .symbols + before ≡ symbolsPlace s + edgesBefore s t
+      symbols-are = omega (arith, at-is .symbols-is, d .beforeIs)
 
-      pub depth-over : mostWords < r → Gathered s n new r
-      depth-over b = record {
-        long = m .long;
-        filled = λ c. absurd (omega arith);
-        count-is = λ c. absurd (omega arith);
-        over = λ c. let e : length (level s n) ≡ length (level s (nOf s)) = ap (λ k. length (level s k)) n-is in
-            omega (arith, m .over b, next-count, levels-rise g (nOf s - suc t) (suc t) (omega arith));
-      }
+      -- where the edges of the step begin
+      abbrev pairs : List ℕ
+      pairs = take (length s - (at .pairs + 2 * before)) (drop (at .pairs + 2 * before) s)
 
-  pub depth-all : {codes : List ℕ} {have before t : ℕ} → Depth s n codes have before t → n ≤ t → Gathered s n codes have
+      abbrev symbols : List ℕ
+      symbols = take (length s - (at .symbols + before)) (drop (at .symbols + before) s)
+
+      pub depth-step : StepEdges pairs symbols count
+      depth-step = step-in (S .sound) t deep pairs-are symbols-are edges-count
+
+      next-codes : flatMap (grownCodes (run (edgeIn pairs symbols) 0 count)) (take have codes) ≡ map coded (level s (suc t))
+      next-codes =
+          ap₂ (λ es cs. flatMap (grownCodes es) cs) (step-edges (S .sound) t deep pairs-are symbols-are edges-count) (d .filled)
+          ∙ level-coded (S .sound) t deep
+
+      next-count : length (flatMap (grownCodes (run (edgeIn pairs symbols) 0 count)) (take have codes)) ≡ length (level s (suc t))
+      next-count = ap length next-codes ∙ length-map (level s (suc t)) coded
+
+      module _ {start new : List ℕ} {r : ℕ}
+          (m : PutBehind (flatMap (grownCodes (run (edgeIn pairs symbols) 0 count)) (take have codes)) start 0 new r) where
+        pub depth-next : r ≤ mostWords → Depth s new r (before + count) (t + 1)
+        depth-next b = record {
+          inside = omega (arith, deep);
+          room = b;
+          long = m .long;
+          filled = m .filled b ∙ next-codes ∙ ap (λ u. map coded (level s u)) (sym (add-one t));
+          count = m .count b ∙ zero-add _ ∙ next-count ∙ ap (λ u. length (level s u)) (sym (add-one t));
+          beforeIs = rw (add-one t) (omega (arith, d .beforeIs, edges-count, before-more s t));
+        }
+
+        pub depth-over : mostWords < r → Gathered s new r
+        depth-over b = record {
+          long = m .long;
+          filled = λ c. absurd (omega arith);
+          count-is = λ c. absurd (omega arith);
+          over = λ c. omega (arith, m .over b, next-count, levels-rise (S .sound) (nOf s - suc t) (suc t) (omega (arith, deep)));
+        }
+
+  pub depth-all : {codes : List ℕ} {have before t : ℕ} → Depth s codes have before t → at .n ≤ t → Gathered s codes have
   depth-all {codes} {have} {before} {t} d h =
-      let e : t ≡ n = omega (arith, d .inside) in
+      let e : t ≡ nOf s = omega (arith, d .inside, at-is .n-is) in
       record {
         long = d .long;
         filled = λ b. d .filled ∙ ap (λ k. map coded (level s k)) e;

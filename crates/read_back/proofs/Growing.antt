@@ -13,23 +13,24 @@ use lib.Seq.{getD-set-same, getD-set-other, take-suc, take-suc-set}
 use borrow.Author.Tests.{eq-eqb, ne-eqb}
 use Rattle.trellis.specs.Bounds.{mostWords}
 use Rattle.trellis.specs.Lists.{run, each}
-use Rattle.trellis.specs.Own.{Edge, edge}
+use Rattle.trellis.specs.Own.{Edge}
 use Rattle.trellis.specs.Section.{leaving}
 use Rattle.trellis.proofs.Lists.{run-snoc, flatMap-append}
 use Rattle.label.specs.inner.Labels.{appended}
+use Rattle.section_file.specs.inner.Answer.{heldEdge, meantEdge}
+use Rattle.section_file.specs.declared.Edge as held
 use Rattle.read_back.specs.inner.Levels.{code, codeVertex, codeLabel, furtherCode}
 use Rattle.read_back.specs.inner.Growing.{PutBehind, BeginsAt, Starts, FirstLevel, RootCodes}
 use Rattle.read_back.proofs.Lists.{run-cons, run-none, leaving-yes, leaving-no, leaving-none}
 
 -- ---- one beginning further along one edge
 
-pub further-is : (c symbol vertex : ℕ) {w x y z : ℕ} → (w ≡ vertex) × (w < 65536) → x ≡ codeLabel c → y ≡ appended x symbol → (z ≡ y)
-    × (z < 65536)
-    → (c / 67108864 * 1024 + w) * 65536 + z ≡ furtherCode c (edge 0 symbol vertex)
-further-is c symbol vertex p q r t = ap₂ (λ v a. (c / 67108864 * 1024 + v) * 65536 + a) (p .0) (t .0 ∙ r ∙ ap (λ a. appended a symbol) q)
+pub further-is : (c : ℕ) (e : held.Edge) {x y z : ℕ} → x ≡ codeLabel c → y ≡ appended x (e .symbol) → (z ≡ y) × (z < 65536)
+    → (c / 67108864 * 1024 + e .to) * 65536 + z ≡ furtherCode c (meantEdge e)
+further-is c e q r t = ap (λ a. (c / 67108864 * 1024 + e .to) * 65536 + a) (t .0 ∙ r ∙ ap (λ a. appended a (e .symbol)) q)
 
-pub further-at : (c : ℕ) {r x y a b : ℕ} → r ≡ furtherCode c (edge 0 x y) → x ≡ a → y ≡ b → r ≡ furtherCode c (edge 0 a b)
-further-at c p q t = p ∙ ap₂ (λ a b. furtherCode c (edge 0 a b)) q t
+pub further-at : (c : ℕ) {r : ℕ} {e : held.Edge} {f : Edge} → r ≡ furtherCode c (meantEdge e) → e ≡ heldEdge f → r ≡ furtherCode c f
+further-at c p q = p ∙ ap (λ (x : held.Edge). furtherCode c (meantEdge x)) q
 
 -- ---- where the edges of a vertex begin
 
@@ -55,10 +56,9 @@ noted-start e count {starts} q = record {
     is : (v : ℕ) → v < mostWords → getD starts v 0 ≡ count
     is v h = ap (λ s. getD s v 0) q ∙ getD-replicate {A = ℕ} mostWords v count 0 h
 
-pub noted-next : {e : ℕ → Edge} {count : ℕ} {starts : List ℕ} {k x v : ℕ} → Noted e count starts k → 0 < k → x ≡ e (k - 1) .from → (v ≡ x)
-    × (v < 65536) → e (k - 1) .from < mostWords
-    → Noted e count (set starts v (k - 1)) (k - 1)
-noted-next {e} {count} {starts} {k} {x} {v} n pos p g small = record {
+pub noted-next : {e : ℕ → Edge} {count : ℕ} {starts : List ℕ} {k v : ℕ} → Noted e count starts k → 0 < k → v ≡ e (k - 1) .from
+    → e (k - 1) .from < mostWords → Noted e count (set starts v (k - 1)) (k - 1)
+noted-next {e} {count} {starts} {k} {v} n pos v-is small = record {
   inside = omega (arith, n .inside);
   long = length-set starts v (k - 1) ∙ n .long;
   from = λ u h. go-from u h (ℕ-discrete u v);
@@ -67,12 +67,6 @@ noted-next {e} {count} {starts} {k} {x} {v} n pos p g small = record {
   hit = λ u h. go-hit u h (ℕ-discrete u v);
 }
   where
-    j : ℕ
-    j = k - 1
-
-    v-is : v ≡ e (k - 1) .from
-    v-is = g .0 ∙ p
-
     put : (u : ℕ) → u ≡ v → getD (set starts v (k - 1)) u 0 ≡ k - 1
     put u q = ap (λ w. getD (set starts v (k - 1)) w 0) q ∙ getD-set-same starts v (k - 1) 0 (omega (arith, n .long))
 
@@ -263,33 +257,31 @@ module _ {f : ℕ → List ℕ} {old : List ℕ} {have : ℕ} where
 
 -- ---- the first depth
 
-pub record Rooted (s : List ℕ) (roots count : ℕ) (codes : List ℕ) (v : ℕ) : Type 0 where
+pub record Rooted (roots : List ℕ) (count : ℕ) (codes : List ℕ) (v : ℕ) : Type 0 where
   pub inside : v ≤ count
   pub long : length codes ≡ mostWords
-  pub filled : take v codes ≡ each (λ u. code (getD s (roots + u) 0) u 0) v
+  pub filled : take v codes ≡ each (λ u. code (getD roots u 0) u 0) v
 
-pub rooted-start : (s : List ℕ) (roots count : ℕ) {codes : List ℕ} → length codes ≡ mostWords → Rooted s roots count codes 0
+pub rooted-start : (roots : List ℕ) (count : ℕ) {codes : List ℕ} → length codes ≡ mostWords → Rooted roots count codes 0
 unfolding run
-rooted-start s roots count l = record { inside = omega arith; long = l; filled = refl }
+rooted-start roots count l = record { inside = omega arith; long = l; filled = refl }
 
-pub rooted-next : {s : List ℕ} {roots count : ℕ} {codes : List ℕ} {v x r : ℕ} → Rooted s roots count codes v → FirstLevel s roots count
-    → v < count → x ≡ getD s (roots + v) 0 → (r ≡ x) × (r < 65536)
-    → Rooted s roots count (set codes v ((r * 1024 + v) * 65536)) (v + 1)
-rooted-next {s} {roots} {count} {codes} {v} {x} {r} g F h e w = record {
+pub rooted-next : {roots : List ℕ} {count : ℕ} {codes : List ℕ} {v r : ℕ} → Rooted roots count codes v → FirstLevel roots count
+    → v < count → (r ≡ getD roots v 0) × (r < 65536) → Rooted roots count (set codes v ((r * 1024 + v) * 65536)) (v + 1)
+rooted-next {roots} {count} {codes} {v} {r} g F h w = record {
   inside = omega arith;
   long = length-set codes v ((r * 1024 + v) * 65536) ∙ g .long;
   filled =
-      let q : (r * 1024 + v) * 65536 ≡ code (getD s (roots + v) 0) v 0 = omega (arith, w .0) in
+      let q : (r * 1024 + v) * 65536 ≡ code (getD roots v 0) v 0 = omega (arith, w .0) in
       let t : take (v + 1) (set codes v ((r * 1024 + v) * 65536)) ≡ take v codes ++ ((r * 1024 + v) * 65536 ∷ []) =
       rw (add-one v) (take-suc-set codes v _ (omega (arith, F .few, g .long))) in
-      let u : each (λ u. code (getD s (roots + u) 0) u 0) (v + 1) ≡ each (λ u. code (getD s (roots + u) 0) u 0) v
-      ++ (code (getD s (roots + v) 0) v 0 ∷ []) =
-      rw (add-one v) (run-snoc (λ u. code (getD s (roots + u) 0) u 0) 0 v ∙ rw (zero-add v)) in
+      let u : each (λ u. code (getD roots u 0) u 0) (v + 1) ≡ each (λ u. code (getD roots u 0) u 0) v ++ (code (getD roots v 0) v 0 ∷ []) =
+      rw (add-one v) (run-snoc (λ u. code (getD roots u 0) u 0) 0 v ∙ rw (zero-add v)) in
       t ∙ ap₂ (λ xs y. xs ++ (y ∷ [])) (g .filled) q ∙ sym u;
 }
 
-pub rooted-all : {s : List ℕ} {roots count : ℕ} {codes : List ℕ} {v : ℕ} → Rooted s roots count codes v → count ≤ v
-    → RootCodes s roots count codes
-rooted-all {s} {roots} {count} {codes} {v} g h =
+pub rooted-all : {roots : List ℕ} {count : ℕ} {codes : List ℕ} {v : ℕ} → Rooted roots count codes v → count ≤ v
+    → RootCodes roots count codes
+rooted-all {roots} {count} {codes} {v} g h =
     let e : v ≡ count = omega (arith, g .inside) in
-    record { long = g .long; filled = subst (λ k. take k codes ≡ each (λ u. code (getD s (roots + u) 0) u 0) k) e (g .filled) }
+    record { long = g .long; filled = subst (λ k. take k codes ≡ each (λ u. code (getD roots u 0) u 0) k) e (g .filled) }

@@ -1,92 +1,52 @@
--- A section that fills its list: where its parts stand, and what the code's arithmetic finds of its steps. Behind the place of the pairs
--- stand three numbers an edge, so a third of what is left counts the edges.
+-- A usable section as reading back meets it: what the edges of a step are where the code reads them, and the section that a list is. Edges
+-- of a step ascend, so the vertices where they start do not fall.
 use mathlib.Core.Path.{_≡_, refl, sym, ap, _∙_}
-use mathlib.Core.Bool.{Bool, true, false, not, cond, _&&_}
+use mathlib.Core.Bool.{Bool, true, false, cond, _&&_}
 use mathlib.Core.List.{List}
-use Prim.Native.Nat.{ℕ, suc, _+_, _-_, _*_, _/_, _≤_, _<_}
+use Prim.Native.Nat.{ℕ, _+_, _-_, _*_, _≤_, _<_}
 use native.Mathlib.Omega.{arith}
 use native.Mathlib.Nat.{add-zero, le-of-eq}
 use native.Mathlib.Decide.{ℕ-discrete}
-use lib.ListN.{length, getD, drop}
+use lib.ListN.{length, take, drop}
 use lib.Dec.{eqb}
-use borrow.Author.Tests.{eqb-true, not-false}
+use borrow.Author.Tests.{eq-eqb, ne-eqb}
 use Rattle.trellis.specs.Lists.{run, byFirst, bySecond, byThird}
-use Rattle.trellis.specs.Own as own
-use Rattle.trellis.specs.Layout.{nOf, vertexCountOf, edgeCountOf, edgesBefore, rootsPlace, goalsPlace, pairsPlace, symbolsPlace}
-use Rattle.trellis.specs.Layout.{sectionLength, edgeNumber, stepEdges}
+use Rattle.trellis.specs.Own.{Edge}
+use Rattle.trellis.specs.Layout.{nOf, edgeCountOf, edgesBefore, pairsPlace, symbolsPlace, sectionLength, edgeNumber, stepEdges}
+use Rattle.trellis.proofs.Bools.{left-true}
 use Rattle.section_file.specs.Usable.{stepEdge, usable}
 use Rattle.section_file.specs.inner.Sound.{EdgeBefore, Sound}
-use Rattle.section_file.specs.inner.Answer.{edgeAt, partOf}
-use Rattle.section_file.specs.inner.View.{viewOf}
+use Rattle.section_file.specs.inner.View.{viewOf, Seen}
+use Rattle.section_file.specs.inner.Answer.{edgeIn, partOf}
 use Rattle.section_file.specs.declared.View.{View}
 use Rattle.section_file.specs.declared.Part.the-variants.{Usable, Unusable}
-use Rattle.trellis.proofs.Bools.{left-true, right-true}
-use Rattle.trellis.proofs.Laid.{before-few}
-use Rattle.section_file.proofs.Seen.{viewed}
-use Rattle.section_file.proofs.Steps.{edges-at}
+use Rattle.section_file.proofs.Usable.{usable-sound}
+use Rattle.section_file.proofs.Seen.{viewed, edges-from, step-edge, step-small}
 use Rattle.read_back.specs.ReadingBack.{isSection}
-use Rattle.read_back.specs.inner.Growing.{StepIn, FilledPlaces}
+use Rattle.read_back.specs.inner.Whole.{wholePart}
+use Rattle.read_back.specs.inner.Growing.{StepEdges}
 use Rattle.read_back.proofs.Lists.{run-shift}
-
--- ---- places
-
-module _ {s : List ℕ} (g : Sound s) where
-  module _ (whole : sectionLength s ≡ length s) {n x v y w : ℕ} (n-is : n ≡ nOf s) (x-is : x ≡ getD s 3 0) (v-is : (v ≡ x) × (v < 65536))
-      (y-is : y ≡ getD s (3 + n) 0) (w-is : (w ≡ y) × (w < 65536)) where
-    goals-are : 4 + 2 * n + v ≡ goalsPlace s
-    unfolding goalsPlace rootsPlace vertexCountOf
-    goals-are = rw (← n-is, v-is .0, x-is)
-
-    pairs-are : 4 + 2 * n + v + w ≡ pairsPlace s
-    unfolding pairsPlace vertexCountOf
-    pairs-are = let f : w ≡ getD s (3 + nOf s) 0 = w-is .0 ∙ y-is ∙ rw n-is in rw (← goals-are, f)
-
-    pub pairs-inside : 4 + 2 * n + v + w ≤ length s
-    unfolding sectionLength symbolsPlace
-    pairs-inside = omega (arith, pairs-are, whole)
-
-    pub places-are : FilledPlaces s (4 + 2 * n + v) (4 + 2 * n + v + w) (4 + 2 * n + v + w + 2 * ((length s - (4 + 2 * n + v + w)) / 3))
-    unfolding sectionLength symbolsPlace vertexCountOf
-    places-are =
-        let few = before-few s (g .edgesTo) (nOf s) (omega arith) in
-        let a = g .verticesTo 0 (omega arith) in
-        let b = g .verticesTo (nOf s) (omega arith) in
-        let f : w ≡ getD s (3 + nOf s) 0 = w-is .0 ∙ y-is ∙ rw n-is in
-        record {
-          goalsIs = goals-are;
-          pairsIs = pairs-are;
-          symbolsIs = omega (arith, pairs-are, whole);
-          goalsNear = omega (arith, g .nTo, v-is .0);
-          pairsNear = omega (arith, g .nTo, v-is .0);
-          symbolsNear = omega (arith, g .nTo, v-is .0, pairs-are, whole);
-        }
 
 -- ---- one step
 
-module _ (s : List ℕ) (t : ℕ) {pairs symbols count : ℕ} (p : pairs ≡ pairsPlace s + 2 * edgesBefore s t)
+module _ {s : List ℕ} (g : Sound s) (t : ℕ) (h : t < nOf s) {pairs symbols count : ℕ} (p : pairs ≡ pairsPlace s + 2 * edgesBefore s t)
     (q : symbols ≡ symbolsPlace s + edgesBefore s t) (c : count ≡ edgeCountOf s t) where
-  pub step-edges : run (edgeAt s pairs symbols) 0 count ≡ stepEdges s t
-  unfolding stepEdges stepEdge
+  pub step-edges : run (edgeIn (take (length s - pairs) (drop pairs s)) (take (length s - symbols) (drop symbols s))) 0 count
+      ≡ stepEdges s t
+  unfolding stepEdges
   step-edges =
-      ap (λ e. run e 0 count) (edges-at s t p q) ∙ run-shift (edgeNumber s) (edgesBefore s t) 0 count
+      ap (λ e. run e 0 count) (edges-from s (edgesBefore s t) p q) ∙ run-shift (edgeNumber s) (edgesBefore s t) 0 count
       ∙ ap (λ k. run (edgeNumber s) k count) (add-zero (edgesBefore s t)) ∙ ap (run (edgeNumber s) (edgesBefore s t)) c
 
-  pub step-in : Sound s → t < nOf s → pairs ≤ 100000 → symbols ≤ 100000 → StepIn s pairs symbols count
-  step-in g h a b = record {
-    pairsNear = a;
-    symbolsNear = b;
-    few = omega (arith, g .edgesTo t h);
-    fromSmall = λ k l. omega (arith, from-is k, g .fromBelow t k h (omega arith), g .verticesTo t (omega arith));
-    symbolSmall = λ k l. omega (arith, ap (λ (e : own.Edge). e .symbol) (edge-is k), g .symbolBelow t k h (omega arith), g .qTo);
-    toSmall = λ k l. omega (arith, ap (λ (e : own.Edge). e .to) (edge-is k), g .toBelow t k h (omega arith), g .verticesTo (suc t) h);
+  pub step-in : StepEdges (take (length s - pairs) (drop pairs s)) (take (length s - symbols) (drop symbols s)) count
+  step-in = record {
+    small = step-small g t h p q c;
     fromsRise = λ j k l m. omega (arith, from-is j, from-is k, rises j k l (omega arith));
   }
     where
-      edge-is : (k : ℕ) → edgeAt s pairs symbols k ≡ stepEdge s t k
-      edge-is k = λ i. edges-at s t p q i k
-
-      from-is : (k : ℕ) → getD s (pairs + 2 * k) 0 ≡ stepEdge s t k .from
-      from-is k = ap (λ (e : own.Edge). e .from) (edge-is k)
+      from-is : (k : ℕ) → edgeIn (take (length s - pairs) (drop pairs s)) (take (length s - symbols) (drop symbols s)) k .from
+          ≡ stepEdge s t k .from
+      from-is k = ap (λ (e : Edge). e .from) (step-edge g t h p q c k)
 
       rises : (j k : ℕ) → j ≤ k → k < edgeCountOf s t → stepEdge s t j .from ≤ stepEdge s t k .from
       rises j k l m = go (ℕ-discrete j k)
@@ -100,25 +60,63 @@ module _ (s : List ℕ) (t : ℕ) {pairs symbols count : ℕ} (p : pairs ≡ pai
           go (yes e) = le-of-eq (ap (λ i. stepEdge s t i .from) e)
           go (no e) = by (g .edgesAscend t j k h (omega arith) m)
 
--- ---- usable and filling its list
+-- ---- the section that a list is
 
-pub section-sound : (s : List ℕ) {b : Bool} → b ≡ isSection s → not b ≡ false → (usable s ≡ true) × (sectionLength s ≡ length s)
-unfolding isSection
-section-sound s {b} e f = let u = sym e ∙ not-false b f in (left-true _ _ u, eqb-true _ _ (right-true (usable s) _ u))
+module _ (s : List ℕ) where
+  -- what the answer says
+  pub record Filled (at : View) : Type 0 where
+    pub seen : Seen s at
+    pub is-section : isSection s ≡ true
 
-pub is-usable : (s : List ℕ) (at : View) → Usable at ≡ partOf (drop 0 s) → eqb (at .end) (length s) ≡ isSection s
-unfolding isSection partOf
-is-usable s at e = go (usable s) e
-  where
-    go : (b : Bool) → Usable at ≡ cond b (Usable (viewOf s)) Unusable
-        → eqb (at .end) (length s) ≡ (b && eqb (sectionLength s) (length s))
-    go true q = let d : at ≡ viewOf s = cc in ap (λ m. eqb m (length s)) (viewed d .end-is)
-    go false q = absurd (let z : _≡_ {A = ℕ} 0 1 = cc in omega arith)
+  pub whole-filled : {at : View} → Usable at ≡ wholePart s → Filled at
+  unfolding isSection wholePart
+  whole-filled {at} e = go (isSection s) refl e
+    where
+      go : (b : Bool) → isSection s ≡ b → Usable at ≡ cond b (Usable (viewOf s)) Unusable → Filled at
+      go true t q = record {
+        seen = record { sound = usable-sound s (left-true (usable s) _ t); is = cc };
+        is-section = t;
+      }
+      go false t q = absurd (let z : _≡_ {A = ℕ} 0 1 = cc in omega arith)
 
-pub not-usable : (s : List ℕ) → Unusable ≡ partOf (drop 0 s) → false ≡ isSection s
-unfolding isSection partOf
-not-usable s e = go (usable s) e
-  where
-    go : (b : Bool) → Unusable ≡ cond b (Usable (viewOf s)) Unusable → false ≡ (b && eqb (sectionLength s) (length s))
-    go true q = absurd (let z : _≡_ {A = ℕ} 0 1 = cc in omega arith)
-    go false q = refl
+  pub whole-none : Unusable ≡ wholePart s → isSection s ≡ false
+  unfolding isSection wholePart
+  whole-none e = go (isSection s) e
+    where
+      go : (b : Bool) → Unusable ≡ cond b (Usable (viewOf s)) Unusable → b ≡ false
+      go true q = absurd (let z : _≡_ {A = ℕ} 0 1 = cc in omega arith)
+      go false q = refl
+
+  -- by the length of the part
+  part-usable : {at : View} → Usable at ≡ partOf (drop 0 s) → (usable s ≡ true) × (at ≡ viewOf s)
+  unfolding partOf
+  part-usable {at} e = go (usable s) e
+    where
+      go : (b : Bool) → Usable at ≡ cond b (Usable (viewOf s)) Unusable → (b ≡ true) × (at ≡ viewOf s)
+      go true q = (refl, cc)
+      go false q = absurd (let z : _≡_ {A = ℕ} 0 1 = cc in omega arith)
+
+  pub whole-usable : {at : View} → Usable at ≡ partOf (drop 0 s) → at .end ≡ length s → Usable at ≡ wholePart s
+  unfolding wholePart isSection
+  whole-usable {at} e h =
+      let u = part-usable e in
+      let a = u .0 in
+      let b = eq-eqb (sectionLength s) (length s) (sym (viewed (u .1) .end-is) ∙ h) in
+      rw (a, b) (ap Usable (u .1))
+
+  pub whole-longer : {at : View} → Usable at ≡ partOf (drop 0 s) → (at .end ≡ length s → ⊥) → Unusable ≡ wholePart s
+  unfolding wholePart isSection
+  whole-longer {at} e h =
+      let u = part-usable e in
+      let a = u .0 in
+      let b = ne-eqb (sectionLength s) (length s) (λ q. h (viewed (u .1) .end-is ∙ q)) in
+      rw (a, b)
+
+  pub whole-unusable : Unusable ≡ partOf (drop 0 s) → Unusable ≡ wholePart s
+  unfolding wholePart isSection partOf
+  whole-unusable e = go (usable s) e
+    where
+      go : (b : Bool) → Unusable ≡ cond b (Usable (viewOf s)) Unusable
+          → Unusable ≡ cond (b && eqb (sectionLength s) (length s)) (Usable (viewOf s)) Unusable
+      go true q = absurd (let z : _≡_ {A = ℕ} 0 1 = cc in omega arith)
+      go false q = refl

@@ -52,11 +52,11 @@ module _ {f : ℕ → List ℕ} {old : List ℕ} {start : ℕ} {codes : List ℕ
   pieces-all {new} {at} {i} p h = let e : i ≡ count = omega (arith, p .inside) in
       subst (λ k. Wrote old start (flatMap f (take k codes)) new at) e (p .so-far)
 
-pub pair-is : (s : List ℕ) (goals c : ℕ) {r a v x w b : ℕ} → r ≡ codeRoot c → a ≡ byteOf r → v ≡ codeVertex c → x ≡ getD s (goals + v) 0
+pub pair-is : (goals : List ℕ) (c : ℕ) {r a v x w b : ℕ} → r ≡ codeRoot c → a ≡ byteOf r → v ≡ codeVertex c → x ≡ getD goals v 0
     → (w ≡ x) × (w < 65536) → b ≡ byteOf w
-    → pairOfCode s goals c ≡ a ∷ b ∷ []
-pair-is s goals c p q r t u d =
-    sym (ap₂ (λ a b. a ∷ b ∷ []) (q ∙ ap byteOf p) (d ∙ ap byteOf (u .0 ∙ t ∙ ap (λ v. getD s (goals + v) 0) r)))
+    → pairOfCode goals c ≡ a ∷ b ∷ []
+pair-is goals c p q r t u d =
+    sym (ap₂ (λ a b. a ∷ b ∷ []) (q ∙ ap byteOf p) (d ∙ ap byteOf (u .0 ∙ t ∙ ap (λ v. getD goals v 0) r)))
 
 pub label-is : (c : ℕ) {x w a b : ℕ} → x ≡ codeLabel c → (w ≡ x) × (w < 65536) → a ≡ byteOf w → b ≡ byteOf (w / 256)
     → labelOfCode c ≡ a ∷ b ∷ []
@@ -77,9 +77,9 @@ sizes-put l s count p1 p2 p3 q1 q2 q3 r1 r2 r3 t1 t2 = record {
 
 -- ---- the whole file
 
-module _ (s : List ℕ) (goals : ℕ) (codes : List ℕ) (count : ℕ) (room : count ≤ length codes) where
-  pairs-length : length (flatMap (pairOfCode s goals) (take count codes)) ≡ 2 * count
-  pairs-length = length-two (pairOfCode s goals) (take count codes) (λ c. refl) ∙ ap (λ k. 2 * k) (length-take-le count codes room)
+module _ (s goals codes : List ℕ) (count : ℕ) (room : count ≤ length codes) where
+  pairs-length : length (flatMap (pairOfCode goals) (take count codes)) ≡ 2 * count
+  pairs-length = length-two (pairOfCode goals) (take count codes) (λ c. refl) ∙ ap (λ k. 2 * k) (length-take-le count codes room)
 
   labels-length : length (flatMap labelOfCode (take count codes)) ≡ 2 * count
   labels-length = length-two labelOfCode (take count codes) (λ c. refl) ∙ ap (λ k. 2 * k) (length-take-le count codes room)
@@ -87,20 +87,20 @@ module _ (s : List ℕ) (goals : ℕ) (codes : List ℕ) (count : ℕ) (room : c
   pub file-length : length (fileOfCodes s goals codes count) ≡ 5 + 4 * count
   unfolding fileOfCodes
   file-length =
-      let e = length-append (flatMap (pairOfCode s goals) (take count codes)) (flatMap labelOfCode (take count codes)) in
+      let e = length-append (flatMap (pairOfCode goals) (take count codes)) (flatMap labelOfCode (take count codes)) in
       omega (arith, pairs-length, labels-length)
 
-  pub pairs-end : {a b : List ℕ} {e : ℕ} → Wrote a 5 (flatMap (pairOfCode s goals) (take count codes)) b e → e ≡ 5 + 2 * count
+  pub pairs-end : {a b : List ℕ} {e : ℕ} → Wrote a 5 (flatMap (pairOfCode goals) (take count codes)) b e → e ≡ 5 + 2 * count
   pairs-end w = w .end-is ∙ ap (λ k. 5 + k) pairs-length
 
   -- there is room for the labels behind the pairs
   pub labels-room : {a b c us : List ℕ} {m : ℕ} → 5 + 4 * count ≤ length a → Wrote a 0 us b 5
-      → Wrote b 5 (flatMap (pairOfCode s goals) (take count codes)) c m → m + 2 * count ≤ length c
+      → Wrote b 5 (flatMap (pairOfCode goals) (take count codes)) c m → m + 2 * count ≤ length c
   labels-room h p q = omega (arith, pairs-end q, wrote-length p, wrote-length q)
 
   pub file-put : {a b c d : List ℕ} {m e : ℕ} → 5 + 4 * count ≤ length a → count ≤ mostWords
       → Wrote a 0 (byteOf (getD s 0 0) ∷ byteOf (getD s 1 0) ∷ byteOf (getD s 2 0) ∷ byteOf count ∷ byteOf (count / 256) ∷ []) b 5
-      → Wrote b 5 (flatMap (pairOfCode s goals) (take count codes)) c m → Wrote c m (flatMap labelOfCode (take count codes)) d e
+      → Wrote b 5 (flatMap (pairOfCode goals) (take count codes)) c m → Wrote c m (flatMap labelOfCode (take count codes)) d e
       → d ≡ fileOfCodes s goals codes count ++ drop (5 + 4 * count) a
   unfolding fileOfCodes
   file-put {a} {b} {c} {d} {m} {e} h k p q r =
@@ -108,7 +108,7 @@ module _ (s : List ℕ) (goals : ℕ) (codes : List ℕ) (count : ℕ) (room : c
       let w : Wrote a 0 (fileOfCodes s goals codes count) d e =
       subst (λ x. Wrote a 0
       (byteOf (getD s 0 0) ∷ byteOf (getD s 1 0) ∷ byteOf
-      (getD s 2 0) ∷ byteOf count ∷ x ∷ (flatMap (pairOfCode s goals) (take count codes)
+      (getD s 2 0) ∷ byteOf count ∷ x ∷ (flatMap (pairOfCode goals) (take count codes)
       ++ flatMap labelOfCode (take count codes))) d e) small (wrote-then p (wrote-then q r)) in
       let f : length (fileOfCodes s goals codes count) ≡ 5 + 4 * count = file-length in
       wrote-front w (omega arith) ∙ ap (λ n. fileOfCodes s goals codes count ++ drop n a) f

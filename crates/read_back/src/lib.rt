@@ -2,20 +2,20 @@
 // Words are found depth by depth: each beginning goes on along every edge that left its vertex, and since no path of a usable section
 // breaks off, more than 1,024 beginnings at any depth are more than 1,024 words.
 ghost use mathlib.Core.Path.{_≡_};
+ghost use mathlib.Core.Bool.{true};
 ghost use mathlib.Core.List.{[], _∷_, _++_, flatMap};
 ghost use Prim.Native.Nat.{_+_, _*_, _/_, _%_, _<_, _≤_};
 ghost use lib.ListN.{length, getD, take, drop};
-ghost use Rattle.trellis.specs.Bounds.{mostWords};
+ghost use Rattle.trellis.specs.Bounds.{mostWords, mostQ};
 ghost use Rattle.trellis.specs.Lists.{run};
 ghost use Rattle.trellis.specs.inner.Write.{Wrote};
-ghost use Rattle.trellis.specs.Own.{edge};
-ghost use Rattle.trellis.specs.Layout.{nOf, pairsPlace, symbolsPlace, sectionLength};
 ghost use Rattle.outcomes.specs.inner.Holds.{Holds};
-ghost use Rattle.section_file.specs.inner.Answer.{edgeAt};
-ghost use Rattle.section_file.specs.inner.Sound.{Sound};
+ghost use Rattle.section_file.specs.inner.Answer.{edgeIn, meantEdge};
+ghost use Rattle.section_file.specs.inner.View.{Seen};
 ghost use Rattle.read_back.specs.ReadingBack.{readBackOutcome, left, isSection, readingBack};
+ghost use Rattle.read_back.specs.inner.Whole.{wholePart};
 ghost use Rattle.read_back.specs.inner.Levels.{codeRoot, codeVertex, codeLabel, furtherCode, grownCodes};
-ghost use Rattle.read_back.specs.inner.Growing.{PutBehind, StepIn, BeginsAt, Starts, FilledPlaces, Gathered, FirstLevel, RootCodes};
+ghost use Rattle.read_back.specs.inner.Growing.{PutBehind, StepEdges, BeginsAt, Starts, Gathered, FirstLevel, RootCodes};
 ghost use Rattle.read_back.specs.inner.Growing.{byteOf, pairOfCode, labelOfCode, fileOfCodes};
 use label::append;
 use numbers::number;
@@ -23,7 +23,10 @@ use numbers::wide;
 use outcomes::Returned;
 use outcomes::no_value;
 use outcomes::one_value;
+use section_file::Edge;
 use section_file::Part;
+use section_file::View;
+use section_file::edge_at;
 use section_file::usable_at;
 use trellis::MOST_WORDS;
 
@@ -48,12 +51,6 @@ pub fn outcome(answer: ReadBack) -> Returned
         ReadBack::TooMany => no_value(12),
         ReadBack::Short(needed) => one_value(10, needed),
     }
-}
-
-struct Places {
-    goals: usize,
-    pairs: usize,
-    symbols: usize,
 }
 
 fn wider(x: u16) -> u32
@@ -86,24 +83,26 @@ fn label_of(c: u32) -> u16
     (c % 65536) as u16
 }
 
-// A beginning one symbol longer, at another vertex.
-fn further(c: u32, symbol: u16, vertex: u16) -> u32
-    requires { ⌜ vertex < mostWords ⌝ }
-    ensures { λ r. ⌜ r ≡ furtherCode c (edge 0 symbol vertex) ⌝ }
+// A beginning one step further along an edge.
+fn further(c: u32, e: Edge) -> u32
+    requires { ⌜ (e .symbol < mostQ) × (e .to < mostWords) ⌝ }
+    ensures { λ r. ⌜ r ≡ furtherCode c (meantEdge e) ⌝ }
 {
-    (c / 67108864 * 1024 + wider(vertex)) * 65536 + wider(append(label_of(c), symbol))
+    let label = wider(append(label_of(c), e.symbol as u16));
+    (c / 67108864 * 1024 + (e.to as u32)) * 65536 + label
 }
 
 // Where the edges of each vertex begin. Going down, the last note of a vertex is its first edge.
-fn starts_of(s: &[u16], pairs: usize, symbols: usize, count: usize) -> [u16; MOST_WORDS]
-    requires { ⌜ StepIn (now s) pairs symbols count ⌝ }
-    ensures { λ r. ⌜ Starts (edgeAt (now (s .entry)) pairs symbols) count r ⌝ }
+fn starts_of(pairs: &[u16], symbols: &[u16], count: usize) -> [u16; MOST_WORDS]
+    requires { ⌜ StepEdges (now pairs) (now symbols) count ⌝ }
+    ensures { λ r. ⌜ Starts (edgeIn (now (pairs .entry)) (now (symbols .entry))) count r ⌝ }
 {
     let mut starts = [count as u16; MOST_WORDS];
     let mut k = count;
     while k > 0 {
         k -= 1;
-        let v = wide(number(s, pairs + 2 * k));
+        let e = edge_at(pairs, symbols, k);
+        let v = e.from;
         starts[v] = k as u16;
     }
     starts
@@ -111,31 +110,31 @@ fn starts_of(s: &[u16], pairs: usize, symbols: usize, count: usize) -> [u16; MOS
 
 // Puts the beginning c, one step further along each edge that left its vertex, behind the first `made` numbers.
 fn grow_one(
-    s: &[u16],
-    pairs: usize,
-    symbols: usize,
+    pairs: &[u16],
+    symbols: &[u16],
     count: usize,
     start: usize,
     c: u32,
     made: usize,
     codes: &mut [u32; MOST_WORDS],
 ) -> usize
-    requires { ⌜ StepIn (now s) pairs symbols count × BeginsAt (edgeAt (now s) pairs symbols) count (codeVertex c) start
+    requires { ⌜ StepEdges (now pairs) (now symbols) count × BeginsAt (edgeIn (now pairs) (now symbols)) count (codeVertex c) start
         × (made ≤ mostWords) × (length (now codes) ≡ mostWords) ⌝ }
-    ensures { λ r. ⌜ PutBehind (grownCodes (run (edgeAt (now (s .entry)) pairs symbols) 0 count) c) (now (codes .entry)) made
+    ensures { λ r. ⌜ PutBehind (grownCodes (run (edgeIn (now (pairs .entry)) (now (symbols .entry))) 0 count) c) (now (codes .entry)) made
         (now (codes .exit)) r ⌝ }
 {
     let vertex = vertex_of(c);
     let mut filled = made;
     let mut k = start;
     while k < count {
-        if wide(number(s, pairs + 2 * k)) != vertex {
+        let e = edge_at(pairs, symbols, k);
+        if e.from != vertex {
             return filled;
         }
         if filled >= MOST_WORDS {
             return TOO_MANY;
         }
-        codes[filled] = further(c, number(s, symbols + k), number(s, pairs + 1 + 2 * k));
+        codes[filled] = further(c, e);
         filled += 1;
         k += 1;
     }
@@ -144,26 +143,25 @@ fn grow_one(
 
 // Puts the first `have` beginnings of `old` one step further.
 fn grow(
-    s: &[u16],
-    pairs: usize,
-    symbols: usize,
+    pairs: &[u16],
+    symbols: &[u16],
     count: usize,
     old: &[u32; MOST_WORDS],
     have: usize,
     codes: &mut [u32; MOST_WORDS],
 ) -> usize
-    requires { ⌜ StepIn (now s) pairs symbols count × (have ≤ mostWords) × (length (now old) ≡ mostWords)
+    requires { ⌜ StepEdges (now pairs) (now symbols) count × (have ≤ mostWords) × (length (now old) ≡ mostWords)
         × (length (now codes) ≡ mostWords) ⌝ }
-    ensures { λ r. ⌜ PutBehind (flatMap (grownCodes (run (edgeAt (now (s .entry)) pairs symbols) 0 count)) (take have (now (old .entry))))
-        (now (codes .entry)) 0 (now (codes .exit)) r ⌝ }
+    ensures { λ r. ⌜ PutBehind (flatMap (grownCodes (run (edgeIn (now (pairs .entry)) (now (symbols .entry))) 0 count))
+        (take have (now (old .entry)))) (now (codes .entry)) 0 (now (codes .exit)) r ⌝ }
 {
-    let starts = starts_of(s, pairs, symbols, count);
+    let starts = starts_of(pairs, symbols, count);
     let mut made: usize = 0;
     let mut i: usize = 0;
     while i < have {
         let c = old[i];
         let start = wide(starts[vertex_of(c)]);
-        made = grow_one(s, pairs, symbols, count, start, c, made, codes);
+        made = grow_one(pairs, symbols, count, start, c, made, codes);
         if made > MOST_WORDS {
             return made;
         }
@@ -173,54 +171,34 @@ fn grow(
 }
 
 // The vertices of depth 0, each with its root.
-fn first_level(s: &[u16], roots: usize, count: usize, codes: &mut [u32; MOST_WORDS])
-    requires { ⌜ FirstLevel (now s) roots count × (length (now codes) ≡ mostWords) ⌝ }
-    ensures { λ _. ⌜ RootCodes (now (s .entry)) roots count (now (codes .exit)) ⌝ }
+fn first_level(roots: &[u16], count: usize, codes: &mut [u32; MOST_WORDS])
+    requires { ⌜ FirstLevel (now roots) count × (length (now codes) ≡ mostWords) ⌝ }
+    ensures { λ _. ⌜ RootCodes (now (roots .entry)) count (now (codes .exit)) ⌝ }
 {
     let mut v: usize = 0;
     while v < count {
-        codes[v] = (wider(number(s, roots + v)) * 1024 + (v as u32)) * 65536;
+        codes[v] = (wider(roots[v]) * 1024 + (v as u32)) * 65536;
         v += 1;
     }
 }
 
-// The section fills the slice, so behind the place of the pairs stand three numbers an edge.
-fn places_of(s: &[u16], n: usize) -> Places
-    requires { ⌜ Sound (now s) × (sectionLength (now s) ≡ length (now s)) × (n ≡ nOf (now s)) ⌝ }
-    ensures { λ r. ⌜ FilledPlaces (now (s .entry)) (r .goals) (r .pairs) (r .symbols) ⌝ }
-{
-    let goals = 4 + 2 * n + wide(number(s, 3));
-    let pairs = goals + wide(number(s, 3 + n));
-    let symbols = pairs + 2 * ((s.len() - pairs) / 3);
-    Places {
-        goals,
-        pairs,
-        symbols,
-    }
-}
-
 // Finds the section's words, depth by depth.
-fn gather(s: &[u16], n: usize, pairs: usize, symbols: usize, codes: &mut [u32; MOST_WORDS]) -> usize
-    requires { ⌜ Sound (now s) × (n ≡ nOf (now s)) × (pairs ≡ pairsPlace (now s)) × (symbols ≡ symbolsPlace (now s)) × (pairs ≤ 10000)
-        × (symbols ≤ 50000) × (length (now codes) ≡ mostWords) ⌝ }
-    ensures { λ r. ⌜ Gathered (now (s .entry)) n (now (codes .exit)) r ⌝ }
+fn gather(s: &[u16], at: View, codes: &mut [u32; MOST_WORDS]) -> usize
+    requires { ⌜ Seen (now s) at × (length (now codes) ≡ mostWords) ⌝ }
+    ensures { λ r. ⌜ Gathered (now (s .entry)) (now (codes .exit)) r ⌝ }
 {
-    let mut have = wide(number(s, 3));
-    first_level(s, 4 + 2 * n, have, codes);
+    let n = at.n;
+    let roots = at.roots;
+    let mut have = at.goals - roots;
+    first_level(&s[roots..], have, codes);
     let mut before: usize = 0;
     let mut t: usize = 0;
     while t < n {
         let old = *codes;
         let count = wide(number(s, 4 + n + t));
-        have = grow(
-            s,
-            pairs + 2 * before,
-            symbols + before,
-            count,
-            &old,
-            have,
-            codes,
-        );
+        let pairs = at.pairs + 2 * before;
+        let symbols = at.symbols + before;
+        have = grow(&s[pairs..], &s[symbols..], count, &old, have, codes);
         if have > MOST_WORDS {
             return have;
         }
@@ -242,15 +220,9 @@ fn put_sizes(s: &[u16], count: usize, file: &mut [u8])
     file[4] = byte(count / 256);
 }
 
-fn put_pairs(
-    s: &[u16],
-    goals: usize,
-    codes: &[u32; MOST_WORDS],
-    count: usize,
-    file: &mut [u8],
-) -> usize
-    requires { ⌜ (goals ≤ 10000) × (count ≤ mostWords) × (5 + 2 * count ≤ length (now file)) × (length (now codes) ≡ mostWords) ⌝ }
-    ensures { λ r. ⌜ Wrote (now (file .entry)) 5 (flatMap (pairOfCode (now (s .entry)) goals) (take count (now (codes .entry))))
+fn put_pairs(goals: &[u16], codes: &[u32; MOST_WORDS], count: usize, file: &mut [u8]) -> usize
+    requires { ⌜ (count ≤ mostWords) × (5 + 2 * count ≤ length (now file)) × (length (now codes) ≡ mostWords) ⌝ }
+    ensures { λ r. ⌜ Wrote (now (file .entry)) 5 (flatMap (pairOfCode (now (goals .entry))) (take count (now (codes .entry))))
         (now (file .exit)) r ⌝ }
 {
     let mut at: usize = 5;
@@ -258,7 +230,7 @@ fn put_pairs(
     while i < count {
         let c = codes[i];
         file[at] = byte(root_of(c));
-        file[at + 1] = byte(wide(number(s, goals + vertex_of(c))));
+        file[at + 1] = byte(wide(number(goals, vertex_of(c))));
         at += 2;
         i += 1;
     }
@@ -281,38 +253,24 @@ fn put_labels(codes: &[u32; MOST_WORDS], count: usize, start: usize, file: &mut 
     at
 }
 
-fn put_file(s: &[u16], goals: usize, codes: &[u32; MOST_WORDS], count: usize, file: &mut [u8])
-    requires { ⌜ (goals ≤ 10000) × (count ≤ mostWords) × (5 + 4 * count ≤ length (now file)) × (length (now codes) ≡ mostWords) ⌝ }
-    ensures { λ _. ⌜ now (file .exit) ≡ fileOfCodes (now (s .entry)) goals (now (codes .entry)) count
+fn put_file(s: &[u16], goals: &[u16], codes: &[u32; MOST_WORDS], count: usize, file: &mut [u8])
+    requires { ⌜ (count ≤ mostWords) × (5 + 4 * count ≤ length (now file)) × (length (now codes) ≡ mostWords) ⌝ }
+    ensures { λ _. ⌜ now (file .exit) ≡ fileOfCodes (now (s .entry)) (now (goals .entry)) (now (codes .entry)) count
         ++ drop (5 + 4 * count) (now (file .entry)) ⌝ }
 {
     put_sizes(s, count, file);
-    let at = put_pairs(s, goals, codes, count, file);
+    let at = put_pairs(goals, codes, count, file);
     put_labels(codes, count, at, file);
 }
 
-// Usable, with no numbers left over.
-fn is_section(s: &[u16]) -> bool
-    ensures { λ r. ⌜ r ≡ isSection (now (s .entry)) ⌝ }
-{
-    let part = usable_at(s, 0);
-    match part {
-        Part::Usable(at) => at.end == s.len(),
-        Part::Unusable => false,
-    }
-}
-
-// Writes the table file of the words of `section` to the front of `file`.
-pub fn read_back(section: &[u16], file: &mut [u8]) -> ReadBack
+// Writes the table file of a section's words.
+fn put_words(section: &[u16], at: View, file: &mut [u8]) -> ReadBack
+    requires { ⌜ Seen (now section) at × (isSection (now section) ≡ true) ⌝ }
     ensures { λ r. ⌜ left (readBackOutcome r) (now (file .exit)) ≡ readingBack (now (section .entry)) (now (file .entry)) ⌝ }
 {
-    if !is_section(section) {
-        return ReadBack::Unusable;
-    }
-    let n = wide(number(section, 1));
-    let at = places_of(section, n);
+    let goals = at.goals;
     let mut codes = [0u32; MOST_WORDS];
-    let count = gather(section, n, at.pairs, at.symbols, &mut codes);
+    let count = gather(section, at, &mut codes);
     if count > MOST_WORDS {
         return ReadBack::TooMany;
     }
@@ -320,6 +278,34 @@ pub fn read_back(section: &[u16], file: &mut [u8]) -> ReadBack
     if file.len() < needed {
         return ReadBack::Short(needed);
     }
-    put_file(section, at.goals, &codes, count, file);
+    put_file(section, &section[goals..], &codes, count, file);
     ReadBack::File(needed)
+}
+
+// The section that a slice is: usable, with no numbers left over.
+fn section_of(s: &[u16]) -> Part
+    ensures { λ r. ⌜ r ≡ wholePart (now (s .entry)) ⌝ }
+{
+    let part = usable_at(s, 0);
+    match part {
+        Part::Usable(at) => {
+            if at.end == s.len() {
+                Part::Usable(at)
+            } else {
+                Part::Unusable
+            }
+        },
+        Part::Unusable => Part::Unusable,
+    }
+}
+
+// Writes the table file of the words of `section` to the front of `file`.
+pub fn read_back(section: &[u16], file: &mut [u8]) -> ReadBack
+    ensures { λ r. ⌜ left (readBackOutcome r) (now (file .exit)) ≡ readingBack (now (section .entry)) (now (file .entry)) ⌝ }
+{
+    let part = section_of(section);
+    match part {
+        Part::Usable(at) => put_words(section, at, file),
+        Part::Unusable => ReadBack::Unusable,
+    }
 }

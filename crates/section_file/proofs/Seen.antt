@@ -16,8 +16,8 @@ use Rattle.trellis.specs.Layout.{rootsPlace, goalsPlace, pairsPlace, symbolsPla
 use Rattle.trellis.proofs.Laid.{before-none, before-more, before-le, before-few}
 use Rattle.section_file.specs.Usable.{stepEdge}
 use Rattle.section_file.specs.inner.Sound.{Sound}
-use Rattle.section_file.specs.inner.View.{viewOf, Counted, Laid, Seen}
-use Rattle.section_file.specs.inner.Edges.{EdgesThere}
+use Rattle.section_file.specs.inner.View.{viewOf, Seen, Laid}
+use Rattle.section_file.specs.inner.Edges.{EdgesThere, EdgesSmall}
 use Rattle.section_file.specs.inner.Answer.{edgeIn}
 use Rattle.section_file.specs.declared.View.{View}
 
@@ -59,12 +59,6 @@ viewed e = record {
   end-is = ap (λ (v : View). v .end) e;
 }
 
-pub counts-near : {l : List ℕ} → Counted l → sectionLength l ≤ 30000
-counts-near {l} c =
-    let p = parts l in
-    let few = before-few l {n = nOf l} {most = mostWords} (c .edgesTo) (nOf l) (omega arith) in
-    omega (arith, c .nTo, c .verticesTo 0 (omega arith), c .verticesTo (nOf l) (omega arith))
-
 -- the places of a section that is there whole by counts in bounds: in their order, near, and within the list
 pub record Near (l : List ℕ) (at : View) : Type 0 where
   pub steps-few : at .n ≤ mostSymbols
@@ -79,17 +73,28 @@ pub near-of : {l : List ℕ} {at : View} → Laid l at → Near l at
 near-of {l} L =
     let p = parts l in
     let e = viewed (L .is) in
-    let n = counts-near (L .counted) in
     let w = L .whole in
+    let few = before-few l {n = nOf l} {most = mostWords} (L .edgesTo) (nOf l) (omega arith) in
     record {
-      steps-few = omega (arith, L .counted .nTo);
+      steps-few = omega (arith, L .nTo);
       roots-to = omega arith;
       goals-to = omega arith;
       pairs-to = omega arith;
       symbols-to = omega arith;
-      end-near = omega arith;
+      end-near = omega (arith, L .nTo, L .verticesTo 0 (omega arith), L .verticesTo (nOf l) (omega arith));
       end-in = omega arith;
     }
+
+-- those of a usable section
+pub laid-of : {l : List ℕ} {at : View} → Seen l at → Laid l at
+laid-of S = let s = S .sound in record {
+  nTo = s .nTo;
+  qTo = s .qTo;
+  verticesTo = s .verticesTo;
+  edgesTo = s .edgesTo;
+  whole = s .whole;
+  is = S .is;
+}
 
 -- the edges of the steps before one are among all edges
 pub before-in : {l : List ℕ} {at : View} {t before : ℕ} → Laid l at → t ≤ at .n → before ≡ edgesBefore l t → before ≤ at .edges
@@ -128,10 +133,6 @@ module _ (l : List ℕ) (i : ℕ) {pairs symbols : ℕ} (p : pairs ≡ pairsPlac
       third k =
           let e : pairs + (2 * k + 1) ≡ pairsPlace l + 2 * (i + k) + 1 = omega arith in
           from-at l pairs (2 * k + 1) ∙ ap (λ x. getD l x 0) e
-
-  pub edges-there : (k : ℕ) → sectionLength l ≤ length l → i + k < allEdges l
-      → (2 * k + 1 < length (take (length l - pairs) (drop pairs l))) × (k < length (take (length l - symbols) (drop symbols l)))
-  edges-there k w h = let P = parts l in (omega (arith, from-length l pairs), omega (arith, from-length l symbols))
 
   pub run-there : {count : ℕ} → sectionLength l ≤ length l → count ≤ mostWords → i + count ≤ allEdges l
       → EdgesThere (take (length l - pairs) (drop pairs l)) (take (length l - symbols) (drop symbols l)) count
@@ -174,11 +175,10 @@ unfolding stepEdge
 number-of l t i h = let e : edgesBefore l t + (i - edgesBefore l t) ≡ i = omega arith in ap (edgeNumber l) e
 
 module _ {l : List ℕ} (s : Sound l) where
-  pub counted-of : Counted l
-  counted-of = record { nTo = s .nTo; qTo = s .qTo; verticesTo = s .verticesTo; edgesTo = s .edgesTo }
-
   pub section-near : sectionLength l ≤ 30000
-  section-near = counts-near counted-of
+  section-near =
+      let S : Seen l (viewOf l) = record { sound = s; is = refl } in
+      omega (arith, viewed (S .is) .end-is, near-of (laid-of S) .end-near)
 
   pub symbols-in : symbolsPlace l + allEdges l ≤ length l
   symbols-in = let p = parts l in omega (arith, s .whole)
@@ -188,6 +188,35 @@ module _ {l : List ℕ} (s : Sound l) where
 
   pub goals-few : vertexCountOf l (nOf l) ≤ mostStates
   goals-few = omega (arith, rising-few _ (vertexCountOf l (nOf l)) _ (s .goalsAscend) (s .goalsBelow), s .statesTo)
+
+  -- the edges of step t, read from where they stand
+  module _ (t : ℕ) (h : t < nOf l) {pairs symbols count : ℕ} (p : pairs ≡ pairsPlace l + 2 * edgesBefore l t)
+      (q : symbols ≡ symbolsPlace l + edgesBefore l t) (c : count ≡ edgeCountOf l t) where
+    pub step-edge : (k : ℕ) → edgeIn (take (length l - pairs) (drop pairs l)) (take (length l - symbols) (drop symbols l)) k
+        ≡ stepEdge l t k
+    unfolding stepEdge
+    step-edge k = λ i. edges-from l (edgesBefore l t) p q i k
+
+    pub step-small : EdgesSmall (take (length l - pairs) (drop pairs l)) (take (length l - symbols) (drop symbols l)) count
+    step-small =
+        let m = before-more l t in
+        let b = before-le l (suc t) (nOf l) h in
+        record {
+          there = run-there l (edgesBefore l t) p q (s .whole) (omega (arith, s .edgesTo t h)) (omega arith);
+          fromSmall = λ k i. omega (
+            arith,
+            ap (λ (e : own.Edge). e .from) (step-edge k),
+            s .fromBelow t k h (omega arith),
+            s .verticesTo t (omega arith),
+          );
+          symbolSmall = λ k i. omega (arith, ap (λ (e : own.Edge). e .symbol) (step-edge k), s .symbolBelow t k h (omega arith), s .qTo);
+          toSmall = λ k i. omega (
+            arith,
+            ap (λ (e : own.Edge). e .to) (step-edge k),
+            s .toBelow t k h (omega arith),
+            s .verticesTo (suc t) h,
+          );
+        }
 
   -- edge i, of step t
   module _ (t i : ℕ) (h : t < nOf l) (a : edgesBefore l t ≤ i) (b : i < edgesBefore l (suc t)) where

@@ -12,15 +12,14 @@ use lib.Dec.{ltb}
 use borrow.Author.Tests.{leb-true, le-leb}
 use Rattle.trellis.specs.Bounds.{mostWords, mostSymbols, leastQ, mostQ}
 use Rattle.trellis.specs.Lists.{all, within}
-use Rattle.trellis.specs.Own as own
-use Rattle.trellis.specs.Layout.{qOf, nOf, vertexCountOf, edgeCountOf, edgesBefore, pairsPlace, symbolsPlace, sectionLength, edgeNumber}
+use Rattle.trellis.specs.Layout.{qOf, nOf, vertexCountOf, edgeCountOf, edgesBefore, pairsPlace, symbolsPlace, sectionLength}
 use Rattle.trellis.proofs.Bools.{is-true, is-false, clash, left-true, right-true}
 use Rattle.trellis.proofs.Laid.{before-none, before-more, before-le}
 use Rattle.section_file.specs.Usable.{stepEdge, whole, sizesRight, countsRight, statesRight, usable}
 use Rattle.section_file.specs.inner.Steps.{inside, edgesRight, stepRight}
-use Rattle.section_file.specs.inner.View.{viewOf, Counted, Laid}
+use Rattle.section_file.specs.inner.View.{viewOf, Laid}
 use Rattle.section_file.specs.inner.Edges.{StepThere, EdgesSmall}
-use Rattle.section_file.specs.inner.Answer.{partOf, edgeIn, edgeAt}
+use Rattle.section_file.specs.inner.Answer.{partOf, edgeIn}
 use Rattle.section_file.specs.declared.View.{View}
 use Rattle.section_file.specs.declared.Part.{Part}
 use Rattle.section_file.specs.declared.Part.the-variants.{Usable, Unusable}
@@ -32,21 +31,6 @@ use Rattle.section_file.proofs.Usable.{Conditions, Inside, usable-says,
 use Rattle.section_file.proofs.Usable.{inside-is, onward-is, inward-is, reached-is, leading-is}
 
 -- ---- one step
-
--- the edges that the code reads are those of the step
-pub edges-at : (l : List ℕ) (t : ℕ) {pairs symbols : ℕ} → pairs ≡ pairsPlace l + 2 * edgesBefore l t
-    → symbols ≡ symbolsPlace l + edgesBefore l t → edgeAt l pairs symbols ≡ stepEdge l t
-unfolding stepEdge edgeNumber
-edges-at l t {pairs} {symbols} p q = λ i k. own.edge (getD l (first k i) 0) (getD l (second k i) 0) (getD l (third k i) 0)
-  where
-    first : (k : ℕ) → pairs + 2 * k ≡ pairsPlace l + 2 * (edgesBefore l t + k)
-    first k = omega arith
-
-    second : (k : ℕ) → symbols + k ≡ symbolsPlace l + (edgesBefore l t + k)
-    second k = omega arith
-
-    third : (k : ℕ) → pairs + 1 + 2 * k ≡ pairsPlace l + 2 * (edgesBefore l t + k) + 1
-    third k = omega arith
 
 -- what is read of a step
 pub record StepRead (l : List ℕ) (at : View) (t before count q froms tos : ℕ) : Type 0 where
@@ -94,7 +78,7 @@ module _ {l : List ℕ} {at : View} {t before count q froms tos : ℕ} (r : Step
   pub step-there : StepThere (take (length l - (at .pairs + 2 * before)) (drop (at .pairs + 2 * before) l))
       (take (length l - (at .symbols + before)) (drop (at .symbols + before) l)) count q froms tos
   step-there =
-      let C = r .laid .counted in
+      let C = r .laid in
       let i = r .inside in
       let m = before-more l t in
       let b = before-le l (suc t) (nOf l) i in
@@ -154,19 +138,6 @@ n-few l e f g =
     omega (arith, to-high 1 mostSymbols (nOf l) (left-true _ _ (right-true (within leastQ mostQ (qOf l)) _ (holds-by e f))))
 
 module _ (l : List ℕ) where
-  pub counted : {a b : Bool} → a ≡ sizesRight l → not a ≡ false → b ≡ countsRight l → not b ≡ false → Counted l
-  unfolding sizesRight countsRight
-  counted a-is a-yes b-is b-yes = record {
-    nTo = n-few l a-is a-yes refl;
-    qTo = to-high leastQ mostQ (qOf l) (left-true _ _ (holds-by a-is a-yes));
-    verticesTo = λ t h. to-high 1 mostWords (vertexCountOf l t) (all-at _ (nOf l + 1) t (left-true _ _ counts) (omega arith));
-    edgesTo = λ t h. to-high 1 mostWords (edgeCountOf l t)
-        (all-at _ (nOf l) t (right-true (all (λ t. within 1 mostWords (vertexCountOf l t)) (nOf l + 1)) _ counts) h);
-  }
-    where
-      counts : countsRight l ≡ true
-      counts = holds-by b-is b-yes
-
   -- a condition that fails
   unusable : (Conditions l → ⊥) → Unusable ≡ partOf l
   unfolding partOf
@@ -186,8 +157,21 @@ module _ (l : List ℕ) where
     unfolding whole
     part-cut h = unusable (λ c. let e = leb-true (sectionLength l) (length l) (c .is-whole) in omega (arith, viewed at-is .end-is))
 
-    pub laid : Counted l → at .end ≤ length l → Laid l at
-    laid c h = record { counted = c; whole = omega (arith, viewed at-is .end-is); is = at-is }
+    -- what the sizes and the counts say, once both are right and the section is there whole
+    pub laid : {a b : Bool} → a ≡ sizesRight l → not a ≡ false → b ≡ countsRight l → not b ≡ false → at .end ≤ length l → Laid l at
+    unfolding sizesRight countsRight
+    laid a-is a-yes b-is b-yes h = record {
+      nTo = n-few l a-is a-yes refl;
+      qTo = to-high leastQ mostQ (qOf l) (left-true _ _ (holds-by a-is a-yes));
+      verticesTo = λ t h. to-high 1 mostWords (vertexCountOf l t) (all-at _ (nOf l + 1) t (left-true _ _ counts) (omega arith));
+      edgesTo = λ t h. to-high 1 mostWords (edgeCountOf l t)
+          (all-at _ (nOf l) t (right-true (all (λ t. within 1 mostWords (vertexCountOf l t)) (nOf l + 1)) _ counts) h);
+      whole = omega (arith, viewed at-is .end-is);
+      is = at-is;
+    }
+      where
+        counts : countsRight l ≡ true
+        counts = holds-by b-is b-yes
 
     all-steps : {a : Bool} → a ≡ all (stepRight l) (at .n) → a ≡ all (stepRight l) (nOf l)
     all-steps e = e ∙ ap (all (stepRight l)) (viewed at-is .n-is)

@@ -10,7 +10,7 @@ ghost use Rattle.section_file.specs.Usable.{sizesRight, countsRight};
 ghost use Rattle.section_file.specs.inner.Steps.{inside, above, edgesRight, stepRight};
 ghost use Rattle.trellis.specs.Lists.{all, within};
 ghost use Rattle.section_file.specs.inner.Edges.{EdgesThere, StepThere};
-ghost use Rattle.section_file.specs.inner.View.{Counted, viewOf, Laid};
+ghost use Rattle.section_file.specs.inner.View.{viewOf, Laid};
 ghost use Rattle.section_file.specs.inner.Answer.{partOf, edgeIn, heldEdge, meantEdge};
 
 mod states;
@@ -105,7 +105,7 @@ fn counts_right(l: &[u16], n: usize) -> bool
 
 // Each part stands behind the one before it.
 fn view_of(l: &[u16], n: usize) -> View
-    requires { ⌜ Counted (now l) × (n ≡ nOf (now l)) ⌝ }
+    requires { ⌜ (n ≡ nOf (now l)) × (n ≤ mostSymbols) ⌝ }
     ensures { λ r. ⌜ r ≡ viewOf (now (l .entry)) ⌝ }
 {
     let q = number(l, 0);

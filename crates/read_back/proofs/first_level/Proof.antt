@@ -7,19 +7,19 @@ use Rattle.read_back.proofs.first_level.Statement.{statement}
 use Rattle.read_back.proofs.first_level.Tie as tie
 
 abbrev Inv-loop : tie.InvT-loop
-Inv-loop s roots count codes₀ v₀ codes v = Rooted s roots count codes v
+Inv-loop roots count codes₀ v₀ codes v = Rooted roots count codes v
 
 abbrev μ-loop : tie.MeasureT-loop
-μ-loop s roots count codes₀ v₀ codes v = count - v
+μ-loop roots count codes₀ v₀ codes v = count - v
 
 loop-holds : tie.Need-loop-holds Inv-loop μ-loop
-loop-holds c = rooted-start _ _ _ (c .before .pre .1)
+loop-holds c = rooted-start _ _ (c .before .pre .1)
 
-add-number : tie.Need-add-number Inv-loop μ-loop
-add-number c = search needs
+mul-wider : tie.Need-mul-wider Inv-loop μ-loop
+mul-wider c = search needs
 
-number-requires : tie.Need-number-requires Inv-loop μ-loop
-number-requires c κs = search needs
+shared-slice-read-wider : tie.Need-shared-slice-read-wider Inv-loop μ-loop
+shared-slice-read-wider c = search needs
 
 wider-requires : tie.Need-wider-requires Inv-loop μ-loop
 wider-requires c κs = search needs
@@ -35,10 +35,7 @@ add-codes c = search needs
 
 mul-codes-2 : tie.Need-mul-codes-2 Inv-loop μ-loop
 mul-codes-2 c = let h = c .before .before in let p = h .before .before .before .pre in
-    record {
-      fits = omega
-          (arith, p .0 .small (h .before .loop .v) (h .loop-test .taken), p .0 .few, c .before .number .ensures, c .wider .ensures .0);
-    }
+    record { fits = omega (arith, p .0 .small (h .before .loop .v) (h .loop-test .taken), p .0 .few, c .wider .ensures .0) }
 
 mul-codes-3 : tie.Need-mul-codes-3 Inv-loop μ-loop
 mul-codes-3 c = search needs
@@ -54,8 +51,7 @@ loop-less c = search needs
 
 loop-again : tie.Need-loop-again Inv-loop μ-loop
 loop-again c = let h = c .before .before in
-    rooted-next (h .before .loop .inv) (h .before .before .before .pre .0) (h .loop-test .taken) (c .before .number .ensures)
-    (c .wider .ensures)
+    rooted-next (h .before .loop .inv) (h .before .before .before .pre .0) (h .loop-test .taken) (c .wider .ensures)
 
 returns : tie.Need-returns Inv-loop μ-loop
 returns c = rooted-all (c .before .loop .inv) (search needs)
@@ -67,8 +63,8 @@ first-level-spec =
     Inv-loop
     μ-loop
     loop-holds
-    add-number
-    number-requires
+    mul-wider
+    shared-slice-read-wider
     wider-requires
     mul-codes
     cast-codes

@@ -3,7 +3,7 @@
 use native.Mathlib.Omega.{arith}
 use Prim.Native.Nat.{_-_}
 use Rattle.trellis.specs.Lists.{run}
-use Rattle.section_file.specs.inner.Answer.{edgeAt}
+use Rattle.section_file.specs.inner.Answer.{edgeIn}
 use Rattle.read_back.specs.inner.Levels.{grownCodes}
 use Rattle.read_back.proofs.Growing.{begins-of, Growing, growing-start, growing-next, growing-over, growing-all}
 use borrow.Author.Needs.{needs}
@@ -11,11 +11,11 @@ use Rattle.read_back.proofs.grow.Statement.{statement}
 use Rattle.read_back.proofs.grow.Tie as tie
 
 abbrev Inv-loop : tie.InvT-loop
-Inv-loop s pairs symbols count old have codes₀ starts made₀ i₀ codes made i =
-    Growing (grownCodes (run (edgeAt s pairs symbols) 0 count)) old have codes made i
+Inv-loop pairs symbols count old have codes₀ starts made₀ i₀ codes made i =
+    Growing (grownCodes (run (edgeIn pairs symbols) 0 count)) old have codes made i
 
 abbrev μ-loop : tie.MeasureT-loop
-μ-loop s pairs symbols count old have codes₀ starts made₀ i₀ codes made i = have - i
+μ-loop pairs symbols count old have codes₀ starts made₀ i₀ codes made i = have - i
 
 starts-of-requires : tie.Need-starts-of-requires Inv-loop μ-loop
 starts-of-requires c κs = search needs

@@ -13,10 +13,10 @@ put-pairs-requires c κs = search needs
 
 put-labels-requires : tie.Need-put-labels-requires
 put-labels-requires c κs = let p = c .before .before .before in let z = p .before .before .before .before in let a =
-    z .before .before .before .before in let x = a .args in let q = a .pre in (
-      omega (arith, pairs-end (x .s .now) (x .goals) (x .codes .now) (x .count) (search needs) (p .put-pairs .ensures)),
+    z .before .before .before .before .before in let x = a .args in let q = a .pre in (
+      omega (arith, pairs-end (x .s .now) (x .goals .now) (x .codes .now) (x .count) (search needs) (p .put-pairs .ensures)),
       search needs,
-      labels-room (x .s .now) (x .goals) (x .codes .now) (x .count) (search needs) (search needs) (z .put-sizes .ensures)
+      labels-room (x .s .now) (x .goals .now) (x .codes .now) (x .count) (search needs) (search needs) (z .put-sizes .ensures)
           (p .put-pairs .ensures),
       search needs,
     )
@@ -26,8 +26,8 @@ same-length c = search needs
 
 returns : tie.Need-returns
 returns c = let l = c .before .before in let p = l .before .before .before .before in let z = p .before .before .before .before in let a =
-    z .before .before .before .before in let x = a .args in
-    file-put (x .s .now) (x .goals) (x .codes .now) (x .count) (search needs) (search needs) (search needs) (z .put-sizes .ensures)
+    z .before .before .before .before .before in let x = a .args in
+    file-put (x .s .now) (x .goals .now) (x .codes .now) (x .count) (search needs) (search needs) (search needs) (z .put-sizes .ensures)
     (p .put-pairs .ensures) (l .put-labels .ensures)
 
 pub put-file-spec : {M : Type 1} → statement M

@@ -9,10 +9,10 @@ use Rattle.read_back.proofs.put_pairs.Statement.{statement}
 use Rattle.read_back.proofs.put_pairs.Tie as tie
 
 abbrev Inv-loop : tie.InvT-loop
-Inv-loop s goals codes count file₀ at₀ i₀ file at i = Pieces (pairOfCode s goals) file₀ 5 codes count file at i
+Inv-loop goals codes count file₀ at₀ i₀ file at i = Pieces (pairOfCode goals) file₀ 5 codes count file at i
 
 abbrev μ-loop : tie.MeasureT-loop
-μ-loop s goals codes count file₀ at₀ i₀ file at i = count - i
+μ-loop goals codes count file₀ at₀ i₀ file at i = count - i
 
 loop-holds : tie.Need-loop-holds Inv-loop μ-loop
 loop-holds c = pieces-start
@@ -34,9 +34,6 @@ slice-write-file c = search needs
 
 vertex-of-requires : tie.Need-vertex-of-requires Inv-loop μ-loop
 vertex-of-requires c κs = search needs
-
-add-number : tie.Need-add-number Inv-loop μ-loop
-add-number c = search needs
 
 number-requires : tie.Need-number-requires Inv-loop μ-loop
 number-requires c κs = search needs
@@ -66,7 +63,7 @@ loop-again : tie.Need-loop-again Inv-loop μ-loop
 loop-again c = let w = c .before in let n = w .before in let v = n .before in let b = v .before in let r = b .before in let h =
     r .before .before in let a = h .before .before .before .before .args in
     pieces-next (h .before .loop .inv) (h .loop-test .taken) (search needs)
-    (pair-is (a .s .now) (a .goals) _ (r .root-of .ensures) (b .byte .ensures) (v .vertex-of .ensures) (n .number .ensures)
+    (pair-is (a .goals .now) _ (r .root-of .ensures) (b .byte .ensures) (v .vertex-of .ensures) (n .number .ensures)
     (w .wide .ensures) (c .byte2 .ensures))
 
 same-length : tie.Need-same-length Inv-loop μ-loop
@@ -88,7 +85,6 @@ put-pairs-spec =
     byte-requires
     slice-write-file
     vertex-of-requires
-    add-number
     number-requires
     wide-requires
     byte-requires-2

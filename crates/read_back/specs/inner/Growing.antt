@@ -2,13 +2,15 @@
 -- edges of a vertex begin.
 use mathlib.Core.Path.{_≡_}
 use mathlib.Core.List.{List, [], _∷_, _++_, map, flatMap}
-use Prim.Native.Nat.{ℕ, _+_, _-_, _*_, _%_, _≤_, _<_}
+use Prim.Native.Nat.{ℕ, _+_, _-_, _%_, _≤_, _<_}
 use lib.ListN.{length, getD, take}
 use Rattle.trellis.specs.Bounds.{mostStates, mostWords}
 use Rattle.trellis.specs.Lists.{run, each}
 use Rattle.trellis.specs.Own.{Edge}
 use Rattle.trellis.specs.Section.{leaving}
-use Rattle.trellis.specs.Layout.{goalsPlace, pairsPlace, symbolsPlace}
+use Rattle.trellis.specs.Layout.{nOf}
+use Rattle.section_file.specs.inner.Answer.{edgeIn}
+use Rattle.section_file.specs.inner.Edges.{EdgesSmall}
 use Rattle.read_back.specs.TableBytes.{bytesOf}
 use Rattle.read_back.specs.inner.Levels.{level, code, coded, codeRoot, codeVertex, codeLabel}
 
@@ -19,15 +21,10 @@ pub record PutBehind (vs old : List ℕ) (made : ℕ) (new : List ℕ) (r : ℕ)
   pub count : r ≤ mostWords → r ≡ made + length vs
   pub over : mostWords < r → mostWords < made + length vs
 
--- count edges of one step, their pairs and symbols from two places on
-pub record StepIn (s : List ℕ) (pairs symbols count : ℕ) : Type 0 where
-  pub pairsNear : pairs ≤ 100000
-  pub symbolsNear : symbols ≤ 100000
-  pub few : count ≤ mostWords
-  pub fromSmall : (k : ℕ) → k < count → getD s (pairs + 2 * k) 0 < mostWords
-  pub symbolSmall : (k : ℕ) → k < count → getD s (symbols + k) 0 < 4
-  pub toSmall : (k : ℕ) → k < count → getD s (pairs + 1 + 2 * k) 0 < mostWords
-  pub fromsRise : (j k : ℕ) → j ≤ k → k < count → getD s (pairs + 2 * j) 0 ≤ getD s (pairs + 2 * k) 0
+-- count edges of one step: in bounds, and in the order of the vertices where they start
+pub record StepEdges (pairs symbols : List ℕ) (count : ℕ) : Type 0 where
+  pub small : EdgesSmall pairs symbols count
+  pub fromsRise : (j k : ℕ) → j ≤ k → k < count → edgeIn pairs symbols j .from ≤ edgeIn pairs symbols k .from
 
 -- the edges of vertex v among the first count are those from place a on, and a is the first of them where there is any
 pub record BeginsAt (e : ℕ → Edge) (count v a : ℕ) : Type 0 where
@@ -40,46 +37,37 @@ pub record Starts (e : ℕ → Edge) (count : ℕ) (starts : List ℕ) : Type 0 
   pub long : length starts ≡ mostWords
   pub at : (v : ℕ) → v < mostWords → BeginsAt e count v (getD starts v 0)
 
--- places of a section that fills its list
-pub record FilledPlaces (s : List ℕ) (goals pairs symbols : ℕ) : Type 0 where
-  pub goalsIs : goals ≡ goalsPlace s
-  pub pairsIs : pairs ≡ pairsPlace s
-  pub symbolsIs : symbols ≡ symbolsPlace s
-  pub goalsNear : goals ≤ 10000
-  pub pairsNear : pairs ≤ 10000
-  pub symbolsNear : symbols ≤ 50000
-
 -- the section's words as numbers in an array of 1,024, or more words than that
-pub record Gathered (s : List ℕ) (n : ℕ) (codes : List ℕ) (count : ℕ) : Type 0 where
+pub record Gathered (s : List ℕ) (codes : List ℕ) (count : ℕ) : Type 0 where
   pub long : length codes ≡ mostWords
-  pub filled : count ≤ mostWords → take count codes ≡ map coded (level s n)
-  pub count-is : count ≤ mostWords → count ≡ length (level s n)
-  pub over : mostWords < count → mostWords < length (level s n)
+  pub filled : count ≤ mostWords → take count codes ≡ map coded (level s (nOf s))
+  pub count-is : count ≤ mostWords → count ≡ length (level s (nOf s))
+  pub over : mostWords < count → mostWords < length (level s (nOf s))
 
--- the vertices of depth 0: count states from one place on, each of six bits
-pub record FirstLevel (s : List ℕ) (roots count : ℕ) : Type 0 where
-  pub near : roots ≤ 100000
+-- the states of the vertices of depth 0, each of six bits
+pub record FirstLevel (roots : List ℕ) (count : ℕ) : Type 0 where
+  pub there : count ≤ length roots
   pub few : count ≤ mostWords
-  pub small : (v : ℕ) → v < count → getD s (roots + v) 0 < mostStates
+  pub small : (v : ℕ) → v < count → getD roots v 0 < mostStates
 
-pub record RootCodes (s : List ℕ) (roots count : ℕ) (codes : List ℕ) : Type 0 where
+pub record RootCodes (roots : List ℕ) (count : ℕ) (codes : List ℕ) : Type 0 where
   pub long : length codes ≡ mostWords
-  pub filled : take count codes ≡ each (λ v. code (getD s (roots + v) 0) v 0) count
+  pub filled : take count codes ≡ each (λ v. code (getD roots v 0) v 0) count
 
 -- ---- written as bytes
 
 abbrev pub byteOf : ℕ → ℕ
 byteOf x = x % 256
 
--- the root and the goal of a word that is found whole
-abbrev pub pairOfCode : List ℕ → ℕ → ℕ → List ℕ
-pairOfCode s goals c = byteOf (codeRoot c) ∷ byteOf (getD s (goals + codeVertex c) 0) ∷ []
+-- the root and the goal of a word that is found whole, from the states of the vertices of depth n
+abbrev pub pairOfCode : List ℕ → ℕ → List ℕ
+pairOfCode goals c = byteOf (codeRoot c) ∷ byteOf (getD goals (codeVertex c) 0) ∷ []
 
 abbrev pub labelOfCode : ℕ → List ℕ
 labelOfCode c = bytesOf (codeLabel c)
 
 -- the first count codes as a table file
-unfoldable pub fileOfCodes : List ℕ → ℕ → List ℕ → ℕ → List ℕ
+unfoldable pub fileOfCodes : List ℕ → List ℕ → List ℕ → ℕ → List ℕ
 fileOfCodes s goals codes count =
     byteOf (getD s 0 0) ∷ byteOf (getD s 1 0) ∷ byteOf (getD s 2 0) ∷ (bytesOf count
-    ++ (flatMap (pairOfCode s goals) (take count codes) ++ flatMap labelOfCode (take count codes)))
+    ++ (flatMap (pairOfCode goals) (take count codes) ++ flatMap labelOfCode (take count codes)))

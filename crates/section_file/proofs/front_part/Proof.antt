@@ -3,8 +3,8 @@ use mathlib.Core.Path.{_≡_, _∙_}
 use Prim.Native.Nat.{_≤_}
 use Rattle.trellis.specs.Bounds.{mostSymbols}
 use Rattle.trellis.specs.Layout.{nOf}
-use Rattle.section_file.specs.inner.View.{Counted}
-use Rattle.section_file.proofs.Steps.{n-few, counted, laid, part-sizes, part-counts, part-cut, part-states, part-steps, part-usable}
+use Rattle.section_file.specs.inner.View.{Laid}
+use Rattle.section_file.proofs.Steps.{n-few, laid, part-sizes, part-counts, part-cut, part-states, part-steps, part-usable}
 use borrow.Author.Needs.{needs}
 use Rattle.section_file.proofs.front_part.Statement.{statement}
 use Rattle.section_file.proofs.front_part.Tie as tie
@@ -16,11 +16,15 @@ n-is w = w .wide .ensures .0 ∙ w .before .number .ensures
 n-small : (w : tie.After-wide) → w .wide .result ≤ mostSymbols
 n-small w = let e = w .before .before in n-few _ (e .before .sizes-right .ensures) (e .if1 .left) (n-is w)
 
--- what the sizes and the counts say, once both are right
-counts : (e : tie.Else2) → Counted (e .before .before .before .before .before .before .before .args .l .now)
-counts e =
-    let e1 = e .before .before .before .before in
-    counted _ (e1 .before .sizes-right .ensures) (e1 .if1 .left) (e .before .counts-right .ensures) (e .if2 .left)
+-- what is known once the section is there whole
+known : (e : tie.Else3) → let v = e .before .before in
+    Laid (v .before .before .before .before .before .before .before .before .args .l .now) (v .view-of .result)
+known e =
+    let v = e .before .before in
+    let e2 = v .before in
+    let e1 = e2 .before .before .before .before in
+    laid _ (v .view-of .ensures) (e1 .before .sizes-right .ensures) (e1 .if1 .left) (e2 .before .counts-right .ensures) (e2 .if2 .left)
+    (e .if3 .left)
 
 sizes-right-requires : tie.Need-sizes-right-requires
 sizes-right-requires c κs = search needs
@@ -41,22 +45,19 @@ returns-2 : tie.Need-returns-2
 returns-2 c = part-counts _ (c .before .counts-right .ensures) (c .if2 .taken)
 
 view-of-requires : tie.Need-view-of-requires
-view-of-requires c κs = (counts c, n-is (c .before .before))
+view-of-requires c κs = let w = c .before .before in (n-is w, n-small w)
 
 returns-3 : tie.Need-returns-3
 returns-3 c = part-cut _ (c .before .before .view-of .ensures) (c .if3 .taken)
 
 states-right-requires : tie.Need-states-right-requires
-states-right-requires c κs = let v = c .before .before in laid _ (v .view-of .ensures) (counts (v .before)) (c .if3 .left)
+states-right-requires c κs = known c
 
 returns-4 : tie.Need-returns-4
 returns-4 c = part-states _ (c .before .states-right .ensures) (c .if4 .taken)
 
 steps-right-requires : tie.Need-steps-right-requires
-steps-right-requires c κs =
-    let e3 = c .before .before in
-    let v = e3 .before .before in
-    laid _ (v .view-of .ensures) (counts (v .before)) (e3 .if3 .left)
+steps-right-requires c κs = known (c .before .before)
 
 returns-5 : tie.Need-returns-5
 returns-5 c =

@@ -24,7 +24,3 @@ heldEdge e = record { from = e .from; symbol = e .symbol; to = e .to }
 
 abbrev pub meantEdge : Edge → own.Edge
 meantEdge e = own.edge (e .from) (e .symbol) (e .to)
-
--- edge k of those whose pairs begin at one place and whose symbols begin at another
-abbrev pub edgeAt : List ℕ → ℕ → ℕ → ℕ → own.Edge
-edgeAt l pairs symbols k = own.edge (getD l (pairs + 2 * k) 0) (getD l (symbols + k) 0) (getD l (pairs + 1 + 2 * k) 0)

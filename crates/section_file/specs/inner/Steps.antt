@@ -43,6 +43,7 @@ apart one symbol other j k = not (eqb (one j) (one k) && (eqb (symbol j) (symbol
 unfoldable pub noTwins : (ℕ → ℕ) → (ℕ → ℕ) → (ℕ → ℕ) → ℕ → Bool
 noTwins one symbol other count = all (λ k. all (λ j. apart one symbol other j k) k) count
 
+-- the same of edges, at their ends
 abbrev pub noTwinsOf : (ℕ → Edge) → ℕ → Bool
 noTwinsOf e count = noTwins (λ k. e k .from) (λ k. e k .symbol) (λ k. e k .to) count
 

@@ -29,15 +29,12 @@ pub record Seen (l : List ℕ) (at : View) : Type 0 where
   pub sound : Sound l
   pub is : at ≡ viewOf l
 
--- q, n and the counts are in bounds, so that the places are small enough for sums of them
-pub record Counted (l : List ℕ) : Type 0 where
+-- q, n and the counts are in bounds and the section is there whole, so that its places are small enough for sums of them; and this is its
+-- view
+pub record Laid (l : List ℕ) (at : View) : Type 0 where
   pub nTo : nOf l ≤ mostSymbols
   pub qTo : qOf l ≤ mostQ
   pub verticesTo : (t : ℕ) → t ≤ nOf l → vertexCountOf l t ≤ mostWords
   pub edgesTo : (t : ℕ) → t < nOf l → edgeCountOf l t ≤ mostWords
-
--- the section is there whole by counts in bounds, and this is its view
-pub record Laid (l : List ℕ) (at : View) : Type 0 where
-  pub counted : Counted l
   pub whole : sectionLength l ≤ length l
   pub is : at ≡ viewOf l
