@@ -58,7 +58,7 @@ extern "C" {
 #define LINK_MERGE_STACK 35840u
 #define LINK_READ_BACK_STACK 19456u
 #define LINK_DECODE_STACK 149504u
-#define LINK_LISTING_STACK 105472u
+#define LINK_LISTING_STACK 55296u
 
 /* Merges a table file. Success returns the section's length; the map's place t W + i is then the vertex of word i at depth t.
  * Outcomes 0 to 7, checked in the order 1, 2, 3, 4, 5, 6, 7. */

@@ -1,14 +1,15 @@
--- What put_numbers keeps: the numbers that are written so far.
+-- What put_numbers keeps: the numbers that are written so far. And what stands in front of a buffer can be read off it again.
 use mathlib.Core.Path.{_≡_, refl, sym, ap, subst, _∙_}
 use mathlib.Core.List.{List, [], _∷_, _++_}
 use Prim.Native.Nat.{ℕ, _+_, _<_, _≤_}
 use native.Mathlib.Omega.{arith}
 use native.Mathlib.Numerals.{add-one}
-use lib.ListN.{length, getD, set, length-set}
+use lib.ListN.{length, getD, drop, set, length-set, List·getD-append}
+use lib.Seq.{ext-getD}
 use Rattle.trellis.specs.Lists.{run}
 use Rattle.trellis.specs.inner.Write.{Wrote}
-use Rattle.trellis.proofs.Lists.{run-snoc}
-use Rattle.trellis.proofs.Write.{wrote-one}
+use Rattle.trellis.proofs.Lists.{length-run, each-at, run-snoc}
+use Rattle.trellis.proofs.Write.{wrote-one, wrote-front}
 use Rattle.assemble.specs.inner.Numbers.{firstNumbers}
 
 pub record InNumbers (source : List ℕ) (count : ℕ) (old : List ℕ) (at : ℕ) (new : List ℕ) (i : ℕ) : Type 0 where
@@ -41,3 +42,16 @@ pub numbers-end : {source old new : List ℕ} {count at i : ℕ} → InNumbers s
 numbers-end {source} {old} {new} {count} {at} {i} c h =
     let e : i ≡ count = omega (arith, c .i-le) in
     subst (λ k. Wrote old at (firstNumbers source k) new (at + k)) e (c .wrote)
+
+-- numbers written from the front on are the first of the buffer
+pub wrote-first : {old new vs : List ℕ} {end : ℕ} → Wrote old 0 vs new end → length vs ≤ length old → firstNumbers new (length vs) ≡ vs
+wrote-first {old} {new} {vs} {end} W room =
+    ext-getD 0 (firstNumbers new (length vs)) vs (length-run (λ k. getD new k 0) 0 (length vs)) (λ k h. same k (omega (arith, long)))
+  where
+    long : length (firstNumbers new (length vs)) ≡ length vs
+    long = length-run (λ k. getD new k 0) 0 (length vs)
+
+    same : (k : ℕ) → k < length vs → getD (firstNumbers new (length vs)) k 0 ≡ getD vs k 0
+    same k h =
+        each-at (λ k. getD new k 0) (length vs) k 0 h ∙ ap (λ l. getD l k 0) (wrote-front W room)
+        ∙ List·getD-append vs (drop (length vs) old) 0 k h

@@ -19,10 +19,10 @@ use Rattle.trellis.proofs.Write.{wrote-then, wrote-length}
 use Rattle.layout.specs.inner.States.{marksBelow, markedBelow, Bits}
 use Rattle.layout.specs.inner.Pieces.{stepTakers, stepPairs, stepSymbols}
 use Rattle.layout.proofs.AllPieces.{pairs-size}
-use Rattle.assemble.specs.inner.Numbers.{firstNumbers, numbersOf, Parts}
+use Rattle.assemble.specs.inner.Numbers.{firstNumbers, sizeNumbers, SizesAsked, numbersOf, Parts}
 
-regroup : (h a b c d e f : List ℕ) → (((((h ++ a) ++ b) ++ c) ++ d) ++ e) ++ f ≡ h ++ (a ++ (b ++ (c ++ (d ++ (e ++ f)))))
-regroup h a b c d e f = simp append-assoc
+regroup : (a b c d e : List ℕ) → (((a ++ b) ++ c) ++ d) ++ e ≡ a ++ (b ++ (c ++ (d ++ e)))
+regroup a b c d e = simp append-assoc
 
 -- ---- lengths of the parts
 
@@ -49,8 +49,31 @@ joined-size f g size (suc t) h =
     ∙ sym (mul-add size (length (joinedUp g t)) (length (g t)))
     ∙ ap (λ k. size * k) (sym (length-append (joinedUp g t) (g t)))
 
-module _ {n : ℕ} {counts edgeCounts rootMarks goalMarks m labels words b0 : List ℕ}
-    (P : Parts n counts edgeCounts rootMarks goalMarks m labels words b0) where
+-- ---- the sizes
+
+module _ {n : ℕ} {counts edgeCounts b0 : List ℕ} (S : SizesAsked n counts edgeCounts b0) {q states : ℕ} {b1 : List ℕ} {a1 : ℕ}
+    (H : Wrote b0 0 (q ∷ n ∷ states ∷ []) b1 a1) where
+  module _ {b2 : List ℕ} {a2 : ℕ} (A : Wrote b1 a1 (firstNumbers counts (n + 1)) b2 a2) where
+    at2 : a2 ≡ 4 + n
+    at2 = omega (arith, H .end-is, A .end-is, length-run (λ k. getD counts k 0) 0 (n + 1))
+
+    pub room-edges : a2 + n ≤ length b2
+    room-edges = omega (arith, at2, wrote-length A, wrote-length H, S .room)
+
+    module _ {b3 : List ℕ} {a3 : ℕ} (B : Wrote b2 a2 (firstNumbers edgeCounts n) b3 a3) where
+      at3 : a3 ≡ 4 + 2 * n
+      at3 = omega (arith, at2, B .end-is, length-run (λ k. getD edgeCounts k 0) 0 n)
+
+      pub all-sizes : Wrote b0 0 (sizeNumbers q n states counts edgeCounts) b3 (4 + 2 * n)
+      unfolding sizeNumbers
+      all-sizes = subst (λ e. Wrote b0 0 (q ∷ n ∷ states ∷ (firstNumbers counts (suc n) ++ firstNumbers edgeCounts n)) b3 e) at3
+          (subst (λ k. Wrote b0 0 (q ∷ n ∷ states ∷ (firstNumbers counts k ++ firstNumbers edgeCounts n)) b3 a3) (add-one n)
+          (wrote-then (wrote-then H A) B))
+
+-- ---- the parts behind them
+
+module _ {n : ℕ} {sizes edgeCounts rootMarks goalMarks m labels words b0 : List ℕ}
+    (P : Parts n sizes edgeCounts rootMarks goalMarks m labels words b0) where
   abbrev total : ℕ
   total = length (joinedUp (stepTakers m labels n) n)
 
@@ -63,71 +86,44 @@ module _ {n : ℕ} {counts edgeCounts rootMarks goalMarks m labels words b0 : Li
   goals-long : length (markedBelow goalMarks mostStates) ≡ marksBelow goalMarks mostStates
   goals-long = marked-length goalMarks (P .goalBits) mostStates (omega arith)
 
-  module _ {q states : ℕ} {b1 : List ℕ} {a1 : ℕ} (H : Wrote b0 0 (q ∷ n ∷ states ∷ []) b1 a1) where
-    pub room-vertices : a1 + (n + 1) ≤ length b1
-    room-vertices = omega (arith, H .end-is, wrote-length H, P .room)
+  module _ {b1 : List ℕ} {a1 : ℕ} (A : Wrote b0 0 (firstNumbers sizes (4 + 2 * n)) b1 a1) where
+    at1 : a1 ≡ 4 + 2 * n
+    at1 = omega (arith, A .end-is, length-run (λ k. getD sizes k 0) 0 (4 + 2 * n))
 
-    module _ {b2 : List ℕ} {a2 : ℕ} (A : Wrote b1 a1 (firstNumbers counts (n + 1)) b2 a2) where
-      at2 : a2 ≡ 4 + n
-      at2 = omega (arith, H .end-is, A .end-is, length-run (λ k. getD counts k 0) 0 (n + 1))
+    len1 : length b1 ≡ length b0
+    len1 = wrote-length A
+
+    pub room-roots : a1 + marksBelow rootMarks mostStates < length b1
+    room-roots = omega (arith, at1, len1, P .room, P .some)
+
+    module _ {b2 : List ℕ} {a2 : ℕ} (B : Wrote b1 a1 (markedBelow rootMarks mostStates) b2 a2) where
+      at-goals : a2 ≡ 4 + 2 * n + marksBelow rootMarks mostStates
+      at-goals = omega (arith, at1, B .end-is, roots-long)
 
       len2 : length b2 ≡ length b0
-      len2 = wrote-length A ∙ wrote-length H
+      len2 = wrote-length B ∙ len1
 
-      pub room-edges : a2 + n ≤ length b2
-      room-edges = omega (arith, at2, len2, P .room)
+      pub room-goals : a2 + marksBelow goalMarks mostStates < length b2
+      room-goals = omega (arith, at-goals, len2, P .room, P .some)
 
-      module _ {b3 : List ℕ} {a3 : ℕ} (B : Wrote b2 a2 (firstNumbers edgeCounts n) b3 a3) where
-        at3 : a3 ≡ 4 + 2 * n
-        at3 = omega (arith, at2, B .end-is, length-run (λ k. getD edgeCounts k 0) 0 n)
+      module _ {b3 : List ℕ} {a3 : ℕ} (C : Wrote b2 a2 (markedBelow goalMarks mostStates) b3 a3) where
+        at-pairs : a3 ≡ 4 + 2 * n + (marksBelow rootMarks mostStates + marksBelow goalMarks mostStates)
+        at-pairs = omega (arith, at-goals, C .end-is, goals-long)
 
         len3 : length b3 ≡ length b0
-        len3 = wrote-length B ∙ len2
+        len3 = wrote-length C ∙ len2
 
-        pub room-roots : a3 + marksBelow rootMarks mostStates < length b3
-        room-roots = omega (arith, at3, len3, P .room, P .some)
+        pub room-pairs : a3 + 2 * length (joinedUp (stepTakers m labels n) n) ≤ length b3
+        room-pairs = omega (arith, at-pairs, len3, P .room)
 
-        module _ {b4 : List ℕ} {a4 : ℕ} (C : Wrote b3 a3 (markedBelow rootMarks mostStates) b4 a4) where
-          at4 : a4 ≡ 4 + 2 * n + marksBelow rootMarks mostStates
-          at4 = omega (arith, at3, C .end-is, roots-long)
+        module _ {b4 : List ℕ} {a4 : ℕ} (D : Wrote b3 a3 (joinedUp (stepPairs m labels n) n) b4 a4) where
+          pub room-symbols : a4 + 1 * length (joinedUp (stepTakers m labels n) n) ≤ length b4
+          room-symbols = omega (arith, at-pairs, D .end-is, pairs-long, wrote-length D, len3, P .room)
 
-          len4 : length b4 ≡ length b0
-          len4 = wrote-length C ∙ len3
-
-          pub room-goals : a4 + marksBelow goalMarks mostStates < length b4
-          room-goals = omega (arith, at4, len4, P .room, P .some)
-
-          module _ {b5 : List ℕ} {a5 : ℕ} (D : Wrote b4 a4 (markedBelow goalMarks mostStates) b5 a5) where
-            at5 : a5 ≡ 4 + 2 * n + (marksBelow rootMarks mostStates + marksBelow goalMarks mostStates)
-            at5 = omega (arith, at4, D .end-is, goals-long)
-
-            len5 : length b5 ≡ length b0
-            len5 = wrote-length D ∙ len4
-
-            pub room-pairs : a5 + 2 * length (joinedUp (stepTakers m labels n) n) ≤ length b5
-            room-pairs = omega (arith, at5, len5, P .room)
-
-            module _ {b6 : List ℕ} {a6 : ℕ} (E : Wrote b5 a5 (joinedUp (stepPairs m labels n) n) b6 a6) where
-              pub room-symbols : a6 + 1 * length (joinedUp (stepTakers m labels n) n) ≤ length b6
-              room-symbols = omega (arith, at5, E .end-is, pairs-long, wrote-length E, len5, P .room)
-
-              module _ {b7 : List ℕ} {a7 : ℕ} (F : Wrote b6 a6 (joinedUp (stepSymbols m labels n) n) b7 a7) where
-                pub all-long : length b7 ≡ length b0
-                all-long = wrote-length F ∙ wrote-length E ∙ len5
-
-                pub all-parts : Wrote b0 0 (numbersOf q n states counts edgeCounts rootMarks goalMarks m labels) b7 a7
-                unfolding numbersOf
-                all-parts = subst (λ vs. Wrote b0 0 vs b7 a7) together
-                    (wrote-then (wrote-then (wrote-then (wrote-then (wrote-then (wrote-then H A) B) C) D) E) F)
-                  where
-                    together : ((((((q ∷ n ∷ states ∷ []) ++ firstNumbers counts (n + 1)) ++ firstNumbers edgeCounts n)
-                        ++ markedBelow rootMarks mostStates) ++ markedBelow goalMarks mostStates)
-                        ++ joinedUp (stepPairs m labels n) n) ++ joinedUp (stepSymbols m labels n) n
-                        ≡ q ∷ n ∷ states ∷
-                        (firstNumbers counts (suc n)
-                        ++ (firstNumbers edgeCounts n ++ (markedBelow rootMarks mostStates ++ (markedBelow goalMarks mostStates
-                        ++ (joinedUp (stepPairs m labels n) n ++ joinedUp (stepSymbols m labels n) n)))))
-                    together = rw (add-one n)
-                        (regroup (q ∷ n ∷ states ∷ []) (firstNumbers counts (suc n)) (firstNumbers edgeCounts n)
-                        (markedBelow rootMarks mostStates) (markedBelow goalMarks mostStates) (joinedUp (stepPairs m labels n) n)
-                        (joinedUp (stepSymbols m labels n) n))
+          module _ {b5 : List ℕ} {a5 : ℕ} (E : Wrote b4 a4 (joinedUp (stepSymbols m labels n) n) b5 a5) where
+            pub all-parts : Wrote b0 0 (numbersOf n sizes rootMarks goalMarks m labels) b5 a5
+            unfolding numbersOf
+            all-parts = subst (λ vs. Wrote b0 0 vs b5 a5)
+                (regroup (firstNumbers sizes (4 + 2 * n)) (markedBelow rootMarks mostStates) (markedBelow goalMarks mostStates)
+                (joinedUp (stepPairs m labels n) n) (joinedUp (stepSymbols m labels n) n))
+                (wrote-then (wrote-then (wrote-then (wrote-then A B) C) D) E)

@@ -2,12 +2,13 @@
 -- are the vertices; with the inner rows the map has the vertex of every word at every depth, and then the first words on edges give the
 -- edges in order.
 use mathlib.Core.Path.{_≡_, refl, sym, ap, ap₂, _∙_}
-use mathlib.Core.List.{List, _∷_, _++_, map, flatMap, map-append}
+use mathlib.Core.List.{List, _∷_, _++_, map, flatMap, map-append, append-assoc}
 use Prim.Native.Nat.{ℕ, zero, suc, _+_, _*_, _/_, _%_, _<_, _≤_}
 use native.Mathlib.Omega.{arith}
 use native.Mathlib.Nat.{suc-mul, zero-mul, mul-zero, one-mul, zero-add, le-refl, mul-le-mul-right, div-add-mod', div-lt-iff-lt-mul, mod-lt}
 use native.Mathlib.Decide.{ℕ-discrete}
-use lib.ListN.{length, getD, length-append, length-map}
+use lib.ListN.{length, getD, take, length-append, length-map}
+use lib.Seq.{take-at}
 use lib.Dec.{ltb}
 use Rattle.trellis.specs.Bounds.{mostWords}
 use Rattle.trellis.specs.Lists.{each, rank, ascending}
@@ -15,10 +16,12 @@ use Rattle.trellis.specs.Label.{symbol}
 use Rattle.trellis.specs.Word.{Word, Rectangular}
 use Rattle.trellis.specs.Own.{key, keys, vertexOf, vertexCount, edgeOf, edgesAt, edgeCount}
 use Rattle.trellis.specs.Layout.{joinedUp, pairOf, symbolOf, sectionOf}
+use Rattle.trellis.specs.inner.Write.{Wrote}
 use Rattle.trellis.proofs.Lists.{length-run, flatMap-append, each-same, length-two}
 use Rattle.trellis.proofs.Ascending.{numbers, ascending-length}
 use Rattle.trellis.proofs.Paths.{edge-eq}
 use Rattle.trellis.proofs.Vertices.{key-root, key-goal, vertex-below}
+use Rattle.assemble.proofs.Numbers.{wrote-first}
 use Rattle.depths.specs.inner.Words.{words, Held}
 use Rattle.depths.specs.inner.Merge.{InnerMerged}
 use Rattle.depths.proofs.Words.{held-length, word-root, word-label, word-goal}
@@ -28,7 +31,7 @@ use Rattle.layout.specs.inner.Pieces.{SmallMap, mapEdge, stepTakers, stepList, 
 use Rattle.layout.proofs.FirstWords.{takers-edges}
 use Rattle.layout.proofs.Marks.{marked-are}
 use Rattle.assemble.specs.inner.Outer.{OuterPut}
-use Rattle.assemble.specs.inner.Numbers.{numbersOf}
+use Rattle.assemble.specs.inner.Numbers.{firstNumbers, sizeNumbers, numbersOf}
 
 six-long : (a b c d e f : List ℕ)
     → length (a ++ (b ++ (c ++ (d ++ (e ++ f))))) ≡ length a + (length b + (length c + (length d + (length e + length f))))
@@ -188,17 +191,32 @@ module _ {n : ℕ} {roots labels goals old new inner rootMarks goalMarks counts 
         ∙ ap₂ (λ x y. x + y) (all-takers t (omega arith)) (takers-long t h)
         ∙ sym (length-append (joinedUp (edgesAt n table) t) (edgesAt n table t))
 
-    module _ (q states : ℕ) {firsts edgeCounts : List ℕ} (fewRoots : Few roots) (fewGoals : Few goals)
-        (K : Taken new labels n firsts edgeCounts) where
-      pub numbers-are : numbersOf q n states counts edgeCounts rootMarks goalMarks new labels ≡ sectionOf q n states table
-      unfolding numbersOf sectionOf
-      numbers-are = ap {B = List ℕ} (λ l. q ∷ n ∷ states ∷ l)
-          (ap₂ (λ x y. x ++ y)
+    module _ (q states : ℕ) {firsts edgeCounts : List ℕ} (K : Taken new labels n firsts edgeCounts) where
+      own-sizes : sizeNumbers q n states counts edgeCounts
+          ≡ q ∷ n ∷ states ∷ (each (vertexCount n table) (suc n) ++ each (edgeCount n table) n)
+      unfolding sizeNumbers
+      own-sizes = ap₂ {C = List ℕ} (λ x y. q ∷ n ∷ states ∷ (x ++ y))
           (each-same (λ k. getD counts k 0) (vertexCount n table) (suc n) (suc n) refl (λ t h. counted t (omega arith)))
-          (ap₂ (λ x y. x ++ y) (each-same (λ k. getD edgeCounts k 0) (edgeCount n table) n n refl (λ t h. K .counted t h ∙ takers-long t h))
-          (ap₂ (λ x y. x ++ y) (marked-are fewRoots (P .rootsMarked) ∙ root-states)
-          (ap₂ (λ x y. x ++ y) (marked-are fewGoals (P .goalsMarked) ∙ goal-states)
-          (ap₂ (λ x y. x ++ y) (all-pairs n (le-refl _)) (all-symbols n (le-refl _)))))))
+          (each-same (λ k. getD edgeCounts k 0) (edgeCount n table) n n refl (λ t h. K .counted t h ∙ takers-long t h))
+
+      module _ {sizes0 sizes : List ℕ} (W : Wrote sizes0 0 (sizeNumbers q n states counts edgeCounts) sizes (4 + 2 * n)) where
+        -- the sizes are the section's first numbers
+        pub sizes-are : sizeNumbers q n states counts edgeCounts ≡ take (4 + 2 * n) (sectionOf q n states table)
+        unfolding sectionOf
+        sizes-are =
+            own-sizes ∙ sym (rw (← append-assoc (each (vertexCount n table) (suc n)) (each (edgeCount n table) n))
+            (take-at (q ∷ n ∷ states ∷ (each (vertexCount n table) (suc n) ++ each (edgeCount n table) n)) _ (4 + 2 * n)
+            (ap length (sym own-sizes) ∙ omega (arith, W .end-is))))
+
+        pub numbers-are : 4 + 2 * n ≤ length sizes0 → Few roots → Few goals
+            → numbersOf n sizes rootMarks goalMarks new labels ≡ sectionOf q n states table
+        unfolding numbersOf sectionOf
+        numbers-are room fewRoots fewGoals =
+            ap₂ (λ x y. x ++ y) (ap (firstNumbers sizes) (omega (arith, W .end-is)) ∙ wrote-first W (omega (arith, W .end-is)) ∙ own-sizes)
+            (ap₂ (λ x y. x ++ y) (marked-are fewRoots (P .rootsMarked) ∙ root-states)
+            (ap₂ (λ x y. x ++ y) (marked-are fewGoals (P .goalsMarked) ∙ goal-states)
+            (ap₂ (λ x y. x ++ y) (all-pairs n (le-refl _)) (all-symbols n (le-refl _)))))
+            ∙ ap {B = List ℕ} (λ l. q ∷ n ∷ states ∷ l) (append-assoc (each (vertexCount n table) (suc n)) (each (edgeCount n table) n) _)
 
     -- the section's length, from the counts
     pub section-length : (q states total : ℕ) → total ≡ length (joinedUp (stepTakers new labels n) n)

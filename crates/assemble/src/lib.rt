@@ -6,7 +6,7 @@ ghost use lib.ListN.{length};
 ghost use Rattle.trellis.specs.inner.Write.{Wrote};
 ghost use Rattle.layout.specs.inner.States.{Few};
 ghost use Rattle.assemble.specs.inner.Outer.{OuterAsked, RowPut, OuterPut};
-ghost use Rattle.assemble.specs.inner.Numbers.{firstNumbers, numbersOf, Parts};
+ghost use Rattle.assemble.specs.inner.Numbers.{firstNumbers, sizeNumbers, SizesAsked, numbersOf, Parts};
 use layout::states;
 use trellis::MOST_STATES;
 use trellis::MOST_SYMBOLS;
@@ -77,43 +77,49 @@ fn put_numbers(source: &[u16], count: usize, section: &mut [u16], at: usize) -> 
 }
 
 // q, n and S.
-fn put_header(q: u16, n: u16, states: u16, section: &mut [u16]) -> usize
-    requires { ⌜ 3 ≤ length (now section) ⌝ }
-    ensures { λ r. ⌜ Wrote (now (section .entry)) 0 (q ∷ n ∷ states ∷ []) (now (section .exit)) r ⌝ }
+fn put_header(q: u16, n: u16, states: u16, sizes: &mut [u16]) -> usize
+    requires { ⌜ 3 ≤ length (now sizes) ⌝ }
+    ensures { λ r. ⌜ Wrote (now (sizes .entry)) 0 (q ∷ n ∷ states ∷ []) (now (sizes .exit)) r ⌝ }
 {
-    section[0] = q;
-    section[1] = n;
-    section[2] = states;
+    sizes[0] = q;
+    sizes[1] = n;
+    sizes[2] = states;
     3
 }
 
-// The section's numbers in document 01's layout, from the front of the buffer on; gives the section's length. `words` and `edges` are what
-// layout::take_edges left for the finished map.
+// The sizes that a section begins with: q, n and S, how many vertices each depth has, and how many edges each step.
+pub fn put_sizes(q: u16, n: usize, states: u16, vertices: &[u16], edges: &[u16], sizes: &mut [u16])
+    requires { ⌜ SizesAsked n (now vertices) (now edges) (now sizes) ⌝ }
+    ensures { λ _. ⌜ Wrote (now (sizes .entry)) 0 (sizeNumbers q n states (now (vertices .entry)) (now (edges .entry))) (now (sizes .exit))
+        (4 + 2 * n) ⌝ }
+{
+    let mut at = put_header(q, n as u16, states, sizes);
+    at = put_numbers(vertices, n + 1, sizes, at);
+    put_numbers(edges, n, sizes, at);
+}
+
+// The section's numbers in document 01's layout, from the front of the buffer on; gives the section's length. `sizes` is what put_sizes
+// left, `words` what layout::take_edges left for the finished map, and `edges` how many it counted at each step.
 pub fn put_section(
-    q: u16,
+    sizes: &[u16],
     n: usize,
-    states: u16,
     outer: Outer,
-    edges: layout::Edges,
+    edges: &[u16; MOST_SYMBOLS],
     words: &[u16],
     labels: &[u16],
     map: &[u16],
     section: &mut [u16],
 ) -> usize
-    requires { ⌜ Parts n (outer .counts) (edges .counts) (outer .roots) (outer .goals) (now map) (now labels) (now words) (now section) ⌝ }
+    requires { ⌜ Parts n (now sizes) (now edges) (outer .roots) (outer .goals) (now map) (now labels) (now words) (now section) ⌝ }
     ensures { λ r. ⌜ Wrote (now (section .entry)) 0
-        (numbersOf q n states (outer .counts) (edges .counts) (outer .roots) (outer .goals) (now (map .entry))
-        (now (labels .entry))) (now (section .exit)) r ⌝ }
+        (numbersOf n (now (sizes .entry)) (outer .roots) (outer .goals) (now (map .entry)) (now (labels .entry)))
+        (now (section .exit)) r ⌝ }
 {
-    let vertices = outer.counts;
-    let counts = edges.counts;
     let roots = outer.roots;
     let goals = outer.goals;
-    let mut at = put_header(q, n as u16, states, section);
-    at = put_numbers(&vertices, n + 1, section, at);
-    at = put_numbers(&counts, n, section, at);
+    let mut at = put_numbers(sizes, 4 + 2 * n, section, 0);
     at = states::put_states(&roots, section, at);
     at = states::put_states(&goals, section, at);
-    at = layout::put_all_pairs(words, &counts, n, labels, map, section, at);
-    layout::put_all_symbols(words, &counts, n, labels, map, section, at)
+    at = layout::put_all_pairs(words, edges, n, labels, map, section, at);
+    layout::put_all_symbols(words, edges, n, labels, map, section, at)
 }

@@ -23,11 +23,11 @@ module _ {o : Outcome} {number count : ℕ} {values : List ℕ} (H : Holds o num
       = ap (λ k. take k (number ∷ padded values)) one ∙ ap₂ (λ k vs. k ∷ vs) (H .numberIs) (values-read H) in
       subst (λ vs. Put old 0 (line refusedWord vs) new end) shown p
 
-  module _ (words : ℕ) (section : List ℕ) where
-    pub sizes-answered : number ≡ 0 → Put old 0 (sizesOf words section) new end → Put old 0 (textFrom words o section) new end
+  module _ (words : ℕ) (sizes : List ℕ) where
+    pub sizes-answered : number ≡ 7 → Put old 0 (sizesOf words sizes) new end → Put old 0 (textFrom words o sizes) new end
     unfolding textFrom
-    sizes-answered e p = simp (eq-eqb (o .number) 0 (sym (H .numberIs) ∙ e)) p
+    sizes-answered e p = simp (eq-eqb (o .number) 7 (sym (H .numberIs) ∙ e)) p
 
-    pub refusal-answered : (number ≡ 0 → ⊥) → Put old 0 (refusalLine o) new end → Put old 0 (textFrom words o section) new end
+    pub refusal-answered : (number ≡ 7 → ⊥) → Put old 0 (refusalLine o) new end → Put old 0 (textFrom words o sizes) new end
     unfolding textFrom
-    refusal-answered h p = simp (ne-eqb (o .number) 0 (λ e. h (H .numberIs ∙ e))) p
+    refusal-answered h p = simp (ne-eqb (o .number) 7 (λ e. h (H .numberIs ∙ e))) p

@@ -1,33 +1,37 @@
--- Merging a file into buffers as long as the code's two answers what `textOf` says without them: they are long enough, so that refusals 5
--- and 7 never come; and what is printed of a section is read off its front, whatever stands behind it in the buffer.
+-- Measuring a file with a map as long as the code's answers what `textOf` says without it: the map is long enough, so that refusal 5 never
+-- comes; refusal 7 comes for every table that has a section, since there is no room for one; and what is printed of a section is read off
+-- its sizes, the numbers that it begins with.
 use mathlib.Core.Path.{_≡_, refl, sym, ap, ap₂, _∙_}
 use mathlib.Core.Bool.{cond}
 use mathlib.Core.List.{List, [], _∷_, _++_}
 use Prim.Native.Nat.{ℕ, zero, suc, _+_, _-_, _*_, _≤_, _<_}
 use native.Mathlib.Omega.{arith}
-use lib.ListN.{length, getD, drop, List·getD-append}
-use borrow.Author.Tests.{le-ltb, ne-eqb}
+use lib.ListN.{length, getD, take}
+use lib.Seq.{length-take-le, getD-take}
+use borrow.Author.Tests.{lt-ltb, le-ltb, ne-eqb}
 use Rattle.trellis.specs.Bounds.{mostBytes}
 use Rattle.trellis.specs.Lists.{over}
 use Rattle.trellis.specs.Word.{Word}
 use Rattle.trellis.specs.Witness.{Witness, found, nothing, witness}
-use Rattle.trellis.specs.Outcome.{Outcome, shortMap}
+use Rattle.trellis.specs.Outcome.{Outcome}
 use Rattle.trellis.specs.Selections.{allVertices, additions, selections}
 use Rattle.trellis.specs.Layout.{nOf, vertexCountOf, edgeCountOf, joinedUp}
 use Rattle.trellis.specs.Layout.{rootsPlace, goalsPlace, pairsPlace, symbolsPlace, sectionLength, sectionOf}
 use Rattle.trellis.proofs.Lists.{sum-eq}
-use Rattle.trellis.proofs.OwnLaid.{own-length}
+use Rattle.trellis.proofs.Buffers.{over-front}
+use Rattle.trellis.proofs.OwnLaid.{own-n, own-length}
 use Rattle.table.specs.File.{TableFile, refused, accepted, tableFile, wordCount}
 use Rattle.table.proofs.Accepted.{accepted-good}
-use Rattle.merge.specs.Merging.{Merging, left, mapLength, written, merged, mergedTable, mergedFile, merging}
+use Rattle.merge.specs.Merging.{mapLength, written, merged, mergedTable, mergedFile, merging}
+use Rattle.merge.specs.inner.Sizes.{sectionSizes, sizedBy, sizedTable, sizedFile, sizing}
 use Rattle.text.specs.Line.{line}
 use Rattle.listing.specs.Text.{sectionWord, depthWord, additionsWord, selectionsWord}
 use Rattle.listing.specs.Text.{entering, depthLine, sums, sizesOf, refusalLine, tableText, fileText}
 use Rattle.listing.specs.inner.Made.{textFrom}
-use Rattle.listing.proofs.Room.{anyMap, anySection, long-enough}
+use Rattle.listing.proofs.Room.{anyMap, long-enough}
 use Rattle.listing.proofs.Refusals.{Refusal, file-refusal}
 
--- ---- what is printed of a section is read off its front
+-- ---- what is printed of a section is read off its sizes
 
 joined-same : (f g : ℕ → List ℕ) (count : ℕ) → ((t : ℕ) → t < count → f t ≡ g t) → joinedUp f count ≡ joinedUp g count
 unfolding joinedUp
@@ -87,55 +91,51 @@ unfolding sectionLength symbolsPlace pairsPlace goalsPlace rootsPlace
 counts-inside q n states table = omega (arith, own-length q n states table)
 
 sizes-over : (words q n states : ℕ) (table : List Word) (buffer : List ℕ)
-    → sizesOf words (over (sectionOf q n states table) buffer) ≡ sizesOf words (sectionOf q n states table)
+    → sizesOf words (over (sectionSizes q n states table) buffer) ≡ sizesOf words (sectionOf q n states table)
+unfolding sectionSizes
 sizes-over words q n states table buffer =
     let l = sectionOf q n states table in
-    let inside = counts-inside q n states table in
-    same-sizes l (over l buffer) (λ i h. List·getD-append l (drop (length l) buffer) 0 i (omega (arith, inside))) words
+    let e = own-n q n states table in
+    let long = length-take-le (4 + 2 * n) l (omega (arith, e, counts-inside q n states table)) in
+    same-sizes l (over (take (4 + 2 * n) l) buffer)
+    (λ i h. over-front (take (4 + 2 * n) l) buffer i (omega (arith, e, long)) ∙ getD-take (4 + 2 * n) l i 0 (omega (arith, e))) words
 
 -- ---- case by case of the file
 
-abbrev pub printed : ℕ → Merging → List ℕ
-printed words m = textFrom words (m .answer) (m .section)
-
-from-refusal : (words : ℕ) {o : Outcome} (section : List ℕ) → Refusal o → textFrom words o section ≡ refusalLine o
+from-refusal : (words : ℕ) {o : Outcome} (sizes : List ℕ) → Refusal o → textFrom words o sizes ≡ refusalLine o
 unfolding textFrom
-from-refusal words {o} section R =
-    ap (λ b. cond b (sizesOf words section) (refusalLine o)) (ne-eqb (o .number) 0 (λ e. omega (arith, R .some)))
+from-refusal words {o} sizes R =
+    ap (λ b. cond b (sizesOf words sizes) (refusalLine o)) (ne-eqb (o .number) 7 (λ e. omega (arith, R .low)))
 
-module _ (map section : List ℕ) where
+module _ (map sizes : List ℕ) where
   module _ (q n states : ℕ) (table : List Word) where
-    abbrev l : List ℕ
-    l = sectionOf q n states table
-
-    by-witness : length l ≤ length section → (w : Witness)
-        → printed (length table) (merged q n states table map section w) ≡ tableText q n states table w
-    unfolding merged written textFrom tableText
-    by-witness room (found t i j k) = refl
-    by-witness room nothing = success-printed ∙ sizes-over (length table) q n states table section
+    by-witness : (w : Witness)
+        → textFrom (length table) (merged q n states table map [] w .answer) (sizedBy q n states table sizes w)
+        ≡ tableText q n states table w
+    unfolding merged written textFrom tableText sizedBy
+    by-witness (found t i j k) = refl
+    by-witness nothing = short-printed ∙ sizes-over (length table) q n states table sizes
       where
-        success-printed : printed (length table) (written q n states table map section) ≡ sizesOf (length table) (over l section)
-        success-printed = simp (le-ltb (length section) (length l) room)
+        short-printed : textFrom (length table) (written q n states table map [] .answer) (over (sectionSizes q n states table) sizes)
+            ≡ sizesOf (length table) (over (sectionSizes q n states table) sizes)
+        short-printed = simp (lt-ltb 0 (length (sectionOf q n states table)) (omega (arith, counts-inside q n states table)))
 
-    by-table : mapLength n table ≤ length map → length l ≤ length section
-        → printed (length table) (mergedTable q n states table map section) ≡ tableText q n states table (witness n table)
-    unfolding mergedTable
-    by-table map-room room =
-        let short = left (shortMap (mapLength n table)) map section in
-        ap (λ b. printed (length table) (cond b short (merged q n states table map section (witness n table))))
-        (le-ltb (length map) (mapLength n table) map-room)
-        ∙ by-witness room (witness n table)
+    by-table : mapLength n table ≤ length map
+        → textFrom (length table) (mergedTable q n states table map [] .answer) (sizedTable q n states table map sizes)
+        ≡ tableText q n states table (witness n table)
+    unfolding mergedTable sizedTable
+    by-table room = simp (le-ltb (length map) (mapLength n table) room) (by-witness (witness n table))
 
-  module _ (map-long : anyMap ≤ length map) (section-long : anySection ≤ length section) (file : List ℕ)
-      (short : length file ≤ mostBytes) where
-    by-file : (f : TableFile) → tableFile file ≡ f → printed (wordCount file) (mergedFile map section f) ≡ fileText f
-    unfolding mergedFile fileText
-    by-file (refused o) e = from-refusal (wordCount file) section (file-refusal file short e)
+  module _ (map-long : anyMap ≤ length map) (file : List ℕ) (short : length file ≤ mostBytes) where
+    by-file : (f : TableFile) → tableFile file ≡ f
+        → textFrom (wordCount file) (mergedFile map [] f .answer) (sizedFile map sizes f) ≡ fileText f
+    unfolding mergedFile sizedFile fileText
+    by-file (refused o) e = from-refusal (wordCount file) sizes (file-refusal file short e)
     by-file (accepted q n states table) e =
-        let room = long-enough file e in
-        ap (λ k. printed k (mergedTable q n states table map section)) (sym (accepted-good file e .countIs))
-        ∙ by-table q n states table (omega (arith, room .0)) (omega (arith, room .1))
+        ap (λ k. textFrom k (mergedTable q n states table map [] .answer) (sizedTable q n states table map sizes))
+        (sym (accepted-good file e .countIs))
+        ∙ by-table q n states table (omega (arith, long-enough file e .0))
 
-    pub merged-text : printed (wordCount file) (merging file map section) ≡ fileText (tableFile file)
-    unfolding merging
-    merged-text = by-file (tableFile file) refl
+    pub measured-text : textFrom (wordCount file) (merging file map [] .answer) (sizing file map sizes) ≡ fileText (tableFile file)
+    unfolding merging sizing
+    measured-text = by-file (tableFile file) refl

@@ -2,7 +2,7 @@
 -- known, and copied to the front of the lent buffer it is there.
 use mathlib.Core.Path.{_≡_, sym, ap, ap₂, subst, _∙_}
 use mathlib.Core.Bool.{Bool, true, false, cond}
-use mathlib.Core.List.{List}
+use mathlib.Core.List.{List, []}
 use Prim.Native.Nat.{ℕ, _+_, _<_, _≤_}
 use native.Mathlib.Omega.{arith}
 use native.Mathlib.Nat.{le-of-eq}
@@ -14,8 +14,9 @@ use Rattle.trellis.specs.Lists.{over}
 use Rattle.trellis.specs.Outcome.{badLength, success, shortBuffer}
 use Rattle.trellis.specs.Bounds.{mostBytes}
 use Rattle.table.specs.File.{wordCount, tableFile}
-use Rattle.merge.specs.Answer.{outcomeOf, Ends}
+use Rattle.merge.specs.Answer.{outcomeOf}
 use Rattle.merge.specs.Merging.{merging}
+use Rattle.merge.specs.inner.Sizes.{sizing, Measured}
 use Rattle.merge.specs.declared.Merged.{Merged}
 use Rattle.text.specs.inner.Put.{Put}
 use Rattle.text.proofs.Putting.{front-holds, front-end, front-put}
@@ -24,9 +25,9 @@ use Rattle.listing.specs.Listing.{Listing, listedOutcome, left, listing}
 use Rattle.listing.specs.inner.Made.{textFrom, anyText, TextMade}
 use Rattle.listing.specs.declared.Listed.{Listed}
 use Rattle.listing.specs.declared.Listed.the-variants.{Text}
-use Rattle.listing.proofs.Room.{anyMap, anySection}
+use Rattle.listing.proofs.Room.{anyMap}
 use Rattle.listing.proofs.Short.{text-short}
-use Rattle.listing.proofs.Merged.{printed, merged-text}
+use Rattle.listing.proofs.Merged.{measured-text}
 
 module _ (file : List ℕ) {old new : List ℕ} {end : ℕ} where
   pub made-long : mostBytes < length file → Put old 0 (refusalLine (badLength (mostBytes + 1))) new end → TextMade file old new end
@@ -38,17 +39,17 @@ module _ (file : List ℕ) {old new : List ℕ} {end : ℕ} where
         short = text-short file;
       }
 
-  pub made-merged : {r : Merged} {map section : List ℕ} {words x : ℕ} → length file ≤ mostBytes
-      → Ends (merging file (replicate anyMap 0) (replicate anySection 0)) r map section → x ≡ wordCount file → words ≡ x
-      → Put old 0 (textFrom words (outcomeOf r) section) new end → TextMade file old new end
+  pub made-measured : {r : Merged} {map none sizes : List ℕ} {words x : ℕ} → length file ≤ mostBytes
+      → Measured file (replicate anyMap 0) none r map sizes → x ≡ wordCount file → words ≡ x
+      → Put old 0 (textFrom words (outcomeOf r) sizes) new end → TextMade file old new end
   unfolding textOf
-  made-merged {r} {map} {section} {words} {x} h E x-is w-is p =
+  made-measured {r} {map} {none} {sizes} {words} {x} h M x-is w-is p =
       let e : textOf file ≡ fileText (tableFile file) = simp (le-ltb mostBytes (length file) h) in
-      let f : textFrom words (outcomeOf r) section ≡ printed (wordCount file) (merging file (replicate anyMap 0) (replicate anySection 0)) =
-      ap (λ k. textFrom k (outcomeOf r) section) (w-is ∙ x-is)
-      ∙ ap₂ (λ o l. textFrom (wordCount file) o l) (E .answerIs) (E .sectionIs) in
-      let g = merged-text (replicate anyMap 0) (replicate anySection 0) (le-of-eq (sym (length-replicate {A = ℕ} anyMap 0)))
-      (le-of-eq (sym (length-replicate {A = ℕ} anySection 0))) file h in
+      let f : textFrom words (outcomeOf r) sizes
+      ≡ textFrom (wordCount file) (merging file (replicate anyMap 0) [] .answer) (sizing file (replicate anyMap 0) none) =
+      ap (λ k. textFrom k (outcomeOf r) sizes) (w-is ∙ x-is)
+      ∙ ap₂ (λ o l. textFrom (wordCount file) o l) (M .answerIs) (M .sizesAre) in
+      let g = measured-text (replicate anyMap 0) none (le-of-eq (sym (length-replicate {A = ℕ} anyMap 0))) file h in
       record { put = subst (λ t. Put old 0 t new end) (f ∙ g ∙ sym e) p; short = text-short file }
 
 -- what is left of a buffer by whether it is too short for the text

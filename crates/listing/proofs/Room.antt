@@ -1,5 +1,6 @@
--- The buffers that the listing merges into are long enough for every table: it has at most `mostWords` words and `mostSymbols` symbols, its
--- roots and goals are states, and its section has no more edges at a step than the table has words.
+-- Lengths that are enough for every table, of the map, which the listing has of its own, and of the section, which callers of merging lend:
+-- a table has at most `mostWords` words and `mostSymbols` symbols, its roots and goals are states, and its section has no more edges at a
+-- step than the table has words.
 use mathlib.Core.Path.{_≡_, refl, sym, subst}
 use mathlib.Core.List.{List, [], _∷_, List·Memᴰ·head, List·Memᴰ·tail}
 use Prim.Native.Nat.{ℕ, zero, suc, _+_, _-_, _*_, _≤_, _<_}
@@ -24,11 +25,12 @@ use Rattle.table.specs.inner.Good.{GoodFile}
 use Rattle.table.proofs.Accepted.{accepted-good}
 use Rattle.merge.specs.Merging.{mapLength}
 
--- the lengths of the code's two buffers
+-- a number for each word at each depth
 abbrev pub anyMap : ℕ
 anyMap = (mostSymbols + 1) * mostWords
 
-abbrev pub anySection : ℕ
+-- the sizes, the roots and the goals, and three numbers for each edge
+abbrev anySection : ℕ
 anySection = 4 + 2 * mostSymbols + 2 * mostStates + 3 * mostSymbols * mostWords
 
 sum-of-same : (m at k : ℕ) → sum (λ u. m) at k ≡ k * m
@@ -96,7 +98,6 @@ module _ (file : List ℕ) {q n states : ℕ} {table : List Word} (G : GoodFile 
   map-room : mapLength n table ≤ anyMap
   map-room = mul-le-mul (G .countTo) (let k : n + 1 ≤ mostSymbols + 1 = omega (arith, G .nTo) in k)
 
--- the buffers that the listing merges into
 pub long-enough : (file : List ℕ) {q n states : ℕ} {table : List Word} → tableFile file ≡ accepted q n states table
     → (mapLength n table ≤ anyMap) × (length (sectionOf q n states table) ≤ anySection)
 long-enough file e = let G = accepted-good file e in (map-room file G, section-room file G)

@@ -11,6 +11,7 @@ ghost use Rattle.text.specs.inner.Put.{Put};
 ghost use Rattle.listing.specs.Text.{entering, depthLine, sums, sizesOf, refusalLine};
 ghost use Rattle.listing.specs.Listing.{left, listedOutcome, listing};
 ghost use Rattle.listing.specs.inner.Made.{textFrom, TextMade};
+use merge::ANY_SIZES;
 use merge::Merged;
 use numbers::number;
 use numbers::total;
@@ -20,7 +21,6 @@ use outcomes::one_value;
 use text::put_bytes;
 use text::put_line;
 use trellis::MOST_BYTES;
-use trellis::MOST_STATES;
 use trellis::MOST_SYMBOLS;
 use trellis::MOST_WORDS;
 
@@ -29,10 +29,6 @@ const TOO_LONG: usize = MOST_BYTES + 1;
 
 // As long as the map of any table: a number for each word at each depth.
 const ANY_MAP: usize = (MOST_SYMBOLS + 1) * MOST_WORDS;
-
-// As long as the section of any table: the sizes and counts, the roots and the goals, which are states, and three numbers for each edge, of
-// which a step has no more than the table has words.
-const ANY_SECTION: usize = 4 + 2 * MOST_SYMBOLS + 2 * MOST_STATES + 3 * MOST_SYMBOLS * MOST_WORDS;
 
 // Bytes that are enough for every text: it has at most twelve lines, each of a word and at most five numbers of at most five digits.
 pub const ANY_TEXT: usize = 1024;
@@ -53,28 +49,24 @@ pub fn outcome(answer: Listed) -> Returned
     }
 }
 
-fn edges_entering(section: &[u16], n: usize, t: usize) -> usize
-    requires { ⌜ (n ≡ nOf (now section)) × (n ≤ 65535) × (t ≤ n) ⌝ }
-    ensures { λ r. ⌜ r ≡ entering (now (section .entry)) t ⌝ }
+fn edges_entering(sizes: &[u16], n: usize, t: usize) -> usize
+    requires { ⌜ (n ≡ nOf (now sizes)) × (n ≤ 65535) × (t ≤ n) ⌝ }
+    ensures { λ r. ⌜ r ≡ entering (now (sizes .entry)) t ⌝ }
 {
     if t == 0 {
         return 0;
     }
-    wide(number(section, 3 + n + t))
+    wide(number(sizes, 3 + n + t))
 }
 
-fn put_depths(section: &[u16], n: usize, text: &mut [u8], at: usize) -> usize
-    requires { ⌜ (n ≡ nOf (now section)) × (n ≤ 65535) ⌝ }
-    ensures { λ r. ⌜ Put (now (text .entry)) at (joinedUp (depthLine (now (section .entry))) (suc n)) (now (text .exit)) r ⌝ }
+fn put_depths(sizes: &[u16], n: usize, text: &mut [u8], at: usize) -> usize
+    requires { ⌜ (n ≡ nOf (now sizes)) × (n ≤ 65535) ⌝ }
+    ensures { λ r. ⌜ Put (now (text .entry)) at (joinedUp (depthLine (now (sizes .entry))) (suc n)) (now (text .exit)) r ⌝ }
 {
     let mut end = at;
     let mut t: usize = 0;
     while t <= n {
-        let numbers = [
-            t,
-            wide(number(section, 3 + t)),
-            edges_entering(section, n, t),
-        ];
+        let numbers = [t, wide(number(sizes, 3 + t)), edges_entering(sizes, n, t)];
         end = put_line(text, end, b"depth", &numbers);
         t += 1;
     }
@@ -88,27 +80,27 @@ fn less(a: usize, b: usize) -> usize
     if a < b { 0 } else { a - b }
 }
 
-fn put_sums(section: &[u16], n: usize, text: &mut [u8], at: usize) -> usize
-    requires { ⌜ (n ≡ nOf (now section)) × (n ≤ 65535) ⌝ }
-    ensures { λ r. ⌜ Put (now (text .entry)) at (sums (now (section .entry))) (now (text .exit)) r ⌝ }
+fn put_sums(sizes: &[u16], n: usize, text: &mut [u8], at: usize) -> usize
+    requires { ⌜ (n ≡ nOf (now sizes)) × (n ≤ 65535) ⌝ }
+    ensures { λ r. ⌜ Put (now (text .entry)) at (sums (now (sizes .entry))) (now (text .exit)) r ⌝ }
 {
-    let edges = total(section, 4 + n, n);
-    let vertices = total(section, 3, n + 1);
-    let roots = wide(number(section, 3));
+    let edges = total(sizes, 4 + n, n);
+    let vertices = total(sizes, 3, n + 1);
+    let roots = wide(number(sizes, 3));
     let additions = [edges];
     let end = put_line(text, at, b"additions", &additions);
     let selections = [less(edges + roots, vertices)];
     put_line(text, end, b"selections", &selections)
 }
 
-fn put_sizes(section: &[u16], words: usize, text: &mut [u8]) -> usize
-    ensures { λ r. ⌜ Put (now (text .entry)) 0 (sizesOf words (now (section .entry))) (now (text .exit)) r ⌝ }
+fn put_sizes(sizes: &[u16], words: usize, text: &mut [u8]) -> usize
+    ensures { λ r. ⌜ Put (now (text .entry)) 0 (sizesOf words (now (sizes .entry))) (now (text .exit)) r ⌝ }
 {
-    let n = wide(number(section, 1));
-    let numbers = [wide(number(section, 0)), n, wide(number(section, 2)), words];
+    let n = wide(number(sizes, 1));
+    let numbers = [wide(number(sizes, 0)), n, wide(number(sizes, 2)), words];
     let sized = put_line(text, 0, b"section", &numbers);
-    let end = put_depths(section, n, text, sized);
-    put_sums(section, n, text, end)
+    let end = put_depths(sizes, n, text, sized);
+    put_sums(sizes, n, text, end)
 }
 
 // The line of a refusal: its number, and the numbers returned with it.
@@ -128,17 +120,18 @@ fn put_refusal(text: &mut [u8], refusal: Returned) -> usize
     put_line(text, 0, b"refused", &numbers[..1 + refusal.count])
 }
 
-fn put_answer(answer: Merged, words: usize, section: &[u16], text: &mut [u8]) -> usize
-    ensures { λ r. ⌜ Put (now (text .entry)) 0 (textFrom words (outcomeOf answer) (now (section .entry))) (now (text .exit)) r ⌝ }
+// Measuring answers a table that has a section by refusal 7: no buffer was lent for it.
+fn put_answer(answer: Merged, words: usize, sizes: &[u16], text: &mut [u8]) -> usize
+    ensures { λ r. ⌜ Put (now (text .entry)) 0 (textFrom words (outcomeOf answer) (now (sizes .entry))) (now (text .exit)) r ⌝ }
 {
     let returned = merge::outcome(answer);
-    if returned.number == 0 {
-        return put_sizes(section, words, text);
+    if returned.number == 7 {
+        return put_sizes(sizes, words, text);
     }
     put_refusal(text, returned)
 }
 
-// Both buffers are long enough for every table.
+// The map is long enough for every table.
 fn put_text(file: &[u8], text: &mut [u8]) -> usize
     ensures { λ r. ⌜ TextMade (now (file .entry)) (now (text .entry)) (now (text .exit)) r ⌝ }
 {
@@ -146,9 +139,9 @@ fn put_text(file: &[u8], text: &mut [u8]) -> usize
         return put_refusal(text, merge::outcome(Merged::Length(TOO_LONG)));
     }
     let mut map = [0u16; ANY_MAP];
-    let mut section = [0u16; ANY_SECTION];
-    let answer = merge::merge(file, &mut map, &mut section);
-    put_answer(answer, wide(table::word_count(file)), &section, text)
+    let mut sizes = [0u16; ANY_SIZES];
+    let answer = merge::measure(file, &mut map, &mut sizes);
+    put_answer(answer, wide(table::word_count(file)), &sizes, text)
 }
 
 // Writes the listing of the table in `file`, or the line of its refusal, to the front of `text`.

@@ -20,6 +20,7 @@ use Rattle.depths.specs.inner.Words.{words}
 use Rattle.depths.proofs.Words.{word-is, words-length}
 use Rattle.merge.specs.Merging.{mapLength, merged, mergedTable}
 use Rattle.merge.specs.inner.Stages.{WordsHeld, Copied}
+use Rattle.merge.specs.inner.Sizes.{sizedBy, sizedTable, EndsSized}
 use Rattle.merge.specs.Answer.{Ends}
 use Rattle.merge.specs.declared.Merged.{Merged}
 use Rattle.merge.specs.declared.Merged.the-variants.{ShortMap}
@@ -44,12 +45,13 @@ module _ (file : List ℕ) {q n states count : ℕ}
   needed-is w e = ap (λ k. k * (n + 1)) (e ∙ A .1)
 
   -- 5
-  pub ends-map : (w : ℕ) (map section : List ℕ) → w ≡ count → length map < w * (n + 1)
-      → Ends (mergedTable q n states (fileWords file) map section) (ShortMap (w * (n + 1))) map section
-  unfolding mergedTable
-  ends-map w map section e h =
-      ends-by (simp (lt-ltb (length map) (mapLength n (fileWords file)) (omega (arith, needed-is w e))))
-      (ap shortMap (needed-is w e)) refl refl
+  pub ends-map : (w : ℕ) (map section sizes : List ℕ) → w ≡ count → length map < w * (n + 1)
+      → EndsSized (mergedTable q n states (fileWords file) map section) (sizedTable q n states (fileWords file) map sizes)
+      (ShortMap (w * (n + 1))) map section sizes
+  unfolding mergedTable sizedTable
+  ends-map w map section sizes e h =
+      let short = lt-ltb (length map) (mapLength n (fileWords file)) (omega (arith, needed-is w e)) in
+      record { ends = ends-by (simp short) (ap shortMap (needed-is w e)) refl refl; sizesAre = simp short }
 
   module _ {roots labels goals : List ℕ} {w : ℕ} (C : Copied file count roots labels goals) (e : w ≡ count) where
     pub part-roots : w ≤ length roots
@@ -119,12 +121,16 @@ module _ (file : List ℕ) {q n states count : ℕ}
       room = omega (arith, ap₂ (λ x y. x * y) (add-one n) size-roots, mul-comm w (n + 1));
     }
 
-    pub ends-words : (map section map2 section2 : List ℕ) (a : Merged) → w * (n + 1) ≤ length map
-        → Ends (merged q n states held-words map section (witness n held-words)) a map2 section2
-        → Ends (mergedTable q n states (fileWords file) map section) a map2 section2
-    unfolding mergedTable
-    ends-words map section map2 section2 a room E =
-        let k : mapLength n (fileWords file) ≤ length map = omega (arith, needed-is w e) in
-        subst (λ m. Ends m a map2 section2)
-        (ap (λ t. merged q n states t map section (witness n t)) words-are
-        ∙ sym (simp (le-ltb (length map) (mapLength n (fileWords file)) k))) E
+    pub ends-words : (map section sizes map2 section2 sizes2 : List ℕ) (a : Merged) → w * (n + 1) ≤ length map
+        → EndsSized (merged q n states held-words map section (witness n held-words))
+        (sizedBy q n states held-words sizes (witness n held-words)) a map2 section2 sizes2
+        → EndsSized (mergedTable q n states (fileWords file) map section) (sizedTable q n states (fileWords file) map sizes) a map2 section2
+        sizes2
+    unfolding mergedTable sizedTable
+    ends-words map section sizes map2 section2 sizes2 a room E =
+        let long = le-ltb (length map) (mapLength n (fileWords file)) (omega (arith, needed-is w e)) in
+        record {
+          ends = subst (λ m. Ends m a map2 section2)
+              (ap (λ t. merged q n states t map section (witness n t)) words-are ∙ sym (simp long)) (E .ends);
+          sizesAre = E .sizesAre ∙ ap (λ t. sizedBy q n states t sizes (witness n t)) words-are ∙ sym (simp long);
+        }

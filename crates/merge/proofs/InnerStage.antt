@@ -17,6 +17,7 @@ use Rattle.merge.specs.Answer.{outcomeOf, Ends}
 use Rattle.merge.specs.Merging.{mapOf, mapLength, refusalOf, written, merged}
 use Rattle.trellis.specs.Lists.{over}
 use Rattle.merge.specs.inner.Stages.{cleared, WordsHeld, Inside, RefusedAt}
+use Rattle.merge.specs.inner.Sizes.{sectionSizes, sizedBy, EndsSized}
 use Rattle.merge.specs.declared.Merged.{Merged}
 use Rattle.merge.proofs.MapRows.{map-length}
 use Rattle.trellis.proofs.Buffers.{over-same}
@@ -55,12 +56,16 @@ module _ {n r : ℕ} {roots labels goals map0 map1 counts0 counts : List ℕ} (A
       let e = same-behind (mapOf n table) (map-length n table ∙ ap (λ w. suc n * w) size) in
       rw e
 
-  pub ends-written : (q states : ℕ) (section : List ℕ) {map2 section2 : List ℕ} {a : Merged} → r ≡ 0
-      → Ends (written q n states table map1 section) a map2 section2
-      → Ends (merged q n states table map0 section (witness n table)) a map2 section2
-  unfolding merged
-  ends-written q states section {map2} {section2} {a} e E =
-      subst (λ m. Ends m a map2 section2) (same-written q states section ∙ sym (ap (merged q n states table map0 section) (no-witness e))) E
+  pub ends-written : (q states : ℕ) (section sizes : List ℕ) {map2 section2 sizes2 : List ℕ} {a : Merged} → r ≡ 0
+      → EndsSized (written q n states table map1 section) (over (sectionSizes q n states table) sizes) a map2 section2 sizes2
+      → EndsSized (merged q n states table map0 section (witness n table)) (sizedBy q n states table sizes (witness n table)) a
+      map2 section2 sizes2
+  unfolding merged sizedBy
+  ends-written q states section sizes {map2} {section2} {sizes2} {a} e E = record {
+    ends = subst (λ m. Ends m a map2 section2)
+        (same-written q states section ∙ sym (ap (merged q n states table map0 section) (no-witness e))) (E .ends);
+    sizesAre = E .sizesAre ∙ sym (ap (sizedBy q n states table sizes) (no-witness e));
+  }
 
   -- ---- or one is not
 
@@ -71,19 +76,24 @@ module _ {n r : ℕ} {roots labels goals map0 map1 counts0 counts : List ℕ} (A
   pub refused : (r ≡ 0 → ⊥) → RefusedAt n r roots labels goals map1
   refused d = record { asked = asked; first = first-of r d (D .found) }
 
-  pub ends-refused : (q states : ℕ) {section map2 : List ℕ} {a : Merged} → (r ≡ 0 → ⊥) → (outcomeOf a ≡ refusalOf (witness n table))
-      × (map2 ≡ cleared (length roots * (n + 1)) map1)
-      → Ends (merged q n states table map0 section (witness n table)) a map2 section
-  unfolding merged
-  ends-refused q states {section} {map2} {a} d (p, m) = go (witness n table) refl p
+  pub ends-refused : (q states : ℕ) (section sizes : List ℕ) {map2 : List ℕ} {a : Merged} → (r ≡ 0 → ⊥)
+      → (outcomeOf a ≡ refusalOf (witness n table)) × (map2 ≡ cleared (length roots * (n + 1)) map1)
+      → EndsSized (merged q n states table map0 section (witness n table)) (sizedBy q n states table sizes (witness n table)) a map2 section
+      sizes
+  unfolding merged sizedBy
+  ends-refused q states section sizes {map2} {a} d (p, m) = go (witness n table) refl p
     where
       F : FirstRefused n (words roots labels goals) 1 r
       F = first-of r d (D .found)
 
       go : (w : Witness) → witness n (words roots labels goals) ≡ w → outcomeOf a ≡ refusalOf w
-          → Ends (merged q n states (words roots labels goals) map0 section w) a map2 section
+          → EndsSized (merged q n states (words roots labels goals) map0 section w)
+          (sizedBy q n states (words roots labels goals) sizes w) a map2 section sizes
       go nothing e o = absurd (F .fails (witness-none n (words roots labels goals) .0 e r (F .from) (F .inner)))
-      go (found t i j k) e o = ends-by refl o
-          (m ∙ ap (λ w. cleared (w * (n + 1)) map1) (sym size)
-          ∙ same-behind (replicate (mapLength n (words roots labels goals)) 0)
-          (length-replicate (mapLength n (words roots labels goals)) 0 ∙ rows-long)) refl
+      go (found t i j k) e o = record {
+        ends = ends-by refl o
+            (m ∙ ap (λ w. cleared (w * (n + 1)) map1) (sym size)
+            ∙ same-behind (replicate (mapLength n (words roots labels goals)) 0)
+            (length-replicate (mapLength n (words roots labels goals)) 0 ∙ rows-long)) refl;
+        sizesAre = refl;
+      }

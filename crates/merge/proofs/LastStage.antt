@@ -1,4 +1,5 @@
--- The last stage of merging: the parts fit, the length is the section's, and the buffers end as the definition says.
+-- The last stage of merging: the sizes are the section's first numbers, the parts fit, the length is the section's, and the buffers end as
+-- the definition says.
 use mathlib.Core.Path.{_≡_, refl, sym, ap, ap₂, subst, _∙_}
 use mathlib.Core.Bool.{Bool, true, false, cond}
 use mathlib.Core.List.{List, [], _∷_, _++_}
@@ -12,15 +13,15 @@ use Rattle.trellis.specs.Bounds.{mostWords, mostSymbols}
 use Rattle.trellis.specs.Word.{Word, Rectangular}
 use Rattle.trellis.specs.Layout.{joinedUp, sectionOf}
 use Rattle.trellis.specs.inner.Write.{Wrote}
-use Rattle.trellis.proofs.Write.{wrote-front}
+use Rattle.trellis.proofs.Write.{wrote-length, wrote-front}
 use Rattle.depths.specs.inner.Words.{words, Held}
 use Rattle.depths.proofs.Words.{held-length}
 use Rattle.layout.specs.inner.Pieces.{SmallMap, mapEdge, stepTakers, AllTaken, Taken}
 use Rattle.layout.proofs.AllPieces.{taken-all, joined-rise}
 use Rattle.layout.proofs.Marks.{bits-of, all-marks}
 use Rattle.assemble.specs.inner.Outer.{OuterPut}
-use Rattle.assemble.specs.inner.Numbers.{numbersOf, Parts}
-use Rattle.assemble.proofs.Whole.{complete, few-counts, small, numbers-are, section-length}
+use Rattle.assemble.specs.inner.Numbers.{sizeNumbers, SizesAsked, numbersOf, Parts}
+use Rattle.assemble.proofs.Whole.{complete, few-counts, small, sizes-are, numbers-are, section-length}
 use Rattle.merge.specs.Merging.{Merging, left, mapOf, written}
 use Rattle.trellis.specs.Lists.{over}
 use Rattle.trellis.specs.Outcome.{Outcome, success, shortSection}
@@ -29,6 +30,7 @@ use Rattle.layout.specs.inner.Takers.{highest, leadsHigher, takers}
 use Rattle.merge.specs.Answer.{outcomeOf, Ends}
 use Rattle.merge.specs.declared.Merged.{Merged}
 use Rattle.merge.specs.inner.Stages.{Inside}
+use Rattle.merge.specs.inner.Sizes.{anySizes, sectionSizes, EndsSized}
 use Rattle.merge.specs.declared.Merged.the-variants.{Section, ShortSection}
 use Rattle.merge.proofs.MapRows.{map-is}
 
@@ -120,50 +122,71 @@ module _ {n : ℕ} {roots labels goals map0 map1 inner rootMarks goalMarks count
         (λ t i a b. ap (λ w. getD map1 (t * w + i) 0) size ∙ complete H (I .sound) P t i a (omega (arith, size)))
         (λ j h. P .placed .behind j (rw size at h))
 
-    module _ (q states : ℕ) {c0 cn : ℕ} (e0 : c0 ≡ getD counts 0 0) (en : cn ≡ getD counts n 0) where
-      abbrev needed : ℕ
-      needed = 4 + 2 * n + (c0 + cn) + 3 * total
+    module _ {sizes0 : List ℕ} (many : anySizes ≤ length sizes0) where
+      pub sizes-asked : SizesAsked n counts edgeCounts sizes0
+      sizes-asked = record {
+        steps = H .short;
+        vertexPlaces = omega (arith, H .short, P .nine);
+        edgePlaces = omega (arith, H .short, A .places);
+        room = omega (arith, H .short);
+      }
 
-      needed-is : 4 + 2 * n + (c0 + cn) + 3 * total ≡ length (sectionOf q n states table)
-      needed-is = ap₂ (λ x y. 4 + 2 * n + (x + y) + 3 * total) e0 en
-          ∙ sym (section-length H (I .sound) P rectangular q states total total-is)
+      module _ (q states : ℕ) {sizes1 : List ℕ} (W : Wrote sizes0 0 (sizeNumbers q n states counts edgeCounts) sizes1 (4 + 2 * n)) where
+        sizes-left : sizes1 ≡ over (sectionSizes q n states table) sizes0
+        unfolding sectionSizes
+        sizes-left = subst (λ vs. sizes1 ≡ over vs sizes0) (sizes-are H (I .sound) P rectangular q states K W)
+            (wrote-front W (omega (arith, W .end-is, sizes-asked .room)))
 
-      module _ {section : List ℕ} where
-        -- 7: the map is finished, the section is as it was
-        pub ends-short : length section < 4 + 2 * n + (c0 + cn) + 3 * total
-            → Ends (written q n states table map0 section) (ShortSection (4 + 2 * n + (c0 + cn) + 3 * total)) map1 section
-        ends-short h = ends-by (written-short q n states table map0 section (omega (arith, needed-is)))
-            (ap shortSection needed-is) map-whole refl
+        module _ {c0 cn : ℕ} (e0 : c0 ≡ getD counts 0 0) (en : cn ≡ getD counts n 0) where
+          needed-is : 4 + 2 * n + (c0 + cn) + 3 * total ≡ length (sectionOf q n states table)
+          needed-is = ap₂ (λ x y. 4 + 2 * n + (x + y) + 3 * total) e0 en
+              ∙ sym (section-length H (I .sound) P rectangular q states total total-is)
 
-        pub parts : 4 + 2 * n + (c0 + cn) + 3 * total ≤ length section
-            → Parts n counts edgeCounts rootMarks goalMarks map1 labels firsts section
-        parts h = record {
-          small = map-small;
-          taken = K;
-          nine = P .nine;
-          rootPlaces = P .rootsMarked .places;
-          goalPlaces = P .goalsMarked .places;
-          rootBits = bits-of (P .rootsMarked);
-          goalBits = bits-of (P .goalsMarked);
-          some = some-edges;
-          room = omega (
-            arith,
-            e0,
-            en,
-            all-marks (I .asked .fewRoots) (P .rootsMarked),
-            all-marks (I .asked .fewGoals) (P .goalsMarked),
-            P .rootCount,
-            P .goalCount,
-            total-is,
-          );
-        }
+          module _ {section : List ℕ} where
+            -- 7: the map is finished, the section is as it was
+            pub ends-short : length section < 4 + 2 * n + (c0 + cn) + 3 * total
+                → EndsSized (written q n states table map0 section) (over (sectionSizes q n states table) sizes0)
+                (ShortSection (4 + 2 * n + (c0 + cn) + 3 * total)) map1 section sizes1
+            ends-short h = record {
+              ends = ends-by (written-short q n states table map0 section (omega (arith, needed-is))) (ap shortSection needed-is)
+                  map-whole refl;
+              sizesAre = sizes-left;
+            }
 
-        -- success: the section's numbers stand in front
-        pub ends-done : {new : List ℕ} {end : ℕ} → 4 + 2 * n + (c0 + cn) + 3 * total ≤ length section
-            → Wrote section 0 (numbersOf q n states counts edgeCounts rootMarks goalMarks map1 labels) new end
-            → Ends (written q n states table map0 section) (Section (4 + 2 * n + (c0 + cn) + 3 * total)) map1 new
-        ends-done {new} {end} h W =
-            let same = numbers-are H (I .sound) P rectangular q states (I .asked .fewRoots) (I .asked .fewGoals) K in
-            let W′ : Wrote section 0 (sectionOf q n states table) new end = subst (λ vs. Wrote section 0 vs new end) same W in
-            ends-by (written-done q n states table map0 section (omega (arith, needed-is))) (ap success needed-is) map-whole
-            (wrote-front W′ (omega (arith, needed-is)))
+            pub parts : 4 + 2 * n + (c0 + cn) + 3 * total ≤ length section
+                → Parts n sizes1 edgeCounts rootMarks goalMarks map1 labels firsts section
+            parts h = record {
+              small = map-small;
+              taken = K;
+              sized = omega (arith, wrote-length W, sizes-asked .room);
+              rootPlaces = P .rootsMarked .places;
+              goalPlaces = P .goalsMarked .places;
+              rootBits = bits-of (P .rootsMarked);
+              goalBits = bits-of (P .goalsMarked);
+              some = some-edges;
+              room = omega (
+                arith,
+                e0,
+                en,
+                all-marks (I .asked .fewRoots) (P .rootsMarked),
+                all-marks (I .asked .fewGoals) (P .goalsMarked),
+                P .rootCount,
+                P .goalCount,
+                total-is,
+              );
+            }
+
+            -- success: the section's numbers stand in front
+            pub ends-done : {new : List ℕ} {end : ℕ} → 4 + 2 * n + (c0 + cn) + 3 * total ≤ length section
+                → Wrote section 0 (numbersOf n sizes1 rootMarks goalMarks map1 labels) new end
+                → EndsSized (written q n states table map0 section) (over (sectionSizes q n states table) sizes0)
+                (Section (4 + 2 * n + (c0 + cn) + 3 * total)) map1 new sizes1
+            ends-done {new} {end} h Z =
+                let same = numbers-are H (I .sound) P rectangular q states K W (sizes-asked .room) (I .asked .fewRoots)
+                (I .asked .fewGoals) in
+                let Z′ : Wrote section 0 (sectionOf q n states table) new end = subst (λ vs. Wrote section 0 vs new end) same Z in
+                record {
+                  ends = ends-by (written-done q n states table map0 section (omega (arith, needed-is))) (ap success needed-is) map-whole
+                      (wrote-front Z′ (omega (arith, needed-is)));
+                  sizesAre = sizes-left;
+                }

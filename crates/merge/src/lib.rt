@@ -1,10 +1,11 @@
 // Merging: a table file becomes the map of its words' vertices and the smallest section that has just its words. The promise, for all
 // arguments, is an equation with one definition, `merging`: the answer with document 01's number and values, and every place of both
-// buffers.
+// buffers. Who asks only for the section's sizes has a table measured, with no room for a section.
 ghost use mathlib.Core.Path.{_≡_};
 ghost use Prim.Native.Nat.{_+_, _*_, _<_, _≤_};
 ghost use lib.ListN.{length};
 ghost use Rattle.trellis.specs.Bounds.{mostWords};
+ghost use Rattle.trellis.specs.Lists.{over};
 ghost use Rattle.trellis.specs.Witness.{witness};
 ghost use Rattle.outcomes.specs.inner.Holds.{Holds};
 ghost use Rattle.table.specs.File.{accepted, tableFile, fileWords};
@@ -12,12 +13,16 @@ ghost use Rattle.depths.specs.inner.Words.{words};
 ghost use Rattle.merge.specs.Answer.{outcomeOf, Ends};
 ghost use Rattle.merge.specs.Merging.{refusalOf, merging, mergedTable, merged, written};
 ghost use Rattle.merge.specs.inner.Stages.{cleared, WordsHeld, Inside, RefusedAt, Copied};
+ghost use Rattle.merge.specs.inner.Sizes.{anySizes, sectionSizes, sizedBy, sizedTable, sizing, EndsSized, Measured};
 use numbers::wide;
 use outcomes::Returned;
 use outcomes::four_values;
 use outcomes::one_value;
 use trellis::MOST_SYMBOLS;
 use trellis::MOST_WORDS;
+
+// As long as the sizes of any section: q, n and S, and the counts of vertices and edges.
+pub const ANY_SIZES: usize = 4 + 2 * MOST_SYMBOLS;
 
 // The section's length, or why there is none. A variant for a refusal has the numbers that document 01 returns with it.
 pub enum Merged {
@@ -59,7 +64,7 @@ fn clear(map: &mut [u16], count: usize)
     }
 }
 
-// The outer depths, the edges and the section, where the inner depths are in the map: success, or refusal 7.
+// The outer depths, the edges, the sizes and the section, where the inner depths are in the map: success, or refusal 7.
 fn finish(
     q: u16,
     n: usize,
@@ -70,22 +75,26 @@ fn finish(
     inner: [u16; MOST_SYMBOLS + 1],
     map: &mut [u16],
     section: &mut [u16],
+    sizes: &mut [u16],
 ) -> Merged
-    requires { ⌜ Inside n (now roots) (now labels) (now goals) (now map) inner ⌝ }
-    ensures { λ r. ⌜ Ends
+    requires { ⌜ Inside n (now roots) (now labels) (now goals) (now map) inner × (anySizes ≤ length (now sizes)) ⌝ }
+    ensures { λ r. ⌜ EndsSized
         (written q n states (words (now (roots .entry)) (now (labels .entry)) (now (goals .entry))) (now (map .entry))
-        (now (section .entry))) r
-        (now (map .exit)) (now (section .exit)) ⌝ }
+        (now (section .entry)))
+        (over (sectionSizes q n states (words (now (roots .entry)) (now (labels .entry)) (now (goals .entry)))) (now (sizes .entry))) r
+        (now (map .exit)) (now (section .exit)) (now (sizes .exit)) ⌝ }
 {
     let outer = assemble::put_outer(roots, goals, n, map, inner);
     let mut firsts = [0u16; MOST_SYMBOLS * MOST_WORDS];
     let edges = layout::take_edges(labels, n, map, &mut firsts);
     let counts = outer.counts;
     let needed = 4 + 2 * n + (wide(counts[0]) + wide(counts[n])) + 3 * edges.total;
+    let steps = edges.counts;
+    assemble::put_sizes(q, n, states, &counts, &steps, sizes);
     if section.len() < needed {
         return Merged::ShortSection(needed);
     }
-    assemble::put_section(q, n, states, outer, edges, &firsts, labels, map, section);
+    assemble::put_section(sizes, n, outer, &steps, &firsts, labels, map, section);
     Merged::Section(needed)
 }
 
@@ -114,18 +123,33 @@ fn merge_words(
     goals: &[u8],
     map: &mut [u16],
     section: &mut [u16],
+    sizes: &mut [u16],
 ) -> Merged
-    requires { ⌜ WordsHeld n (now roots) (now labels) (now goals) (now map) ⌝ }
-    ensures { λ r. ⌜ Ends (merged q n states (words (now (roots .entry)) (now (labels .entry)) (now (goals .entry))) (now (map .entry))
-        (now (section .entry)) (witness n (words (now (roots .entry)) (now (labels .entry)) (now (goals .entry))))) r (now (map .exit))
-        (now (section .exit)) ⌝ }
+    requires { ⌜ WordsHeld n (now roots) (now labels) (now goals) (now map) × (anySizes ≤ length (now sizes)) ⌝ }
+    ensures { λ r. ⌜ EndsSized
+        (merged q n states (words (now (roots .entry)) (now (labels .entry)) (now (goals .entry))) (now (map .entry))
+        (now (section .entry)) (witness n (words (now (roots .entry)) (now (labels .entry)) (now (goals .entry)))))
+        (sizedBy q n states (words (now (roots .entry)) (now (labels .entry)) (now (goals .entry))) (now (sizes .entry))
+        (witness n (words (now (roots .entry)) (now (labels .entry)) (now (goals .entry))))) r (now (map .exit)) (now (section .exit))
+        (now (sizes .exit)) ⌝ }
 {
     let mut counts = [0u16; MOST_SYMBOLS + 1];
     let depth = depths::merge_inner(roots, labels, goals, n, map, &mut counts);
     if depth != 0 {
         return refuse(n, depth, roots, labels, goals, map);
     }
-    finish(q, n, states, roots, labels, goals, counts, map, section)
+    finish(
+        q,
+        n,
+        states,
+        roots,
+        labels,
+        goals,
+        counts,
+        map,
+        section,
+        sizes,
+    )
 }
 
 // The words of a file, in three arrays: merging goes over them many times, and a word's bytes lie apart in the file.
@@ -167,10 +191,13 @@ fn merge_table(
     count: u16,
     map: &mut [u16],
     section: &mut [u16],
+    sizes: &mut [u16],
 ) -> Merged
-    requires { ⌜ (tableFile (now file) ≡ accepted q n states (fileWords (now file))) × (count ≡ length (fileWords (now file))) ⌝ }
-    ensures { λ r. ⌜ Ends (mergedTable q n states (fileWords (now (file .entry))) (now (map .entry)) (now (section .entry))) r
-        (now (map .exit)) (now (section .exit)) ⌝ }
+    requires { ⌜ ((tableFile (now file) ≡ accepted q n states (fileWords (now file))) × (count ≡ length (fileWords (now file))))
+        × (anySizes ≤ length (now sizes)) ⌝ }
+    ensures { λ r. ⌜ EndsSized (mergedTable q n states (fileWords (now (file .entry))) (now (map .entry)) (now (section .entry)))
+        (sizedTable q n states (fileWords (now (file .entry))) (now (map .entry)) (now (sizes .entry))) r
+        (now (map .exit)) (now (section .exit)) (now (sizes .exit)) ⌝ }
 {
     let w = wide(count);
     let steps = n as usize;
@@ -191,13 +218,16 @@ fn merge_table(
         &goals[..w],
         map,
         section,
+        sizes,
     )
 }
 
-// Merges the table in `file`: the vertex of each word at each depth into `map`, the section into `section`.
-pub fn merge(file: &[u8], map: &mut [u16], section: &mut [u16]) -> Merged
-    ensures { λ r. ⌜ Ends (merging (now (file .entry)) (now (map .entry)) (now (section .entry))) r (now (map .exit))
-        (now (section .exit)) ⌝ }
+// A file: refusals 1 to 4, or what its table comes to.
+fn merge_file(file: &[u8], map: &mut [u16], section: &mut [u16], sizes: &mut [u16]) -> Merged
+    requires { ⌜ anySizes ≤ length (now sizes) ⌝ }
+    ensures { λ r. ⌜ EndsSized (merging (now (file .entry)) (now (map .entry)) (now (section .entry)))
+        (sizing (now (file .entry)) (now (map .entry)) (now (sizes .entry))) r (now (map .exit)) (now (section .exit))
+        (now (sizes .exit)) ⌝ }
 {
     match table::check(file) {
         table::Checked::Table {
@@ -205,10 +235,29 @@ pub fn merge(file: &[u8], map: &mut [u16], section: &mut [u16]) -> Merged
             n,
             states,
             words,
-        } => { merge_table(file, q, n, states, words, map, section) }
+        } => { merge_table(file, q, n, states, words, map, section, sizes) }
         table::Checked::Length(length) => Merged::Length(length),
         table::Checked::Size(place) => Merged::Size(place),
         table::Checked::Word(index) => Merged::Word(index),
         table::Checked::Order(index) => Merged::Order(index),
     }
+}
+
+// Merges the table in `file`: the vertex of each word at each depth into `map`, the section into `section`.
+pub fn merge(file: &[u8], map: &mut [u16], section: &mut [u16]) -> Merged
+    ensures { λ r. ⌜ Ends (merging (now (file .entry)) (now (map .entry)) (now (section .entry))) r (now (map .exit))
+        (now (section .exit)) ⌝ }
+{
+    let mut sizes = [0u16; ANY_SIZES];
+    merge_file(file, map, section, &mut sizes)
+}
+
+// Measures the table in `file`: the map as in merging, and the section's sizes, but no section. A table that has a section is answered by
+// refusal 7 with its length.
+pub fn measure(file: &[u8], map: &mut [u16], sizes: &mut [u16]) -> Merged
+    requires { ⌜ anySizes ≤ length (now sizes) ⌝ }
+    ensures { λ r. ⌜ Measured (now (file .entry)) (now (map .entry)) (now (sizes .entry)) r (now (map .exit)) (now (sizes .exit)) ⌝ }
+{
+    let mut none = [0u16; 0];
+    merge_file(file, map, &mut none, sizes)
 }

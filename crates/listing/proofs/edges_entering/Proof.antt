@@ -5,7 +5,7 @@ use Rattle.listing.proofs.edges_entering.Statement.{statement}
 use Rattle.listing.proofs.edges_entering.Tie as tie
 
 returns : tie.Need-returns
-returns c = entering-none (c .before .before .args .section .now) (c .before .before .args .t) (c .if1 .taken)
+returns c = entering-none (c .before .before .args .sizes .now) (c .before .before .args .t) (c .if1 .taken)
 
 add-number : tie.Need-add-number
 add-number c = search needs
@@ -23,7 +23,7 @@ returns-2 : tie.Need-returns-2
 returns-2 c =
     let p = c .before in
     let a = p .before .before .before in
-    entering-some (a .args .section .now) (a .args .n) (a .args .t) _ _ (a .pre .0) (p .before .if1 .left)
+    entering-some (a .args .sizes .now) (a .args .n) (a .args .t) _ _ (a .pre .0) (p .before .if1 .left)
     (p .number .ensures) (c .wide .ensures .0)
 
 pub edges-entering-spec : {M : Type 1} → statement M

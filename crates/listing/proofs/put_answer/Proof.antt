@@ -19,7 +19,7 @@ returns c =
     let t = p .before .before in
     let o = t .before .before in
     let a = o .before .before .before in
-    sizes-answered (o .outcome .ensures) (a .args .words) (a .args .section .now) (t .if1 .taken) (p .put-sizes .ensures)
+    sizes-answered (o .outcome .ensures) (a .args .words) (a .args .sizes .now) (t .if1 .taken) (p .put-sizes .ensures)
 
 put-refusal-requires : tie.Need-put-refusal-requires
 put-refusal-requires c κs = search needs
@@ -33,7 +33,7 @@ returns-2 c =
     let t = p .before .before in
     let o = t .before .before in
     let a = o .before .before .before in
-    refusal-answered (o .outcome .ensures) (a .args .words) (a .args .section .now) (t .if1 .left)
+    refusal-answered (o .outcome .ensures) (a .args .words) (a .args .sizes .now) (t .if1 .left)
     (p .put-refusal .ensures _ (o .outcome .ensures))
 
 pub put-answer-spec : {M : Type 1} → statement M

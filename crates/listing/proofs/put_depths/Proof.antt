@@ -7,10 +7,10 @@ use Rattle.listing.proofs.put_depths.Statement.{statement}
 use Rattle.listing.proofs.put_depths.Tie as tie
 
 abbrev Inv-loop : tie.InvT-loop
-Inv-loop section n text₀ at end₀ t₀ t8 text end t = Depths section n text₀ at text end t
+Inv-loop sizes n text₀ at end₀ t₀ t8 text end t = Depths sizes n text₀ at text end t
 
 abbrev μ-loop : tie.MeasureT-loop
-μ-loop section n text₀ at end₀ t₀ t8 text end t = suc n - t
+μ-loop sizes n text₀ at end₀ t₀ t8 text end t = suc n - t
 
 loop-holds : tie.Need-loop-holds Inv-loop μ-loop
 loop-holds c = depths-start

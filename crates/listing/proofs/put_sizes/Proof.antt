@@ -49,7 +49,7 @@ returns c =
     let y = z .before .before in
     let x = y .before .before in
     let a = x .before .before .before .before in
-    sizes-put (a .args .section .now) (a .args .words) (y .before .number2 .ensures) (y .wide2 .ensures .0)
+    sizes-put (a .args .sizes .now) (a .args .words) (y .before .number2 .ensures) (y .wide2 .ensures .0)
     (x .before .number .ensures) (x .wide .ensures .0)
     (z .before .number3 .ensures) (z .wide3 .ensures .0) (p .put-line .ensures) (d .put-depths .ensures) (s .put-sums .ensures)
 

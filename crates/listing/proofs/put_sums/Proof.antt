@@ -58,7 +58,7 @@ returns c =
     let v = w .before .before in
     let e = v .before in
     let a = e .before .before .before in
-    sums-put (a .args .section .now) (a .pre .0) (e .total .ensures .0) (v .total2 .ensures .0)
+    sums-put (a .args .sizes .now) (a .pre .0) (e .total .ensures .0) (v .total2 .ensures .0)
     (w .before .number .ensures) (w .wide .ensures .0) (s .less .ensures)
     (p .put-line .ensures) (q .put-line2 .ensures)
 

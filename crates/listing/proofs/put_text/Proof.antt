@@ -1,5 +1,5 @@
--- `listing::put_text` puts the refusal of a file that is too long, or what the answer of merging comes to.
-use Rattle.listing.proofs.Outcomes.{made-long, made-merged}
+-- `listing::put_text` puts the refusal of a file that is too long, or what the answer of measuring comes to.
+use Rattle.listing.proofs.Outcomes.{made-long, made-measured}
 use borrow.Author.Needs.{needs}
 use Rattle.listing.proofs.put_text.Statement.{statement}
 use Rattle.listing.proofs.put_text.Tie as tie
@@ -20,14 +20,14 @@ returns c =
     let t = o .before .before in
     made-long (t .before .before .before .args .file .now) (t .if1 .taken) (p .put-refusal .ensures _ (o .outcome .ensures))
 
-slice-aggregate-merge : tie.Need-slice-aggregate-merge
-slice-aggregate-merge c = search needs
+slice-aggregate-measure : tie.Need-slice-aggregate-measure
+slice-aggregate-measure c = search needs
 
-slice-aggregate-merge-2 : tie.Need-slice-aggregate-merge-2
-slice-aggregate-merge-2 c = search needs
+slice-aggregate-measure-2 : tie.Need-slice-aggregate-measure-2
+slice-aggregate-measure-2 c = search needs
 
-merge-requires : tie.Need-merge-requires
-merge-requires c κs = search needs
+measure-requires : tie.Need-measure-requires
+measure-requires c κs = search needs
 
 word-count-requires : tie.Need-word-count-requires
 word-count-requires c κs = search needs
@@ -49,7 +49,7 @@ returns-2 c = let p = c .before .before in
     let w = p .before .before .before in
     let m = w .before .before .before .before in
     let t = m .before .before .before in
-    made-merged (t .before .before .before .args .file .now) (t .if1 .left) (m .merge .ensures)
+    made-measured (t .before .before .before .args .file .now) (t .if1 .left) (m .measure .ensures)
     (w .before .word-count .ensures) (w .wide .ensures .0) (p .put-answer .ensures)
 
 pub put-text-spec : {M : Type 1} → statement M
@@ -60,9 +60,9 @@ put-text-spec =
     put-refusal-requires
     same-length
     returns
-    slice-aggregate-merge
-    slice-aggregate-merge-2
-    merge-requires
+    slice-aggregate-measure
+    slice-aggregate-measure-2
+    measure-requires
     word-count-requires
     wide-requires
     slice-aggregate-put-answer

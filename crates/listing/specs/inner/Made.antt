@@ -8,9 +8,9 @@ use Rattle.trellis.specs.Outcome.{Outcome}
 use Rattle.text.specs.inner.Put.{Put}
 use Rattle.listing.specs.Text.{sizesOf, refusalLine, textOf}
 
--- the sizes on success, else the refusal
+-- the sizes where measuring comes to a section, which it answers by 7, else the refusal
 unfoldable pub textFrom : ℕ → Outcome → List ℕ → List ℕ
-textFrom words o section = cond (eqb (o .number) 0) (sizesOf words section) (refusalLine o)
+textFrom words o sizes = cond (eqb (o .number) 7) (sizesOf words sizes) (refusalLine o)
 
 -- bytes that are enough for every text
 abbrev pub anyText : ℕ

@@ -14,67 +14,68 @@ add-needed c = search needs
 
 mul-needed : tie.Need-mul-needed
 mul-needed c =
-    let entry = c .before .before .before .before in
-    omega (arith, needed-fits _ (entry .pre) _ (c .wide .ensures .0))
+    let entry = c .before .before .before .before .before in
+    omega (arith, needed-fits _ (entry .pre .0) _ (c .wide .ensures .0))
 
 returns : tie.Need-returns
 returns c =
-    let entry = c .before .before .before .before .before in
-    ends-map _ (entry .pre) _ _ _ (c .before .wide .ensures .0) (c .if1 .taken)
+    let at-wide = c .before in
+    let entry = at-wide .before .before .before .before .before in
+    ends-map _ (entry .pre .0) _ _ _ _ (at-wide .wide .ensures .0) (c .if1 .taken)
 
 copy-words-requires : tie.Need-copy-words-requires
 copy-words-requires c κs =
-    let entry = c .before .before .before .before .before in
-    count-few _ (entry .pre)
+    let entry = c .before .before .before .before .before .before in
+    count-few _ (entry .pre .0)
 
 array-share-prefix-roots : tie.Need-array-share-prefix-roots
 array-share-prefix-roots c =
-    let at-wide = c .before .before .before .before .before in
     let at-copy = c .before .before .before in
-    let entry = at-wide .before .before .before .before in
-    part-roots _ (entry .pre) (at-copy .copy-words .ensures) (at-wide .wide .ensures .0)
+    let at-wide = at-copy .before .before in
+    let entry = at-wide .before .before .before .before .before in
+    part-roots _ (entry .pre .0) (at-copy .copy-words .ensures) (at-wide .wide .ensures .0)
 
 slice-aggregate-merge-words : tie.Need-slice-aggregate-merge-words
 slice-aggregate-merge-words c =
-    let at-wide = c .before .before .before .before .before .before in
     let at-copy = c .before .before .before .before in
-    let entry = at-wide .before .before .before .before in
-    size-roots _ (entry .pre) (at-copy .copy-words .ensures) (at-wide .wide .ensures .0)
+    let at-wide = at-copy .before .before in
+    let entry = at-wide .before .before .before .before .before in
+    size-roots _ (entry .pre .0) (at-copy .copy-words .ensures) (at-wide .wide .ensures .0)
 
 array-share-prefix-labels : tie.Need-array-share-prefix-labels
 array-share-prefix-labels c =
-    let at-wide = c .before .before .before .before .before .before in
     let at-copy = c .before .before .before .before in
-    let entry = at-wide .before .before .before .before in
-    part-labels _ (entry .pre) (at-copy .copy-words .ensures) (at-wide .wide .ensures .0)
+    let at-wide = at-copy .before .before in
+    let entry = at-wide .before .before .before .before .before in
+    part-labels _ (entry .pre .0) (at-copy .copy-words .ensures) (at-wide .wide .ensures .0)
 
 slice-aggregate-merge-words-2 : tie.Need-slice-aggregate-merge-words-2
 slice-aggregate-merge-words-2 c =
-    let at-wide = c .before .before .before .before .before .before .before in
     let at-copy = c .before .before .before .before .before in
-    let entry = at-wide .before .before .before .before in
-    size-labels _ (entry .pre) (at-copy .copy-words .ensures) (at-wide .wide .ensures .0)
+    let at-wide = at-copy .before .before in
+    let entry = at-wide .before .before .before .before .before in
+    size-labels _ (entry .pre .0) (at-copy .copy-words .ensures) (at-wide .wide .ensures .0)
 
 array-share-prefix-goals : tie.Need-array-share-prefix-goals
 array-share-prefix-goals c =
-    let at-wide = c .before .before .before .before .before .before .before in
     let at-copy = c .before .before .before .before .before in
-    let entry = at-wide .before .before .before .before in
-    part-goals _ (entry .pre) (at-copy .copy-words .ensures) (at-wide .wide .ensures .0)
+    let at-wide = at-copy .before .before in
+    let entry = at-wide .before .before .before .before .before in
+    part-goals _ (entry .pre .0) (at-copy .copy-words .ensures) (at-wide .wide .ensures .0)
 
 slice-aggregate-merge-words-3 : tie.Need-slice-aggregate-merge-words-3
 slice-aggregate-merge-words-3 c =
-    let at-wide = c .before .before .before .before .before .before .before .before in
     let at-copy = c .before .before .before .before .before .before in
-    let entry = at-wide .before .before .before .before in
-    size-goals _ (entry .pre) (at-copy .copy-words .ensures) (at-wide .wide .ensures .0)
+    let at-wide = at-copy .before .before in
+    let entry = at-wide .before .before .before .before .before in
+    size-goals _ (entry .pre .0) (at-copy .copy-words .ensures) (at-wide .wide .ensures .0)
 
 merge-words-requires : tie.Need-merge-words-requires
 merge-words-requires c κs =
-    let at-wide = c .before .before .before .before .before .before .before .before .before .before in
-    let at-copy = c .before .before .before .before .before .before .before .before in
-    let entry = at-wide .before .before .before .before in
-    words-asked _ (entry .pre) (at-copy .copy-words .ensures) (at-wide .wide .ensures .0) _ (at-copy .before .if1 .left)
+    let at-copy = c .before .before .before .before .before .before .before .before .before in
+    let at-wide = at-copy .before .before in
+    let entry = at-wide .before .before .before .before .before in
+    (words-asked _ (entry .pre .0) (at-copy .copy-words .ensures) (at-wide .wide .ensures .0) _ (at-copy .before .if1 .left), entry .pre .1)
 
 same-length : tie.Need-same-length
 same-length c = search needs
@@ -82,14 +83,17 @@ same-length c = search needs
 same-length-2 : tie.Need-same-length-2
 same-length-2 c = search needs
 
+same-length-3 : tie.Need-same-length-3
+same-length-3 c = search needs
+
 returns-2 : tie.Need-returns-2
 returns-2 c =
-    let at-wide = c .before .before .before .before .before .before .before .before .before .before .before .before .before .before
-    .before in
-    let at-copy = c .before .before .before .before .before .before .before .before .before .before .before .before .before in
-    let entry = at-wide .before .before .before .before in
-    ends-words _ (entry .pre) (at-copy .copy-words .ensures) (at-wide .wide .ensures .0) _ _ _ _ _ (at-copy .before .if1 .left)
-    (c .before .before .before .before .merge-words .ensures)
+    let at-words = c .before .before .before .before .before .before in
+    let at-copy = at-words .before .before .before .before .before .before .before .before .before .before in
+    let at-wide = at-copy .before .before in
+    let entry = at-wide .before .before .before .before .before in
+    ends-words _ (entry .pre .0) (at-copy .copy-words .ensures) (at-wide .wide .ensures .0) _ _ _ _ _ _ _ (at-copy .before .if1 .left)
+    (at-words .merge-words .ensures)
 
 pub merge-table-spec : {M : Type 1} → statement M
 merge-table-spec =
@@ -109,4 +113,5 @@ merge-table-spec =
     merge-words-requires
     same-length
     same-length-2
+    same-length-3
     returns-2)

@@ -10,24 +10,26 @@ merge-inner-requires c κs = search needs
 refuse-requires : tie.Need-refuse-requires
 refuse-requires c κs =
     let at-inner = c .before .before .before .before in
-    let entry = at-inner .before .before .before .before .before .before .before .before in
-    refused (entry .pre) (at-inner .merge-inner .ensures) (c .before .if1 .taken)
+    let entry = at-inner .before .before .before .before .before .before .before .before .before in
+    refused (entry .pre .0) (at-inner .merge-inner .ensures) (c .before .if1 .taken)
 
 same-length : tie.Need-same-length
 same-length c = search needs
 
 returns : tie.Need-returns
 returns c =
-    let at-inner = c .before .before .before .before .before .before .before in
-    let entry = at-inner .before .before .before .before .before .before .before .before in
-    ends-refused (entry .pre) (at-inner .merge-inner .ensures) _ _ (c .before .before .before .before .if1 .taken)
-    (c .before .before .refuse .ensures)
+    let at-refuse = c .before .before in
+    let at-then = at-refuse .before .before in
+    let at-inner = at-then .before .before .before in
+    let entry = at-inner .before .before .before .before .before .before .before .before .before in
+    ends-refused (entry .pre .0) (at-inner .merge-inner .ensures) _ _ _ _ (at-then .if1 .taken) (at-refuse .refuse .ensures)
 
 finish-requires : tie.Need-finish-requires
 finish-requires c κs =
-    let at-inner = c .before .before .before .before .before in
-    let entry = at-inner .before .before .before .before .before .before .before .before in
-    inside (entry .pre) (at-inner .merge-inner .ensures) (c .before .before .if1 .left)
+    let at-else = c .before .before .before in
+    let at-inner = at-else .before .before .before in
+    let entry = at-inner .before .before .before .before .before .before .before .before .before in
+    (inside (entry .pre .0) (at-inner .merge-inner .ensures) (at-else .if1 .left), entry .pre .1)
 
 same-length-2 : tie.Need-same-length-2
 same-length-2 c = search needs
@@ -35,12 +37,16 @@ same-length-2 c = search needs
 same-length-3 : tie.Need-same-length-3
 same-length-3 c = search needs
 
+same-length-4 : tie.Need-same-length-4
+same-length-4 c = search needs
+
 returns-2 : tie.Need-returns-2
 returns-2 c =
-    let at-inner = c .before .before .before .before .before .before .before .before .before .before in
-    let entry = at-inner .before .before .before .before .before .before .before .before in
-    ends-written (entry .pre) (at-inner .merge-inner .ensures) _ _ _ (c .before .before .before .before .before .before .before .if1 .left)
-    (c .before .before .before .before .finish .ensures)
+    let at-finish = c .before .before .before .before .before .before in
+    let at-else = at-finish .before .before .before .before in
+    let at-inner = at-else .before .before .before in
+    let entry = at-inner .before .before .before .before .before .before .before .before .before in
+    ends-written (entry .pre .0) (at-inner .merge-inner .ensures) _ _ _ _ (at-else .if1 .left) (at-finish .finish .ensures)
 
 pub merge-words-spec : {M : Type 1} → statement M
 merge-words-spec =
@@ -53,4 +59,5 @@ merge-words-spec =
     finish-requires
     same-length-2
     same-length-3
+    same-length-4
     returns-2)

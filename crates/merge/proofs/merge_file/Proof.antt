@@ -1,9 +1,9 @@
--- `merge::merge` is the check's refusal or what the words come to.
+-- `merge::merge_file` is the check's refusal or what the words come to.
 use mathlib.Core.Path.{refl}
 use Rattle.merge.proofs.Answered.{table-asked, ends-refused, ends-table}
 use borrow.Author.Needs.{needs}
-use Rattle.merge.proofs.merge.Statement.{statement}
-use Rattle.merge.proofs.merge.Tie as tie
+use Rattle.merge.proofs.merge_file.Statement.{statement}
+use Rattle.merge.proofs.merge_file.Tie as tie
 
 check-requires : tie.Need-check-requires
 check-requires c κs = search needs
@@ -13,8 +13,10 @@ enum-known-q c = search needs
 
 merge-table-requires : tie.Need-merge-table-requires
 merge-table-requires c κs =
-    let at-q = c .before .before .before in
-    table-asked _ (at-q .before .before .check .ensures) (at-q .q .given .1)
+    let at-q = c .before .before .before .before in
+    let at-check = at-q .before .before in
+    let entry = at-check .before .before .before .before .before in
+    (table-asked _ (at-check .check .ensures) (at-q .q .given .1), entry .pre)
 
 enum-known-length : tie.Need-enum-known-length
 enum-known-length c = search needs
@@ -34,34 +36,37 @@ same-length c = search needs
 same-length-2 : tie.Need-same-length-2
 same-length-2 c = search needs
 
+same-length-3 : tie.Need-same-length-3
+same-length-3 c = search needs
+
 returns : tie.Need-returns
 returns c =
-    let at-merge = c .before .before .before .before in
-    let at-q = at-merge .before .before .before .before in
-    ends-table _ _ _ _ _ _ (table-asked _ (at-q .before .before .check .ensures) (at-q .q .given .1) .0) (at-merge .merge-table .ensures)
+    let at-merge = c .before .before .before .before .before .before in
+    let at-q = at-merge .before .before .before .before .before in
+    ends-table _ _ _ _ _ _ _ (table-asked _ (at-q .before .before .check .ensures) (at-q .q .given .1) .0) (at-merge .merge-table .ensures)
 
 returns-2 : tie.Need-returns-2
 returns-2 c =
     let at-arm = c .before in
-    ends-refused _ _ _ _ (at-arm .before .before .check .ensures) (at-arm .length .given .1) refl refl
+    ends-refused _ _ _ _ _ (at-arm .before .before .check .ensures) (at-arm .length .given .1) refl refl
 
 returns-3 : tie.Need-returns-3
 returns-3 c =
     let at-arm = c .before in
-    ends-refused _ _ _ _ (at-arm .before .before .check .ensures) (at-arm .place .given .1) refl refl
+    ends-refused _ _ _ _ _ (at-arm .before .before .check .ensures) (at-arm .place .given .1) refl refl
 
 returns-4 : tie.Need-returns-4
 returns-4 c =
     let at-arm = c .before in
-    ends-refused _ _ _ _ (at-arm .before .before .check .ensures) (at-arm .index .given .1) refl refl
+    ends-refused _ _ _ _ _ (at-arm .before .before .check .ensures) (at-arm .index .given .1) refl refl
 
 returns-5 : tie.Need-returns-5
 returns-5 c =
     let at-arm = c .before in
-    ends-refused _ _ _ _ (at-arm .before .before .check .ensures) (at-arm .index2 .given .1) refl refl
+    ends-refused _ _ _ _ _ (at-arm .before .before .check .ensures) (at-arm .index2 .given .1) refl refl
 
-pub merge-spec : {M : Type 1} → statement M
-merge-spec =
+pub merge-file-spec : {M : Type 1} → statement M
+merge-file-spec =
     tie.close
     (tie.spec
     check-requires
@@ -73,6 +78,7 @@ merge-spec =
     enum-known-index-2
     same-length
     same-length-2
+    same-length-3
     returns
     returns-2
     returns-3
