@@ -162,20 +162,19 @@ pub frame-passed : {f : Frame} {bad : Bool} {b : ℕ} → bad ≡ frameBad f →
     → blockCount f ≤ b → FramePassed f
 frame-passed {f} e h p l = record { frameGood = sym e ∙ h; blocksGood = subst (λ x. blockCount f ≤ x) p l }
 
+pub index-good : {f : Frame} → FramePassed f → (b : ℕ) → b < blockCount f → getD (f .indices) b 0 < f .k
+unfolding blockBad
+index-good {f} P b h =
+    let F = first-ok (blockBad f) (blockCount f) in
+    let e = is-false (blockBad f b) (F .miss b (omega (arith, P .blocksGood))) in
+    let s = blockSection f b in
+    let fits = fitsBlock (nOf s) (getD (f .received) b 0) (getD (f .erased) b 0) (qOf s) in
+    let t = both (ltb (getD (f .indices) b 0) (f .k)) fits (holds (not-false (ltb (getD (f .indices) b 0) (f .k) && fits) e)) in
+    ltb-true (getD (f .indices) b 0) (f .k) (is-true _ (t .0))
+
 pub checked : {f : Frame} {starts : List ℕ} {views : List View} → AllFound (f .sections) starts views (f .k) → FramePassed f
     → FrameChecked f starts views
-unfolding blockBad
-checked {f} A P = record {
-  sectionsFound = A;
-  framed = framed-of (P .frameGood);
-  indexBelow = λ b h.
-      let F = first-ok (blockBad f) (blockCount f) in
-      let e = is-false (blockBad f b) (F .miss b (omega (arith, P .blocksGood))) in
-      let s = blockSection f b in
-      let fits = fitsBlock (nOf s) (getD (f .received) b 0) (getD (f .erased) b 0) (qOf s) in
-      let t = both (ltb (getD (f .indices) b 0) (f .k)) fits (holds (not-false (ltb (getD (f .indices) b 0) (f .k) && fits) e)) in
-      ltb-true (getD (f .indices) b 0) (f .k) (is-true _ (t .0));
-}
+checked A P = record { sectionsFound = A; framed = framed-of (P .frameGood); indexBelow = index-good P }
 
 pub views-of : {sections starts : List ℕ} {views : List View} {k : ℕ} → AllFound sections starts views k → Views views k
 unfolding viewOf

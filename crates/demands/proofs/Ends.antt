@@ -19,7 +19,7 @@ use Rattle.merge.specs.Merging.{Merging, mapLength, written, merged, mergedTabl
 use Rattle.paths.specs.Choice.{Choice, none, some}
 use Rattle.read_back.specs.ReadingBack.{ReadingBack, isSection, fileLength, readingBack}
 use Rattle.chain.specs.Sections.{sectionsBad}
-use Rattle.chain.specs.Frame.{frameBad, blockBad}
+use Rattle.chain.specs.Frame.{Frame, blockCount, frameBad, blockBad}
 use Rattle.chain.specs.Decoding.{Decoding, left, neededOf, bestOf, found as decoded, fitted, framed, decoding}
 use Rattle.demands.specs.Demands.{MergingEnds, ReadingBackEnds, DecodingEnds}
 
@@ -93,11 +93,11 @@ reading-back-ends section file =
 
 -- ---- decoding
 
-module _ (sections : List ℕ) (k : ℕ) (indices received erased : List ℕ) (start end : ℕ) (costs labels goals : List ℕ) where
+module _ (f : Frame) (costs labels goals : List ℕ) where
   abbrev DecodingKept : Decoding → Type 0
   DecodingKept d = DecodingEnds costs labels goals d
 
-  by-path : (c : Choice (List Word)) → DecodingKept (decoded sections k indices received erased start end costs labels goals c)
+  by-path : (c : Choice (List Word)) → DecodingKept (decoded f costs labels goals c)
   unfolding decoded isIn
   by-path none = record {
     listed = is-in 11 _ tt;
@@ -116,11 +116,11 @@ module _ (sections : List ℕ) (k : ℕ) (indices received erased : List ℕ) (s
       → DecodingKept (left (outcome number values) costs labels goals)
   all-kept number values t = record { listed = is-in number _ t; wordsKept = λ h. (refl, refl); costsKept = λ m. refl }
 
-  pub decoding-ends : DecodingKept (decoding sections k indices received erased start end costs labels goals)
+  pub decoding-ends : DecodingKept (decoding f costs labels goals)
   unfolding decoding framed fitted isIn
   decoding-ends =
-      ends DecodingKept (sectionsBad sections k) (all-kept 8 _ tt)
-      (ends DecodingKept (frameBad indices received erased start end) (all-kept 9 _ tt)
-      (ends DecodingKept (ltb (first (blockBad sections indices received erased k) (length indices)) (length indices)) (all-kept 9 _ tt)
-      (ends DecodingKept (ltb 0 (neededOf (length indices) (length costs) (length labels) (length goals))) (all-kept 10 _ tt)
-      (by-path (bestOf sections k indices received erased start end)))))
+      ends DecodingKept (sectionsBad (f .sections) (f .k)) (all-kept 8 _ tt)
+      (ends DecodingKept (frameBad f) (all-kept 9 _ tt)
+      (ends DecodingKept (ltb (first (blockBad f) (blockCount f)) (blockCount f)) (all-kept 9 _ tt)
+      (ends DecodingKept (ltb 0 (neededOf (blockCount f) (length costs) (length labels) (length goals))) (all-kept 10 _ tt)
+      (by-path (bestOf f)))))

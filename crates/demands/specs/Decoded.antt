@@ -4,36 +4,36 @@ use mathlib.Core.Path.{_≡_}
 use mathlib.Core.Logic.{_↔_}
 use mathlib.Core.List.{List}
 use Prim.Native.Nat.{ℕ, suc, _+_, _-_, _*_, _<_}
-use lib.ListN.{length, getD}
+use lib.ListN.{getD}
 use Rattle.trellis.specs.Bounds.{mostStates, costsABlock}
 use Rattle.trellis.specs.Lists.{_∈_}
 use Rattle.trellis.specs.Word.{Word, wordAt}
 use Rattle.trellis.specs.Layout.{sectionWords}
 use Rattle.trellis.specs.Outcome.{success, noPath}
 use Rattle.paths.specs.Chain.{endsIn, chainPaths, pathDistance, costTable, IsChainPath, Winner}
-use Rattle.chain.specs.Frame.{blockSection, blockWords, wordDistance}
+use Rattle.chain.specs.Frame.{Frame, blockCount, blockSection, blockWords, wordDistance}
 use Rattle.chain.specs.Decoding.{Decoding}
 
-module _ (sections indices received erased : List ℕ) (start end : ℕ) where
+module _ (f : Frame) where
   -- a path takes a word of each block's section, a word's goal is the next one's root, and it goes from the start state to the end state
   abbrev pub IsFramePath : List Word → Type 0
-  IsFramePath p = IsChainPath (blockWords sections indices received erased) (endsIn end) (length indices) 0 start p
+  IsFramePath p = IsChainPath (blockWords f) (endsIn (f .end)) (blockCount f) 0 (f .start) p
 
   abbrev pub framePaths : List (List Word)
-  framePaths = chainPaths (blockWords sections indices received erased) (endsIn end) (length indices) 0 start
+  framePaths = chainPaths (blockWords f) (endsIn (f .end)) (blockCount f) 0 (f .start)
 
   abbrev pub frameDistance : List Word → ℕ
-  frameDistance p = pathDistance (wordDistance sections indices received erased) 0 p
+  frameDistance p = pathDistance (wordDistance f) 0 p
 
   -- the least distance from state s before block b to the end state after the last block, 4294967295 where there is no path
   abbrev pub leastDistance : ℕ → ℕ → ℕ
   leastDistance b s =
-      costTable (blockWords sections indices received erased) (endsIn end) (wordDistance sections indices received erased)
-      (length indices - b) b s
+      costTable (blockWords f) (endsIn (f .end)) (wordDistance f)
+      (blockCount f - b) b s
 
   -- the cost table has a place for each state of each block
   pub record Tabled (costs : List ℕ) : Type 0 where
-    pub at : (b s : ℕ) → b < length indices → s < mostStates → getD costs (costsABlock * b + s) 0 ≡ leastDistance b s
+    pub at : (b s : ℕ) → b < blockCount f → s < mostStates → getD costs (costsABlock * b + s) 0 ≡ leastDistance b s
 
   -- no list of words is a path
   pub record NoneFound (r : Decoding) : Type 0 where
@@ -46,14 +46,14 @@ module _ (sections indices received erased : List ℕ) (start end : ℕ) where
     pub words : List Word
     pub wins : Winner frameDistance framePaths words
     pub distanceIs : d ≡ frameDistance words
-    pub labelAt : (b : ℕ) → b < length indices → getD (r .labels) b 0 ≡ wordAt words b .label
-    pub goalAt : (b : ℕ) → b < length indices → getD (r .goals) b 0 ≡ wordAt words b .goal
-    pub inSection : (b : ℕ) → b < length indices → wordAt words b ∈ sectionWords (blockSection sections indices received erased b)
+    pub labelAt : (b : ℕ) → b < blockCount f → getD (r .labels) b 0 ≡ wordAt words b .label
+    pub goalAt : (b : ℕ) → b < blockCount f → getD (r .goals) b 0 ≡ wordAt words b .goal
+    pub inSection : (b : ℕ) → b < blockCount f → wordAt words b ∈ sectionWords (blockSection f b)
     pub table : Tabled (r .costs)
     -- what is left to pay drops by each word's distance
-    pub drops : (b : ℕ) → b < length indices
+    pub drops : (b : ℕ) → b < blockCount f
         → leastDistance b (wordAt words b .root)
-        ≡ wordDistance sections indices received erased b (wordAt words b) + leastDistance (suc b) (wordAt words b .goal)
+        ≡ wordDistance f b (wordAt words b) + leastDistance (suc b) (wordAt words b .goal)
 
   -- and all paths are listed, and nothing else
   pub record Meaning (r : Decoding) : Type 0 where

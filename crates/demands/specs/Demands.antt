@@ -15,6 +15,7 @@ use Rattle.trellis.specs.Outcome.{Outcome, success, notRectangular}
 use Rattle.table.specs.File.{tableFile, accepted}
 use Rattle.merge.specs.Merging.{Merging, mapLength, merging}
 use Rattle.read_back.specs.ReadingBack.{ReadingBack, left, readingBack}
+use Rattle.chain.specs.Frame.{Frame}
 use Rattle.chain.specs.Decoding.{Decoding, decoding}
 use Rattle.demands.specs.Decoded.{Meaning}
 
@@ -94,13 +95,13 @@ pub record Smallest (n : ℕ) (table : List Word) (l : List ℕ) : Type 0 where
 pub record Demands : Type 0 where
   pub mergingEnds : (file map section : List ℕ) → MergingEnds map section (merging file map section)
   pub readingBackEnds : (section file : List ℕ) → ReadingBackEnds file (readingBack section file)
-  pub decodingEnds : (sections : List ℕ) (k : ℕ) (indices received erased : List ℕ) (start end : ℕ) (costs labels goals : List ℕ)
-      → DecodingEnds costs labels goals (decoding sections k indices received erased start end costs labels goals)
+  pub decodingEnds : (f : Frame) (costs labels goals : List ℕ)
+      → DecodingEnds costs labels goals (decoding f costs labels goals)
   pub decided : {file map section : List ℕ} {q n states : ℕ} {table : List Word} → Fair file q n states table map section
       → Decided n table (merging file map section)
   pub sameWords : {file map section : List ℕ} {q n states : ℕ} {table : List Word} → Fair file q n states table map section
       → IsAccepted (merging file map section) → SameWords file q n states table (sectionLeft (merging file map section))
-  pub decoder : (sections : List ℕ) (k : ℕ) (indices received erased : List ℕ) (start end : ℕ) (costs labels goals : List ℕ)
-      → Meaning sections indices received erased start end (decoding sections k indices received erased start end costs labels goals)
+  pub decoder : (f : Frame) (costs labels goals : List ℕ)
+      → Meaning f (decoding f costs labels goals)
   pub smallest : {file map section : List ℕ} {q n states : ℕ} {table : List Word} → Fair file q n states table map section
       → IsAccepted (merging file map section) → Smallest n table (sectionLeft (merging file map section))

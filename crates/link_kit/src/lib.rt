@@ -3,6 +3,7 @@
 // every buffer as its layer does. No call asks anything of its arguments.
 ghost use Rattle.merge.specs.Merging.{merging};
 ghost use Rattle.read_back.specs.ReadingBack.{readingBack};
+ghost use Rattle.chain.specs.Frame.{frame};
 ghost use Rattle.chain.specs.Decoding.{decoding};
 ghost use Rattle.listing.specs.Listing.{listing};
 ghost use Rattle.link_kit.specs.Left.{MergeLeft, ReadBackLeft, DecodeLeft, ListingLeft};
@@ -58,8 +59,9 @@ pub extern "C" fn link_decode(
     goals: &mut [u8],
     values: &mut [u32; 4],
 ) -> u32
-    ensures { λ r. ⌜ DecodeLeft (decoding (now (sections .entry)) k (now (indices .entry)) (now (received .entry)) (now (erased .entry))
-        start end (now (costs .entry)) (now (labels .entry)) (now (goals .entry))) r
+    ensures { λ r. ⌜ DecodeLeft (decoding
+        (frame (now (sections .entry)) k (now (indices .entry)) (now (received .entry)) (now (erased .entry)) start end)
+        (now (costs .entry)) (now (labels .entry)) (now (goals .entry))) r
         (now (costs .exit)) (now (labels .exit)) (now (goals .exit)) (now (values .exit)) ⌝ }
 {
     let answer = chain::decode(
