@@ -18,30 +18,54 @@ is-within-requires : tie.Need-is-within-requires
 is-within-requires c κs = search needs
 
 returns : tie.Need-returns
-returns c = ends-section (frame-of (c .before .before .before .before .before .before .before .before .before)) _ _ _ (many-sections (c .before .is-within .ensures) (c .if1 .taken))
+returns c =
+    let entry = c .before .before .before .before .before .before .before .before .before in
+    ends-section (frame-of entry) _ _ _ (many-sections (c .before .is-within .ensures) (c .if1 .taken))
 
 find-sections-requires : tie.Need-find-sections-requires
-find-sections-requires c κs = within-to 1 mostSections (c .before .before .before .before .before .before .before .before .before .args .k) (c .before .is-within .ensures) (c .if1 .left)
+find-sections-requires c κs =
+    let entry = c .before .before .before .before .before .before .before .before .before in
+    within-to 1 mostSections (entry .args .k) (c .before .is-within .ensures) (c .if1 .left)
 
 returns-2 : tie.Need-returns-2
 returns-2 c =
-    ends-section (frame-of (c .before .before .before .before .before .before .before .before .before .before .before .before)) _ _ _
-    (unusable-section (c .before .before .before .before .is-within .ensures) (c .before .before .before .if1 .left) (c .before .before .find-sections .ensures) (c .if2 .taken))
+    let find-sections = c .before .before in
+    let else1 = find-sections .before in
+    let is-within = else1 .before in
+    let entry = is-within .before .before .before .before .before .before .before .before in
+    ends-section (frame-of entry) _ _ _
+    (unusable-section (is-within .is-within .ensures) (else1 .if1 .left) (find-sections .find-sections .ensures) (c .if2 .taken))
 
 mul-if3 : tie.Need-mul-if3
-mul-if3 c = let k = within-to 1 mostSections (c .before .before .before .before .before .before .before .before .before .before .before .before .before .before .args .k) (c .before .before .before .before .before .before .is-within .ensures) (c .before .before .before .before .before .if1 .left) in search needs
+mul-if3 c =
+    let else1 = c .before .before .before .before .before in
+    let is-within = else1 .before in
+    let entry = is-within .before .before .before .before .before .before .before .before in
+    let k = within-to 1 mostSections (entry .args .k) (is-within .is-within .ensures) (else1 .if1 .left) in search needs
 
 array-read-if3 : tie.Need-array-read-if3
-array-read-if3 c = let k = within-to 1 mostSections (c .before .before .before .before .before .before .before .before .before .before .before .before .before .before .args .k) (c .before .before .before .before .before .before .is-within .ensures) (c .before .before .before .before .before .if1 .left) in search needs
+array-read-if3 c =
+    let else1 = c .before .before .before .before .before in
+    let is-within = else1 .before in
+    let entry = is-within .before .before .before .before .before .before .before .before in
+    let k = within-to 1 mostSections (entry .args .k) (is-within .is-within .ensures) (else1 .if1 .left) in search needs
 
 returns-3 : tie.Need-returns-3
 returns-3 c =
-    ends-section (frame-of (c .before .before .before .before .before .before .before .before .before .before .before .before .before .before .before)) _ _ _
-    (left-over (c .before .before .before .before .before .before .before .is-within .ensures) (c .before .before .before .before .before .before .if1 .left) (c .before .before .before .before .before .find-sections .ensures) (search needs) (c .if3 .taken))
+    let find-sections = c .before .before .before .before .before in
+    let else1 = find-sections .before in
+    let is-within = else1 .before in
+    let entry = is-within .before .before .before .before .before .before .before .before in
+    ends-section (frame-of entry) _ _ _
+    (left-over (is-within .is-within .ensures) (else1 .if1 .left) (find-sections .find-sections .ensures) (search needs) (c .if3 .taken))
 
 decode-frame-requires : tie.Need-decode-frame-requires
 decode-frame-requires c κs =
-    sections-good (c .before .before .before .before .before .before .before .before .before .before .before .is-within .ensures) (c .before .before .before .before .before .before .before .before .before .before .if1 .left) (c .before .before .before .before .before .before .before .before .before .find-sections .ensures) (search needs) (c .before .before .before .before .if3 .left) .found
+    let else3 = c .before .before .before .before in
+    let find-sections = else3 .before .before .before .before .before in
+    let else1 = find-sections .before in
+    let is-within = else1 .before in
+    sections-good (is-within .is-within .ensures) (else1 .if1 .left) (find-sections .find-sections .ensures) (search needs) (else3 .if3 .left) .found
 
 same-length : tie.Need-same-length
 same-length c = search needs
@@ -54,9 +78,15 @@ same-length-3 c = search needs
 
 returns-4 : tie.Need-returns-4
 returns-4 c =
-    past-sections (frame-of (c .before .before .before .before .before .before .before .before .before .before .before .before .before .before .before .before .before .before .before .before .before .before .before .before .before .before)) _ _ _
-    (sections-good (c .before .before .before .before .before .before .before .before .before .before .before .before .before .before .before .before .before .before .is-within .ensures) (c .before .before .before .before .before .before .before .before .before .before .before .before .before .before .before .before .before .if1 .left) (c .before .before .before .before .before .before .before .before .before .before .before .before .before .before .before .before .find-sections .ensures) (search needs) (c .before .before .before .before .before .before .before .before .before .before .before .if3 .left) .good)
-    (c .before .before .before .before .before .before .decode-frame .ensures)
+    let decode-frame = c .before .before .before .before .before .before in
+    let else3 = decode-frame .before .before .before .before .before in
+    let find-sections = else3 .before .before .before .before .before in
+    let else1 = find-sections .before in
+    let is-within = else1 .before in
+    let entry = is-within .before .before .before .before .before .before .before .before in
+    past-sections (frame-of entry) _ _ _
+    (sections-good (is-within .is-within .ensures) (else1 .if1 .left) (find-sections .find-sections .ensures) (search needs) (else3 .if3 .left) .good)
+    (decode-frame .decode-frame .ensures)
 
 pub decode-spec : {M : Type 1} → statement M
 decode-spec =

@@ -18,7 +18,10 @@ slice-aggregate-decode-with c = search needs
 
 decode-with-requires : tie.Need-decode-with-requires
 decode-with-requires c κs =
-    (c .before .before .before .before .before .before .before .before .before .before .before .before .before .before .pre, room-of (c .before .before .before .before .before .before .before .before .before .before .before .before .before .before .pre .checks .framed .some) (c .before .before .before .before .before .before .needed .ensures) (search needs), omega (arith, c .before .before .before .before .if2 .taken))
+    let then2 = c .before .before .before .before in
+    let needed = then2 .before .before in
+    let entry = needed .before .before .before .before .before .before .before .before in
+    (entry .pre, room-of (entry .pre .checks .framed .some) (needed .needed .ensures) (search needs), omega (arith, then2 .if2 .taken))
 
 same-length : tie.Need-same-length
 same-length c = search needs
@@ -37,7 +40,9 @@ slice-aggregate-decode-with-2 c = search needs
 
 decode-with-requires-2 : tie.Need-decode-with-requires-2
 decode-with-requires-2 c κs =
-    (c .before .before .before .before .before .before .before .before .before .before .before .before .before .before .pre, room-of (c .before .before .before .before .before .before .before .before .before .before .before .before .before .before .pre .checks .framed .some) (c .before .before .before .before .before .before .needed .ensures) (search needs), picks-enough (c .before .before .before .before .before .before .before .before .before .before .before .before .before .before .pre .checks .framed .many))
+    let needed = c .before .before .before .before .before .before in
+    let entry = needed .before .before .before .before .before .before .before .before in
+    (entry .pre, room-of (entry .pre .checks .framed .some) (needed .needed .ensures) (search needs), picks-enough (entry .pre .checks .framed .many))
 
 same-length-4 : tie.Need-same-length-4
 same-length-4 c = search needs

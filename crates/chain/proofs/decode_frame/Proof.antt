@@ -25,7 +25,9 @@ frame-bad-requires : tie.Need-frame-bad-requires
 frame-bad-requires c κs = search needs
 
 returns : tie.Need-returns
-returns c = ends-frame (frame-of (c .before .before .before .before .before .before .before .before .before)) _ _ _ (c .before .frame-bad .ensures _ _) (c .if1 .taken)
+returns c =
+    let entry = c .before .before .before .before .before .before .before .before .before in
+    ends-frame (frame-of entry) _ _ _ (c .before .frame-bad .ensures _ _) (c .if1 .taken)
 
 first-bad-requires : tie.Need-first-bad-requires
 first-bad-requires c κs =
@@ -41,7 +43,10 @@ returns-2 c =
     (c .before .first-bad .ensures (f .sections) (s .args .starts .now) (f .start) (f .end) (s .pre .found)) (c .if2 .taken)
 
 decode-blocks-requires : tie.Need-decode-blocks-requires
-decode-blocks-requires c κs = record { k = c .before .before .before .before .before .before .before .before .before .before .before .before .before .before .args .k; checks = checked (c .before .before .before .before .before .before .before .before .before .before .before .before .before .before .pre) (passed (c .before .before .before)) }
+decode-blocks-requires c κs =
+    let else2 = c .before .before .before in
+    let entry = else2 .before .before .before .before .before .before .before .before .before .before .before in
+    record { k = entry .args .k; checks = checked (entry .pre) (passed else2) }
 
 same-length : tie.Need-same-length
 same-length c = search needs
@@ -53,7 +58,11 @@ same-length-3 : tie.Need-same-length-3
 same-length-3 c = search needs
 
 returns-3 : tie.Need-returns-3
-returns-3 c = past-frame (frame-of (c .before .before .before .before .before .before .before .before .before .before .before .before .before .before .before .before .before .before .before .before .before)) _ _ _ (passed (c .before .before .before .before .before .before .before .before .before .before)) (c .before .before .before .before .before .before .decode-blocks .ensures (c .before .before .before .before .before .before .before .before .before .before .before .before .before .before .before .before .before .before .before .before .before .args .k))
+returns-3 c =
+    let decode-blocks = c .before .before .before .before .before .before in
+    let else2 = decode-blocks .before .before .before .before in
+    let entry = else2 .before .before .before .before .before .before .before .before .before .before .before in
+    past-frame (frame-of entry) _ _ _ (passed else2) (decode-blocks .decode-blocks .ensures (entry .args .k))
 
 pub decode-frame-spec : {M : Type 1} → statement M
 decode-frame-spec =

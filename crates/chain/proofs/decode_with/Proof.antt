@@ -14,7 +14,10 @@ ends-in-requires : tie.Need-ends-in-requires
 ends-in-requires c κs = search needs
 
 fill-table-requires : tie.Need-fill-table-requires
-fill-table-requires c κs = (ready (c .before .before .before .before .before .before .before .before .before .before .before .before .before .pre .0 .checks), c .before .before .ends-in .ensures .long, c .before .before .before .before .before .before .before .before .before .before .before .before .before .pre .1 .forCosts, c .before .before .before .before .before .before .before .before .before .before .before .before .before .pre .2)
+fill-table-requires c κs =
+    let ends-in = c .before .before in
+    let entry = ends-in .before .before .before .before .before .before .before .before .before .before .before in
+    (ready (entry .pre .0 .checks), ends-in .ends-in .ensures .long, entry .pre .1 .forCosts, entry .pre .2)
 
 mul-distance : tie.Need-mul-distance
 mul-distance c = search needs
@@ -30,13 +33,24 @@ same-length-2 c = search needs
 
 returns : tie.Need-returns
 returns c =
-    with-none (c .before .before .before .before .before .before .before .before .before .before .before .before .before .before .before .before .before .before .before .before .pre .0) (c .before .before .before .before .before .before .before .before .before .before .before .widened .ensures .0) (c .before .before .before .before .before .before .before .before .before .before .widened2 .ensures .0) (c .before .before .before .before .before .before .before .before .before .ends-in .ensures) (c .before .before .before .before .before .before .before .before .before .before .before .before .before .before .before .before .before .before .before .before .pre .1) (c .before .before .before .before .before .before .fill-table .ensures)
+    let fill-table = c .before .before .before .before .before .before in
+    let ends-in = fill-table .before .before .before in
+    let widened2 = ends-in .before in
+    let widened = widened2 .before in
+    let entry = widened .before .before .before .before .before .before .before .before .before in
+    with-none (entry .pre .0) (widened .widened .ensures .0) (widened2 .widened2 .ensures .0) (ends-in .ends-in .ensures) (entry .pre .1) (fill-table .fill-table .ensures)
     (c .if1 .taken)
 
 follow-requires : tie.Need-follow-requires
 follow-requires c κs =
-    with-picks (c .before .before .before .before .before .before .before .before .before .before .before .before .before .before .before .before .before .before .before .before .before .before .before .pre .0) (c .before .before .before .before .before .before .before .before .before .before .before .before .before .before .widened .ensures .0) (c .before .before .before .before .before .before .before .before .before .before .before .before .before .widened2 .ensures .0) (c .before .before .before .before .before .before .before .before .before .before .before .before .ends-in .ensures) (c .before .before .before .before .before .before .before .before .before .before .before .before .before .before .before .before .before .before .before .before .before .before .before .pre .1) (c .before .before .before .before .before .before .before .before .before .fill-table .ensures)
-    (c .before .before .before .if1 .left) (c .before .before .before .before .before .before .before .before .before .before .before .before .before .before .before .before .before .before .before .before .before .before .before .pre .2)
+    let else1 = c .before .before .before in
+    let fill-table = else1 .before .before .before .before .before .before in
+    let ends-in = fill-table .before .before .before in
+    let widened2 = ends-in .before in
+    let widened = widened2 .before in
+    let entry = widened .before .before .before .before .before .before .before .before .before in
+    with-picks (entry .pre .0) (widened .widened .ensures .0) (widened2 .widened2 .ensures .0) (ends-in .ends-in .ensures) (entry .pre .1) (fill-table .fill-table .ensures)
+    (else1 .if1 .left) (entry .pre .2)
 
 same-length-3 : tie.Need-same-length-3
 same-length-3 c = search needs
@@ -52,8 +66,15 @@ same-length-6 c = search needs
 
 returns-2 : tie.Need-returns-2
 returns-2 c =
-    with-path (c .before .before .before .before .before .before .before .before .before .before .before .before .before .before .before .before .before .before .before .before .before .before .before .before .before .before .before .before .pre .0) (c .before .before .before .before .before .before .before .before .before .before .before .before .before .before .before .before .before .before .before .widened .ensures .0) (c .before .before .before .before .before .before .before .before .before .before .before .before .before .before .before .before .before .before .widened2 .ensures .0) (c .before .before .before .before .before .before .before .before .before .before .before .before .before .before .before .before .before .ends-in .ensures) (c .before .before .before .before .before .before .before .before .before .before .before .before .before .before .before .before .before .before .before .before .before .before .before .before .before .before .before .before .pre .1)
-    (c .before .before .before .before .before .before .before .before .before .before .before .before .before .before .fill-table .ensures) (c .before .before .before .before .before .before .before .before .if1 .left) (c .before .before .before .before .follow .ensures)
+    let follow = c .before .before .before .before in
+    let else1 = follow .before .before .before .before in
+    let fill-table = else1 .before .before .before .before .before .before in
+    let ends-in = fill-table .before .before .before in
+    let widened2 = ends-in .before in
+    let widened = widened2 .before in
+    let entry = widened .before .before .before .before .before .before .before .before .before in
+    with-path (entry .pre .0) (widened .widened .ensures .0) (widened2 .widened2 .ensures .0) (ends-in .ends-in .ensures) (entry .pre .1)
+    (fill-table .fill-table .ensures) (else1 .if1 .left) (follow .follow .ensures)
 
 pub decode-with-spec : {M : Type 1} → statement M
 decode-with-spec =

@@ -23,7 +23,10 @@ widened-requires : tie.Need-widened-requires Inv-loop μ-loop
 widened-requires c κs = search needs
 
 returns : tie.Need-returns Inv-loop μ-loop
-returns c = blocks-index (c .before .before .before .before .loop .inv) (c .before .widened .ensures .0) (c .before .before .before .loop-test .taken) (c .if1 .taken)
+returns c =
+    let turn = c .before .before .before in
+    let head = turn .before in
+    blocks-index (head .loop .inv) (c .before .widened .ensures .0) (turn .loop-test .taken) (c .if1 .taken)
 
 mul-at : tie.Need-mul-at Inv-loop μ-loop
 mul-at c = search needs
@@ -41,11 +44,17 @@ shared-slice-read-fits-2 : tie.Need-shared-slice-read-fits-2 Inv-loop μ-loop
 shared-slice-read-fits-2 c = search needs
 
 fits-requires : tie.Need-fits-requires Inv-loop μ-loop
-fits-requires c κs = c .before .before .before .before .before .before .before .before .before .before .before .pre .0 .short (c .before .before .before .before .widened .result) (search needs)
+fits-requires c κs =
+    let widened = c .before .before .before .before in
+    let entry = widened .before .before .before .before .before .before .before in
+    entry .pre .0 .short (widened .widened .result) (search needs)
 
 returns-2 : tie.Need-returns-2 Inv-loop μ-loop
 returns-2 c =
-    blocks-unfit (c .before .before .before .before .before .before .before .before .before .loop .inv) (c .before .before .before .before .before .before .widened .ensures .0) (search needs) (c .before .fits2 .ensures) (c .before .before .before .before .before .before .before .before .loop-test .taken) (c .if2 .taken)
+    let widened = c .before .before .before .before .before .before in
+    let turn = widened .before .before in
+    let head = turn .before in
+    blocks-unfit (head .loop .inv) (widened .widened .ensures .0) (search needs) (c .before .fits2 .ensures) (turn .loop-test .taken) (c .if2 .taken)
 
 add-b : tie.Need-add-b Inv-loop μ-loop
 add-b c = search needs
@@ -55,7 +64,10 @@ loop-less c = search needs
 
 loop-again : tie.Need-loop-again Inv-loop μ-loop
 loop-again c =
-    blocks-more (c .before .before .before .before .before .before .before .before .before .loop .inv) (c .before .before .before .before .before .before .widened .ensures .0) (search needs) (c .before .fits2 .ensures) (c .before .before .before .before .before .before .before .before .loop-test .taken) (c .if2 .left)
+    let widened = c .before .before .before .before .before .before in
+    let turn = widened .before .before in
+    let head = turn .before in
+    blocks-more (head .loop .inv) (widened .widened .ensures .0) (search needs) (c .before .fits2 .ensures) (turn .loop-test .taken) (c .if2 .left)
 
 returns-3 : tie.Need-returns-3 Inv-loop μ-loop
 returns-3 c = blocks-none (c .before .loop .inv) (search needs)

@@ -25,22 +25,41 @@ mul-pick-2 : tie.Need-mul-pick-2 Inv-loop μ-loop
 mul-pick-2 c = search (needs, here (c .before .before .before .before .before .pre) (c .before .loop .inv) (c .loop-test .taken))
 
 shared-slice-read-pick : tie.Need-shared-slice-read-pick Inv-loop μ-loop
-shared-slice-read-pick c = search (needs, here (c .before .before .before .before .before .before .pre) (c .before .before .loop .inv) (c .before .loop-test .taken))
+shared-slice-read-pick c =
+    let head = c .before .before in
+    let entry = head .before .before .before .before in
+    search (needs, here (entry .pre) (head .loop .inv) (c .before .loop-test .taken))
 
 goal-of-requires : tie.Need-goal-of-requires Inv-loop μ-loop
 goal-of-requires c κs = search needs
 
 label-of-requires : tie.Need-label-of-requires Inv-loop μ-loop
-label-of-requires c κs = search (needs, here (c .before .before .before .before .before .before .before .pre) (c .before .before .before .loop .inv) (c .before .before .loop-test .taken))
+label-of-requires c κs =
+    let turn = c .before .before in
+    let head = turn .before in
+    let entry = head .before .before .before .before in
+    search (needs, here (entry .pre) (head .loop .inv) (turn .loop-test .taken))
 
 mul-labels : tie.Need-mul-labels Inv-loop μ-loop
-mul-labels c = search (needs, here (c .before .before .before .before .before .before .before .before .pre) (c .before .before .before .before .loop .inv) (c .before .before .before .loop-test .taken))
+mul-labels c =
+    let turn = c .before .before .before in
+    let head = turn .before in
+    let entry = head .before .before .before .before in
+    search (needs, here (entry .pre) (head .loop .inv) (turn .loop-test .taken))
 
 slice-write-labels : tie.Need-slice-write-labels Inv-loop μ-loop
-slice-write-labels c = search (needs, here (c .before .before .before .before .before .before .before .before .pre) (c .before .before .before .before .loop .inv) (c .before .before .before .loop-test .taken))
+slice-write-labels c =
+    let turn = c .before .before .before in
+    let head = turn .before in
+    let entry = head .before .before .before .before in
+    search (needs, here (entry .pre) (head .loop .inv) (turn .loop-test .taken))
 
 slice-write-goals : tie.Need-slice-write-goals Inv-loop μ-loop
-slice-write-goals c = search (needs, here (c .before .before .before .before .before .before .before .before .pre) (c .before .before .before .before .loop .inv) (c .before .before .before .loop-test .taken))
+slice-write-goals c =
+    let turn = c .before .before .before in
+    let head = turn .before in
+    let entry = head .before .before .before .before in
+    search (needs, here (entry .pre) (head .loop .inv) (turn .loop-test .taken))
 
 widened-requires : tie.Need-widened-requires Inv-loop μ-loop
 widened-requires c κs = search needs
@@ -52,7 +71,12 @@ loop-less : tie.Need-loop-less Inv-loop μ-loop
 loop-less c = search needs
 
 loop-again : tie.Need-loop-again Inv-loop μ-loop
-loop-again c = follow-more (c .before .before .before .before .before .before .before .before .before .pre) (c .before .before .before .before .before .loop .inv) (c .before .before .before .before .loop-test .taken) (c .before .label-of .ensures) (c .before .before .goal-of .ensures) (c .widened .ensures .0)
+loop-again c =
+    let goal-of = c .before .before in
+    let turn = goal-of .before .before in
+    let head = turn .before in
+    let entry = head .before .before .before .before in
+    follow-more (entry .pre) (head .loop .inv) (turn .loop-test .taken) (c .before .label-of .ensures) (goal-of .goal-of .ensures) (c .widened .ensures .0)
 
 same-length : tie.Need-same-length Inv-loop μ-loop
 same-length c = c .before .loop .inv .labelsLong

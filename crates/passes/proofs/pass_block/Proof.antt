@@ -8,7 +8,10 @@ put-goals-side-requires : tie.Need-put-goals-side-requires
 put-goals-side-requires c κs = search needs
 
 sweep-requires : tie.Need-sweep-requires
-sweep-requires c κs = let G = c .before .before .put-goals-side .ensures in (c .before .before .before .before .before .before .before .before .before .pre .0, sweep-asked (c .before .before .before .before .before .before .before .before .before .pre .0) (c .before .before .before .before .before .before .before .before .before .pre .1) (G .0) (G .1) (G .2))
+sweep-requires c κs =
+    let put-goals-side = c .before .before in
+    let entry = put-goals-side .before .before .before .before .before .before .before in
+    let G = put-goals-side .put-goals-side .ensures in (entry .pre .0, sweep-asked (entry .pre .0) (entry .pre .1) (G .0) (G .1) (G .2))
 
 put-roots-requires : tie.Need-put-roots-requires
 put-roots-requires c κs = search needs
@@ -18,9 +21,13 @@ same-length c = search needs
 
 returns : tie.Need-returns
 returns c =
-    let G = c .before .before .before .before .before .before .before .before .before .put-goals-side .ensures in
-    let W = c .before .before .before .before .before .before .sweep .ensures in
-    (passed (c .before .before .before .before .before .before .before .before .before .before .before .before .before .before .before .before .pre .0) (G .0) W (c .before .before .put-roots .ensures), W .evenLong, W .oddLong)
+    let put-roots = c .before .before in
+    let sweep = put-roots .before .before .before .before in
+    let put-goals-side = sweep .before .before .before in
+    let entry = put-goals-side .before .before .before .before .before .before .before in
+    let G = put-goals-side .put-goals-side .ensures in
+    let W = sweep .sweep .ensures in
+    (passed (entry .pre .0) (G .0) W (put-roots .put-roots .ensures), W .evenLong, W .oddLong)
 
 pub pass-block-spec : {M : Type 1} → statement M
 pass-block-spec =

@@ -33,19 +33,36 @@ wide-requires : tie.Need-wide-requires Inv-loop μ-loop
 wide-requires c κs = search needs
 
 mul-ranked-left : tie.Need-mul-ranked-left Inv-loop μ-loop
-mul-ranked-left c = search (needs, state-read (goals-at (c .before .before .before .before .before .before .pre .0)) (c .before .before .loop-test .taken) (c .wide .ensures .0))
+mul-ranked-left c =
+    let turn = c .before .before in
+    let entry = turn .before .before .before .before in
+    search (needs, state-read (goals-at (entry .pre .0)) (turn .loop-test .taken) (c .wide .ensures .0))
 
 element-copy-out-ranked-left : tie.Need-element-copy-out-ranked-left Inv-loop μ-loop
-element-copy-out-ranked-left c = search (needs, state-read (goals-at (c .before .before .before .before .before .before .pre .0)) (c .before .before .loop-test .taken) (c .wide .ensures .0))
+element-copy-out-ranked-left c =
+    let turn = c .before .before in
+    let entry = turn .before .before .before .before in
+    search (needs, state-read (goals-at (entry .pre .0)) (turn .loop-test .taken) (c .wide .ensures .0))
 
 ranked-left-requires : tie.Need-ranked-left-requires Inv-loop μ-loop
-ranked-left-requires c κs = search (needs, state-read (goals-at (c .before .before .before .before .before .before .before .pre .0)) (c .before .before .before .loop-test .taken) (c .before .wide .ensures .0))
+ranked-left-requires c κs =
+    let turn = c .before .before .before in
+    let entry = turn .before .before .before .before in
+    search (needs, state-read (goals-at (entry .pre .0)) (turn .loop-test .taken) (c .before .wide .ensures .0))
 
 mul-row : tie.Need-mul-row Inv-loop μ-loop
-mul-row c = search (needs, state-read (goals-at (c .before .before .before .before .before .before .before .before .pre .0)) (c .before .before .before .before .loop-test .taken) (c .before .before .wide .ensures .0))
+mul-row c =
+    let wide = c .before .before in
+    let turn = wide .before .before in
+    let entry = turn .before .before .before .before in
+    search (needs, state-read (goals-at (entry .pre .0)) (turn .loop-test .taken) (wide .wide .ensures .0))
 
 element-write-row : tie.Need-element-write-row Inv-loop μ-loop
-element-write-row c = search (needs, state-read (goals-at (c .before .before .before .before .before .before .before .before .pre .0)) (c .before .before .before .before .loop-test .taken) (c .before .before .wide .ensures .0))
+element-write-row c =
+    let wide = c .before .before in
+    let turn = wide .before .before in
+    let entry = turn .before .before .before .before in
+    search (needs, state-read (goals-at (entry .pre .0)) (turn .loop-test .taken) (wide .wide .ensures .0))
 
 add-g : tie.Need-add-g Inv-loop μ-loop
 add-g c = search needs
@@ -54,7 +71,12 @@ loop-less : tie.Need-loop-less Inv-loop μ-loop
 loop-less c = search needs
 
 loop-again : tie.Need-loop-again Inv-loop μ-loop
-loop-again c = goals-more (c .before .before .before .before .before .before .before .before .pre .0) (c .before .before .before .before .before .loop .inv) (c .before .before .before .before .loop-test .taken) (c .before .before .wide .ensures .0) (c .ranked-left .ensures .0)
+loop-again c =
+    let wide = c .before .before in
+    let turn = wide .before .before in
+    let head = turn .before in
+    let entry = head .before .before .before in
+    goals-more (entry .pre .0) (head .loop .inv) (turn .loop-test .taken) (wide .wide .ensures .0) (c .ranked-left .ensures .0)
 
 returns : tie.Need-returns Inv-loop μ-loop
 returns c = goals-end (c .before .before .before .before .pre .0) (c .before .loop .inv) (search needs)

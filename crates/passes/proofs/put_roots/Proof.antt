@@ -35,29 +35,54 @@ wide-requires : tie.Need-wide-requires Inv-loop μ-loop
 wide-requires c κs = search needs
 
 mul-rank : tie.Need-mul-rank Inv-loop μ-loop
-mul-rank c = search (needs, state-read (roots-at (c .before .before .before .before .before .before .before .before .pre .0)) (c .before .before .loop-test .taken) (c .wide .ensures .0))
+mul-rank c =
+    let turn = c .before .before in
+    let entry = turn .before .before .before .before .before .before in
+    search (needs, state-read (roots-at (entry .pre .0)) (turn .loop-test .taken) (c .wide .ensures .0))
 
 element-copy-out-rank : tie.Need-element-copy-out-rank Inv-loop μ-loop
-element-copy-out-rank c = search (needs, state-read (roots-at (c .before .before .before .before .before .before .before .before .pre .0)) (c .before .before .loop-test .taken) (c .wide .ensures .0))
+element-copy-out-rank c =
+    let turn = c .before .before in
+    let entry = turn .before .before .before .before .before .before in
+    search (needs, state-read (roots-at (entry .pre .0)) (turn .loop-test .taken) (c .wide .ensures .0))
 
 high-requires : tie.Need-high-requires Inv-loop μ-loop
-high-requires c κs = c .before .before .before .before .before .before .before .before .before .pre .1 .small (c .before .before .before .before .loop .v) (omega (arith, roots-at (c .before .before .before .before .before .before .before .before .before .pre .0) .count-is))
+high-requires c κs =
+    let head = c .before .before .before .before in
+    let entry = head .before .before .before .before .before in
+    entry .pre .1 .small (head .loop .v) (omega (arith, roots-at (entry .pre .0) .count-is))
 
 mul-left : tie.Need-mul-left Inv-loop μ-loop
-mul-left c = search (needs, state-read (roots-at (c .before .before .before .before .before .before .before .before .before .before .pre .0)) (c .before .before .before .before .loop-test .taken) (c .before .before .wide .ensures .0))
+mul-left c =
+    let wide = c .before .before in
+    let turn = wide .before .before in
+    let entry = turn .before .before .before .before .before .before in
+    search (needs, state-read (roots-at (entry .pre .0)) (turn .loop-test .taken) (wide .wide .ensures .0))
 
 element-write-left : tie.Need-element-write-left Inv-loop μ-loop
-element-write-left c = search (needs, state-read (roots-at (c .before .before .before .before .before .before .before .before .before .before .pre .0)) (c .before .before .before .before .loop-test .taken) (c .before .before .wide .ensures .0))
+element-write-left c =
+    let wide = c .before .before in
+    let turn = wide .before .before in
+    let entry = turn .before .before .before .before .before .before in
+    search (needs, state-read (roots-at (entry .pre .0)) (turn .loop-test .taken) (wide .wide .ensures .0))
 
 low-requires : tie.Need-low-requires Inv-loop μ-loop
 low-requires c κs = search needs
 
 mul-picks : tie.Need-mul-picks Inv-loop μ-loop
-mul-picks c = search (needs, state-read (roots-at (c .before .before .before .before .before .before .before .before .before .before .before .pre .0)) (c .before .before .before .before .before .loop-test .taken) (c .before .before .before .wide .ensures .0))
+mul-picks c =
+    let wide = c .before .before .before in
+    let turn = wide .before .before in
+    let entry = turn .before .before .before .before .before .before in
+    search (needs, state-read (roots-at (entry .pre .0)) (turn .loop-test .taken) (wide .wide .ensures .0))
 
 slice-write-picks : tie.Need-slice-write-picks Inv-loop μ-loop
 slice-write-picks c =
-    omega (arith, c .before .before .before .before .before .before .loop .inv .0 .picksLong, state-read (roots-at (c .before .before .before .before .before .before .before .before .before .before .before .pre .0)) (c .before .before .before .before .before .loop-test .taken) (c .before .before .before .wide .ensures .0) .s-lt)
+    let wide = c .before .before .before in
+    let turn = wide .before .before in
+    let head = turn .before in
+    let entry = head .before .before .before .before .before in
+    omega (arith, head .loop .inv .0 .picksLong, state-read (roots-at (entry .pre .0)) (turn .loop-test .taken) (wide .wide .ensures .0) .s-lt)
 
 add-v : tie.Need-add-v Inv-loop μ-loop
 add-v c = search needs
@@ -67,14 +92,20 @@ loop-less c = search needs
 
 loop-again : tie.Need-loop-again Inv-loop μ-loop
 loop-again c =
-    let I = c .before .before .before .before .before .before .loop .inv in
-    (roots-more (c .before .before .before .before .before .before .before .before .before .before .before .pre .0) (I .0) (c .before .before .before .before .before .loop-test .taken) (c .before .before .before .wide .ensures .0) refl (c .before .high .ensures) (c .low .ensures), search needs)
+    let wide = c .before .before .before in
+    let turn = wide .before .before in
+    let head = turn .before in
+    let entry = head .before .before .before .before .before in
+    let I = head .loop .inv in
+    (roots-more (entry .pre .0) (I .0) (turn .loop-test .taken) (wide .wide .ensures .0) refl (c .before .high .ensures) (c .low .ensures), search needs)
 
 same-length : tie.Need-same-length Inv-loop μ-loop
 same-length c = c .before .loop .inv .0 .picksLong ∙ sym (c .before .before .before .before .before .before .pre .1 .long)
 
 returns : tie.Need-returns Inv-loop μ-loop
-returns c = roots-end (c .before .before .before .before .before .before .pre .0) (c .before .loop .inv .0) (search needs) (c .before .loop .inv .1)
+returns c =
+    let entry = c .before .before .before .before .before .before in
+    roots-end (entry .pre .0) (c .before .loop .inv .0) (search needs) (c .before .loop .inv .1)
 
 pub put-roots-spec : {M : Type 1} → statement M
 put-roots-spec =

@@ -29,28 +29,41 @@ element-copy-out-lesser : tie.Need-element-copy-out-lesser Inv-loop μ-loop
 element-copy-out-lesser c = let P = placed (entry (c .before) .pre) (c .before .loop-test .taken) (c .edge-at .ensures) in search needs
 
 mul-lesser-2 : tie.Need-mul-lesser-2 Inv-loop μ-loop
-mul-lesser-2 c = let e = c .before in let P = placed (entry (e .before) .pre) (e .before .loop-test .taken) (e .edge-at .ensures) in search needs
+mul-lesser-2 c =
+    let e = c .before in let P = placed (entry (e .before) .pre) (e .before .loop-test .taken) (e .edge-at .ensures) in search needs
 
 shared-slice-read-lesser : tie.Need-shared-slice-read-lesser Inv-loop μ-loop
-shared-slice-read-lesser c = let e = c .before .before in let P = placed (entry (e .before) .pre) (e .before .loop-test .taken) (e .edge-at .ensures) in search needs
+shared-slice-read-lesser c =
+    let edge-at = c .before .before in
+    let e = edge-at in let P = placed (entry (e .before) .pre) (e .before .loop-test .taken) (e .edge-at .ensures) in search needs
 
 mul-lesser-3 : tie.Need-mul-lesser-3 Inv-loop μ-loop
-mul-lesser-3 c = let e = c .before .before in let P = placed (entry (e .before) .pre) (e .before .loop-test .taken) (e .edge-at .ensures) in search needs
+mul-lesser-3 c =
+    let edge-at = c .before .before in
+    let e = edge-at in let P = placed (entry (e .before) .pre) (e .before .loop-test .taken) (e .edge-at .ensures) in search needs
 
 element-copy-out-lesser-2 : tie.Need-element-copy-out-lesser-2 Inv-loop μ-loop
-element-copy-out-lesser-2 c = let e = c .before .before in let P = placed (entry (e .before) .pre) (e .before .loop-test .taken) (e .edge-at .ensures) in search needs
+element-copy-out-lesser-2 c =
+    let edge-at = c .before .before in
+    let e = edge-at in let P = placed (entry (e .before) .pre) (e .before .loop-test .taken) (e .edge-at .ensures) in search needs
 
 add-lesser : tie.Need-add-lesser Inv-loop μ-loop
-add-lesser c = let e = c .before .before .before in let P = placed (entry (e .before) .pre) (e .before .loop-test .taken) (e .edge-at .ensures) in search needs
+add-lesser c =
+    let edge-at = c .before .before .before in
+    let e = edge-at in let P = placed (entry (e .before) .pre) (e .before .loop-test .taken) (e .edge-at .ensures) in search needs
 
 lesser-requires : tie.Need-lesser-requires Inv-loop μ-loop
 lesser-requires c κs = search needs
 
 mul-row : tie.Need-mul-row Inv-loop μ-loop
-mul-row c = let e = c .before .before .before .before in let P = placed (entry (e .before) .pre) (e .before .loop-test .taken) (e .edge-at .ensures) in search needs
+mul-row c =
+    let edge-at = c .before .before .before .before in
+    let e = edge-at in let P = placed (entry (e .before) .pre) (e .before .loop-test .taken) (e .edge-at .ensures) in search needs
 
 element-write-row : tie.Need-element-write-row Inv-loop μ-loop
-element-write-row c = let e = c .before .before .before .before in let P = placed (entry (e .before) .pre) (e .before .loop-test .taken) (e .edge-at .ensures) in search needs
+element-write-row c =
+    let edge-at = c .before .before .before .before in
+    let e = edge-at in let P = placed (entry (e .before) .pre) (e .before .loop-test .taken) (e .edge-at .ensures) in search needs
 
 add-k : tie.Need-add-k Inv-loop μ-loop
 add-k c = search needs
@@ -60,7 +73,8 @@ loop-less c = search needs
 
 loop-again : tie.Need-loop-again Inv-loop μ-loop
 loop-again c =
-    let e = c .before .before .before .before in
+    let edge-at = c .before .before .before .before in
+    let e = edge-at in
     lower-more (entry (e .before) .pre) (e .before .before .loop .inv) (e .before .loop-test .taken) (e .edge-at .ensures) (c .lesser .ensures)
 
 returns : tie.Need-returns Inv-loop μ-loop

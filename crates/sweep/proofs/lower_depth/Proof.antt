@@ -71,7 +71,9 @@ mul-wide-2 : tie.Need-mul-wide-2
 mul-wide-2 c = search (needs, near (c .before .before .before .before .before .before .before .before .before .before .before))
 
 shared-slice-read-wide-2 : tie.Need-shared-slice-read-wide-2
-shared-slice-read-wide-2 c = search (needs, near (c .before .before .before .before .before .before .before .before .before .before .before .before))
+shared-slice-read-wide-2 c =
+    let entry = c .before .before .before .before .before .before .before .before .before .before .before .before in
+    search (needs, near entry)
 
 wide-requires-2 : tie.Need-wide-requires-2
 wide-requires-2 c κs = search needs
@@ -89,10 +91,19 @@ part-lower-end-3 : tie.Need-part-lower-end-3
 part-lower-end-3 c = search needs
 
 lower-requires : tie.Need-lower-requires
-lower-requires c κs = step-asked (c .before .before .before .before .before .before .before .before .before .before .before .before .before .before .before .pre .0) (c .before .before .before .before .before .before .before .before .before .before .before .before .before .before .before .pre .1) (c .before .before .wide2 .ensures .0) (c .before .before .before .before .before .before .before .clear .ensures .long)
+lower-requires c κs =
+    let wide2 = c .before .before in
+    let clear = wide2 .before .before .before .before .before in
+    let entry = clear .before .before .before .before .before .before .before .before in
+    step-asked (entry .pre .0) (entry .pre .1) (wide2 .wide2 .ensures .0) (clear .clear .ensures .long)
 
 returns : tie.Need-returns
-returns c = depth-done (c .before .before .before .before .before .before .before .before .before .before .before .before .before .before .before .before .pre .0) (c .before .before .before .before .before .before .before .before .before .before .before .before .before .before .before .before .pre .1) (c .before .before .before .before .before .before .before .before .before .before .wide .ensures .0) (c .before .before .before .before .before .before .before .before .clear .ensures) (c .before .before .before .wide2 .ensures .0) (c .lower .ensures)
+returns c =
+    let wide2 = c .before .before .before in
+    let clear = wide2 .before .before .before .before .before in
+    let wide = clear .before .before in
+    let entry = wide .before .before .before .before .before .before in
+    depth-done (entry .pre .0) (entry .pre .1) (wide .wide .ensures .0) (clear .clear .ensures) (wide2 .wide2 .ensures .0) (c .lower .ensures)
 
 pub lower-depth-spec : {M : Type 1} → statement M
 lower-depth-spec =

@@ -34,20 +34,32 @@ wide-requires : tie.Need-wide-requires Inv-loop μ-loop
 wide-requires c κs = search needs
 
 sub-before : tie.Need-sub-before Inv-loop μ-loop
-sub-before c = sweep-fits (c .before .before .before .before .before .before .pre .0) (c .before .before .before .before .before .before .pre .1) (c .before .before .before .loop .inv) (c .before .before .loop-test .taken) (c .wide .ensures .0)
+sub-before c =
+    let turn = c .before .before in
+    let head = turn .before in
+    let entry = head .before .before .before in
+    sweep-fits (entry .pre .0) (entry .pre .1) (head .loop .inv) (turn .loop-test .taken) (c .wide .ensures .0)
 
 lower-side-requires : tie.Need-lower-side-requires Inv-loop μ-loop
 lower-side-requires c κs =
-    let I = c .before .before .before .before .before .loop .inv in
-    (c .before .before .before .before .before .before .before .before .pre .0, sweep-asked (c .before .before .before .before .before .before .before .before .pre .0) (c .before .before .before .before .before .before .before .before .pre .1) I (c .before .before .before .before .loop-test .taken) (c .before .before .wide .ensures .0), I .evenLong, I .oddLong)
+    let wide = c .before .before in
+    let turn = wide .before .before in
+    let head = turn .before in
+    let entry = head .before .before .before in
+    let I = head .loop .inv in
+    (entry .pre .0, sweep-asked (entry .pre .0) (entry .pre .1) I (turn .loop-test .taken) (wide .wide .ensures .0), I .evenLong, I .oddLong)
 
 loop-less : tie.Need-loop-less Inv-loop μ-loop
 loop-less c = search needs
 
 loop-again : tie.Need-loop-again Inv-loop μ-loop
 loop-again c =
+    let wide = c .before .before .before in
+    let turn = wide .before .before in
+    let head = turn .before in
+    let entry = head .before .before .before in
     let E = c .lower-side .ensures in
-    sweep-more (c .before .before .before .before .before .before .before .before .before .pre .0) (c .before .before .before .before .before .before .before .before .before .pre .1) (c .before .before .before .before .before .before .loop .inv) (c .before .before .before .before .before .loop-test .taken) (c .before .before .before .wide .ensures .0) (E .0) (E .1) (E .2)
+    sweep-more (entry .pre .0) (entry .pre .1) (head .loop .inv) (turn .loop-test .taken) (wide .wide .ensures .0) (E .0) (E .1) (E .2)
 
 returns : tie.Need-returns Inv-loop μ-loop
 returns c = sweep-end (c .before .loop .inv) (search needs)

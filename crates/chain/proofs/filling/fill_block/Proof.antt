@@ -7,7 +7,9 @@ use Rattle.chain.proofs.filling.fill_block.Statement.{statement}
 use Rattle.chain.proofs.filling.fill_block.Tie as tie
 
 put-prices-requires : tie.Need-put-prices-requires
-put-prices-requires c κs = let H = header (c .before .before .before .before .pre .0) in (omega (arith, H .n-is, H .n-le), c .before .before .before .before .pre .2 .room)
+put-prices-requires c κs =
+    let entry = c .before .before .before .before in
+    let H = header (entry .pre .0) in (omega (arith, H .n-is, H .n-le), entry .pre .2 .room)
 
 pass-block-requires : tie.Need-pass-block-requires
 pass-block-requires c κs = search needs
@@ -23,9 +25,13 @@ same-length-2 c = search needs
 
 returns : tie.Need-returns
 returns c =
-    let P = c .before .before .before .before .before .before .before .before .before .before .before .before .before .before .put-prices .ensures in
-    let B = c .before .before .before .before .before .before .before .pass-block .ensures in (
-      block-filled (header (c .before .before .before .before .before .before .before .before .before .before .before .before .before .before .before .before .before .before .before .pre .0) .n-is) P (B .0) (c .before .before .copy-row .ensures),
+    let copy-row = c .before .before in
+    let pass-block = copy-row .before .before .before .before .before in
+    let put-prices = pass-block .before .before .before .before .before .before .before in
+    let entry = put-prices .before .before .before .before .before in
+    let P = put-prices .put-prices .ensures in
+    let B = pass-block .pass-block .ensures in (
+      block-filled (header (entry .pre .0) .n-is) P (B .0) (copy-row .copy-row .ensures),
       record { leftLong = B .0 .long; room = P .room; evenLong = B .1; oddLong = B .2 },
     )
 

@@ -28,87 +28,190 @@ widened-requires : tie.Need-widened-requires Inv-loop μ-loop
 widened-requires c κs = search needs
 
 mul-at : tie.Need-mul-at Inv-loop μ-loop
-mul-at c = search (needs, block-at (c .before .before .before .before .before .before .before .before .before .before .pre .0) (fill-below (c .before .before .before .loop .inv) (c .before .before .loop-test .taken)) (c .widened .ensures .0))
+mul-at c =
+    let turn = c .before .before in
+    let head = turn .before in
+    let entry = head .before .before .before .before .before .before .before in
+    search (needs, block-at (entry .pre .0) (fill-below (head .loop .inv) (turn .loop-test .taken)) (c .widened .ensures .0))
 
 array-copy-out-at : tie.Need-array-copy-out-at Inv-loop μ-loop
-array-copy-out-at c = search (needs, block-at (c .before .before .before .before .before .before .before .before .before .before .pre .0) (fill-below (c .before .before .before .loop .inv) (c .before .before .loop-test .taken)) (c .widened .ensures .0))
+array-copy-out-at c =
+    let turn = c .before .before in
+    let head = turn .before in
+    let entry = head .before .before .before .before .before .before .before in
+    search (needs, block-at (entry .pre .0) (fill-below (head .loop .inv) (turn .loop-test .taken)) (c .widened .ensures .0))
 
 mul-start : tie.Need-mul-start Inv-loop μ-loop
-mul-start c = search (needs, block-at (c .before .before .before .before .before .before .before .before .before .before .before .pre .0) (fill-below (c .before .before .before .before .loop .inv) (c .before .before .before .loop-test .taken)) (c .before .widened .ensures .0))
+mul-start c =
+    let turn = c .before .before .before in
+    let head = turn .before in
+    let entry = head .before .before .before .before .before .before .before in
+    search (needs, block-at (entry .pre .0) (fill-below (head .loop .inv) (turn .loop-test .taken)) (c .before .widened .ensures .0))
 
 element-copy-out-start : tie.Need-element-copy-out-start Inv-loop μ-loop
-element-copy-out-start c = search (needs, block-at (c .before .before .before .before .before .before .before .before .before .before .before .pre .0) (fill-below (c .before .before .before .before .loop .inv) (c .before .before .before .loop-test .taken)) (c .before .widened .ensures .0))
+element-copy-out-start c =
+    let turn = c .before .before .before in
+    let head = turn .before in
+    let entry = head .before .before .before .before .before .before .before in
+    search (needs, block-at (entry .pre .0) (fill-below (head .loop .inv) (turn .loop-test .taken)) (c .before .widened .ensures .0))
 
 mul-word : tie.Need-mul-word Inv-loop μ-loop
-mul-word c = search (needs, block-at (c .before .before .before .before .before .before .before .before .before .before .before .before .pre .0) (fill-below (c .before .before .before .before .before .loop .inv) (c .before .before .before .before .loop-test .taken)) (c .before .before .widened .ensures .0))
+mul-word c =
+    let widened = c .before .before in
+    let turn = widened .before .before in
+    let head = turn .before in
+    let entry = head .before .before .before .before .before .before .before in
+    search (needs, block-at (entry .pre .0) (fill-below (head .loop .inv) (turn .loop-test .taken)) (widened .widened .ensures .0))
 
 shared-slice-read-word : tie.Need-shared-slice-read-word Inv-loop μ-loop
-shared-slice-read-word c = search (needs, block-at (c .before .before .before .before .before .before .before .before .before .before .before .before .before .pre .0) (fill-below (c .before .before .before .before .before .before .loop .inv) (c .before .before .before .before .before .loop-test .taken)) (c .before .before .before .widened .ensures .0), c .before .before .before .before .before .before .loop .inv .b-le)
+shared-slice-read-word c =
+    let widened = c .before .before .before in
+    let turn = widened .before .before in
+    let head = turn .before in
+    let entry = head .before .before .before .before .before .before .before in
+    search (needs, block-at (entry .pre .0) (fill-below (head .loop .inv) (turn .loop-test .taken)) (widened .widened .ensures .0), head .loop .inv .b-le)
 
 shared-slice-read-mask : tie.Need-shared-slice-read-mask Inv-loop μ-loop
-shared-slice-read-mask c = search (needs, block-at (c .before .before .before .before .before .before .before .before .before .before .before .before .before .before .pre .0) (fill-below (c .before .before .before .before .before .before .before .loop .inv) (c .before .before .before .before .before .before .loop-test .taken)) (c .before .before .before .before .widened .ensures .0), c .before .before .before .before .before .before .before .loop .inv .b-le)
+shared-slice-read-mask c =
+    let widened = c .before .before .before .before in
+    let turn = widened .before .before in
+    let head = turn .before in
+    let entry = head .before .before .before .before .before .before .before in
+    search (needs, block-at (entry .pre .0) (fill-below (head .loop .inv) (turn .loop-test .taken)) (widened .widened .ensures .0), head .loop .inv .b-le)
 
 mul-first : tie.Need-mul-first Inv-loop μ-loop
-mul-first c = search (needs, block-at (c .before .before .before .before .before .before .before .before .before .before .before .before .before .before .pre .0) (fill-below (c .before .before .before .before .before .before .before .loop .inv) (c .before .before .before .before .before .before .loop-test .taken)) (c .before .before .before .before .widened .ensures .0))
+mul-first c =
+    let widened = c .before .before .before .before in
+    let turn = widened .before .before in
+    let head = turn .before in
+    let entry = head .before .before .before .before .before .before .before in
+    search (needs, block-at (entry .pre .0) (fill-below (head .loop .inv) (turn .loop-test .taken)) (widened .widened .ensures .0))
 
 add-next : tie.Need-add-next Inv-loop μ-loop
-add-next c = search (needs, block-at (c .before .before .before .before .before .before .before .before .before .before .before .before .before .before .pre .0) (fill-below (c .before .before .before .before .before .before .before .loop .inv) (c .before .before .before .before .before .before .loop-test .taken)) (c .before .before .before .before .widened .ensures .0))
+add-next c =
+    let widened = c .before .before .before .before in
+    let turn = widened .before .before in
+    let head = turn .before in
+    let entry = head .before .before .before .before .before .before .before in
+    search (needs, block-at (entry .pre .0) (fill-below (head .loop .inv) (turn .loop-test .taken)) (widened .widened .ensures .0))
 
 mul-fill-block : tie.Need-mul-fill-block Inv-loop μ-loop
-mul-fill-block c = search (needs, block-at (c .before .before .before .before .before .before .before .before .before .before .before .before .before .before .pre .0) (fill-below (c .before .before .before .before .before .before .before .loop .inv) (c .before .before .before .before .before .before .loop-test .taken)) (c .before .before .before .before .widened .ensures .0))
+mul-fill-block c =
+    let widened = c .before .before .before .before in
+    let turn = widened .before .before in
+    let head = turn .before in
+    let entry = head .before .before .before .before .before .before .before in
+    search (needs, block-at (entry .pre .0) (fill-below (head .loop .inv) (turn .loop-test .taken)) (widened .widened .ensures .0))
 
 sub-fill-block : tie.Need-sub-fill-block Inv-loop μ-loop
-sub-fill-block c = search (needs, block-at (c .before .before .before .before .before .before .before .before .before .before .before .before .before .before .pre .0) (fill-below (c .before .before .before .before .before .before .before .loop .inv) (c .before .before .before .before .before .before .loop-test .taken)) (c .before .before .before .before .widened .ensures .0))
+sub-fill-block c =
+    let widened = c .before .before .before .before in
+    let turn = widened .before .before in
+    let head = turn .before in
+    let entry = head .before .before .before .before .before .before .before in
+    search (needs, block-at (entry .pre .0) (fill-below (head .loop .inv) (turn .loop-test .taken)) (widened .widened .ensures .0))
 
 part-fill-block-start : tie.Need-part-fill-block-start Inv-loop μ-loop
-part-fill-block-start c = search (needs, block-at (c .before .before .before .before .before .before .before .before .before .before .before .before .before .before .pre .0) (fill-below (c .before .before .before .before .before .before .before .loop .inv) (c .before .before .before .before .before .before .loop-test .taken)) (c .before .before .before .before .widened .ensures .0))
+part-fill-block-start c =
+    let widened = c .before .before .before .before in
+    let turn = widened .before .before in
+    let head = turn .before in
+    let entry = head .before .before .before .before .before .before .before in
+    search (needs, block-at (entry .pre .0) (fill-below (head .loop .inv) (turn .loop-test .taken)) (widened .widened .ensures .0))
 
 part-fill-block-end : tie.Need-part-fill-block-end Inv-loop μ-loop
 part-fill-block-end c = search needs
 
 mul-fill-block-2 : tie.Need-mul-fill-block-2 Inv-loop μ-loop
-mul-fill-block-2 c = search (needs, block-at (c .before .before .before .before .before .before .before .before .before .before .before .before .before .before .before .before .pre .0) (fill-below (c .before .before .before .before .before .before .before .before .before .loop .inv) (c .before .before .before .before .before .before .before .before .loop-test .taken)) (c .before .before .before .before .before .before .widened .ensures .0))
+mul-fill-block-2 c =
+    let widened = c .before .before .before .before .before .before in
+    let turn = widened .before .before in
+    let head = turn .before in
+    let entry = head .before .before .before .before .before .before .before in
+    search (needs, block-at (entry .pre .0) (fill-below (head .loop .inv) (turn .loop-test .taken)) (widened .widened .ensures .0))
 
 sub-fill-block-2 : tie.Need-sub-fill-block-2 Inv-loop μ-loop
-sub-fill-block-2 c = search (needs, block-at (c .before .before .before .before .before .before .before .before .before .before .before .before .before .before .before .before .pre .0) (fill-below (c .before .before .before .before .before .before .before .before .before .loop .inv) (c .before .before .before .before .before .before .before .before .loop-test .taken)) (c .before .before .before .before .before .before .widened .ensures .0))
+sub-fill-block-2 c =
+    let widened = c .before .before .before .before .before .before in
+    let turn = widened .before .before in
+    let head = turn .before in
+    let entry = head .before .before .before .before .before .before .before in
+    search (needs, block-at (entry .pre .0) (fill-below (head .loop .inv) (turn .loop-test .taken)) (widened .widened .ensures .0))
 
 part-fill-block-start-2 : tie.Need-part-fill-block-start-2 Inv-loop μ-loop
-part-fill-block-start-2 c = search (needs, rows-at (c .before .before .before .before .before .before .before .before .before .loop .inv) (c .before .before .before .before .before .before .before .before .before .before .before .before .before .before .before .before .pre .2) (c .before .before .before .before .before .before .before .before .before .before .before .before .before .before .before .before .pre .3) (c .before .before .before .before .before .before .before .before .loop-test .taken))
+part-fill-block-start-2 c =
+    let turn = c .before .before .before .before .before .before .before .before in
+    let head = turn .before in
+    let entry = head .before .before .before .before .before .before .before in
+    search (needs, rows-at (head .loop .inv) (entry .pre .2) (entry .pre .3) (turn .loop-test .taken))
 
 part-fill-block-end-2 : tie.Need-part-fill-block-end-2 Inv-loop μ-loop
-part-fill-block-end-2 c = search (needs, rows-at (c .before .before .before .before .before .before .before .before .before .loop .inv) (c .before .before .before .before .before .before .before .before .before .before .before .before .before .before .before .before .pre .2) (c .before .before .before .before .before .before .before .before .before .before .before .before .before .before .before .before .pre .3) (c .before .before .before .before .before .before .before .before .loop-test .taken))
+part-fill-block-end-2 c =
+    let turn = c .before .before .before .before .before .before .before .before in
+    let head = turn .before in
+    let entry = head .before .before .before .before .before .before .before in
+    search (needs, rows-at (head .loop .inv) (entry .pre .2) (entry .pre .3) (turn .loop-test .taken))
 
 mul-fill-block-3 : tie.Need-mul-fill-block-3 Inv-loop μ-loop
-mul-fill-block-3 c = search (needs, block-at (c .before .before .before .before .before .before .before .before .before .before .before .before .before .before .before .before .before .pre .0) (fill-below (c .before .before .before .before .before .before .before .before .before .before .loop .inv) (c .before .before .before .before .before .before .before .before .before .loop-test .taken)) (c .before .before .before .before .before .before .before .widened .ensures .0))
+mul-fill-block-3 c =
+    let widened = c .before .before .before .before .before .before .before in
+    let turn = widened .before .before in
+    let head = turn .before in
+    let entry = head .before .before .before .before .before .before .before in
+    search (needs, block-at (entry .pre .0) (fill-below (head .loop .inv) (turn .loop-test .taken)) (widened .widened .ensures .0))
 
 sub-fill-block-3 : tie.Need-sub-fill-block-3 Inv-loop μ-loop
-sub-fill-block-3 c = search (needs, block-at (c .before .before .before .before .before .before .before .before .before .before .before .before .before .before .before .before .before .pre .0) (fill-below (c .before .before .before .before .before .before .before .before .before .before .loop .inv) (c .before .before .before .before .before .before .before .before .before .loop-test .taken)) (c .before .before .before .before .before .before .before .widened .ensures .0))
+sub-fill-block-3 c =
+    let widened = c .before .before .before .before .before .before .before in
+    let turn = widened .before .before in
+    let head = turn .before in
+    let entry = head .before .before .before .before .before .before .before in
+    search (needs, block-at (entry .pre .0) (fill-below (head .loop .inv) (turn .loop-test .taken)) (widened .widened .ensures .0))
 
 part-fill-block-start-3 : tie.Need-part-fill-block-start-3 Inv-loop μ-loop
-part-fill-block-start-3 c = search (needs, rows-at (c .before .before .before .before .before .before .before .before .before .before .loop .inv) (c .before .before .before .before .before .before .before .before .before .before .before .before .before .before .before .before .before .pre .2) (c .before .before .before .before .before .before .before .before .before .before .before .before .before .before .before .before .before .pre .3) (c .before .before .before .before .before .before .before .before .before .loop-test .taken))
+part-fill-block-start-3 c =
+    let turn = c .before .before .before .before .before .before .before .before .before in
+    let head = turn .before in
+    let entry = head .before .before .before .before .before .before .before in
+    search (needs, rows-at (head .loop .inv) (entry .pre .2) (entry .pre .3) (turn .loop-test .taken))
 
 part-fill-block-end-3 : tie.Need-part-fill-block-end-3 Inv-loop μ-loop
-part-fill-block-end-3 c = search (needs, rows-at (c .before .before .before .before .before .before .before .before .before .before .loop .inv) (c .before .before .before .before .before .before .before .before .before .before .before .before .before .before .before .before .before .pre .2) (c .before .before .before .before .before .before .before .before .before .before .before .before .before .before .before .before .before .pre .3) (c .before .before .before .before .before .before .before .before .before .loop-test .taken))
+part-fill-block-end-3 c =
+    let turn = c .before .before .before .before .before .before .before .before .before in
+    let head = turn .before in
+    let entry = head .before .before .before .before .before .before .before in
+    search (needs, rows-at (head .loop .inv) (entry .pre .2) (entry .pre .3) (turn .loop-test .taken))
 
 fill-block-requires : tie.Need-fill-block-requires Inv-loop μ-loop
 fill-block-requires c κs =
-    let R = rows-at (c .before .before .before .before .before .before .before .before .before .before .before .before .before .before .loop .inv) (c .before .before .before .before .before .before .before .before .before .before .before .before .before .before .before .before .before .before .before .before .before .pre .2) (c .before .before .before .before .before .before .before .before .before .before .before .before .before .before .before .before .before .before .before .before .before .pre .3) (c .before .before .before .before .before .before .before .before .before .before .before .before .before .loop-test .taken) in (
-      block-at (c .before .before .before .before .before .before .before .before .before .before .before .before .before .before .before .before .before .before .before .before .before .pre .0) (fill-below (c .before .before .before .before .before .before .before .before .before .before .before .before .before .before .loop .inv) (c .before .before .before .before .before .before .before .before .before .before .before .before .before .loop-test .taken)) (c .before .before .before .before .before .before .before .before .before .before .before .widened .ensures .0) .seen,
+    let widened = c .before .before .before .before .before .before .before .before .before .before .before in
+    let turn = widened .before .before in
+    let head = turn .before in
+    let entry = head .before .before .before .before .before .before .before in
+    let R = rows-at (head .loop .inv) (entry .pre .2) (entry .pre .3) (turn .loop-test .taken) in (
+      block-at (entry .pre .0) (fill-below (head .loop .inv) (turn .loop-test .taken)) (widened .widened .ensures .0) .seen,
       record {
         costsLong = simp (length-take, length-drop) (omega (arith, R .costs-in));
         picksLong = simp (length-take, length-drop) (omega (arith, R .picks-in));
       },
-      c .before .before .before .before .before .before .before .before .before .before .before .before .before .before .loop .inv .working,
+      head .loop .inv .working,
     )
 
 loop-less : tie.Need-loop-less Inv-loop μ-loop
-loop-less c = omega (arith, c .before .before .before .before .before .before .before .before .before .before .before .before .before .before .before .before .before .before .loop-test .taken)
+loop-less c =
+    let turn = c .before .before .before .before .before .before .before .before .before .before .before .before .before .before .before .before .before .before in
+    omega (arith, turn .loop-test .taken)
 
 loop-again : tie.Need-loop-again Inv-loop μ-loop
 loop-again c =
-    let E = c .before .before .before .before .fill-block .ensures in
-    let R = rows-at (c .before .before .before .before .before .before .before .before .before .before .before .before .before .before .before .before .before .before .before .loop .inv) (c .before .before .before .before .before .before .before .before .before .before .before .before .before .before .before .before .before .before .before .before .before .before .before .before .before .before .pre .2) (c .before .before .before .before .before .before .before .before .before .before .before .before .before .before .before .before .before .before .before .before .before .before .before .before .before .before .pre .3) (c .before .before .before .before .before .before .before .before .before .before .before .before .before .before .before .before .before .before .loop-test .taken) in
-    fill-more (c .before .before .before .before .before .before .before .before .before .before .before .before .before .before .before .before .before .before .before .loop .inv) (c .before .before .before .before .before .before .before .before .before .before .before .before .before .before .before .before .before .before .loop-test .taken) (filled-part (block-at (c .before .before .before .before .before .before .before .before .before .before .before .before .before .before .before .before .before .before .before .before .before .before .before .before .before .before .pre .0) (fill-below (c .before .before .before .before .before .before .before .before .before .before .before .before .before .before .before .before .before .before .before .loop .inv) (c .before .before .before .before .before .before .before .before .before .before .before .before .before .before .before .before .before .before .loop-test .taken)) (c .before .before .before .before .before .before .before .before .before .before .before .before .before .before .before .before .widened .ensures .0)) (E .0)) (E .1)
+    let fill-block = c .before .before .before .before in
+    let widened = fill-block .before .before .before .before .before .before .before .before .before .before .before .before in
+    let turn = widened .before .before in
+    let head = turn .before in
+    let entry = head .before .before .before .before .before .before .before in
+    let E = fill-block .fill-block .ensures in
+    let R = rows-at (head .loop .inv) (entry .pre .2) (entry .pre .3) (turn .loop-test .taken) in
+    fill-more (head .loop .inv) (turn .loop-test .taken) (filled-part (block-at (entry .pre .0) (fill-below (head .loop .inv) (turn .loop-test .taken)) (widened .widened .ensures .0)) (E .0)) (E .1)
     (row-back (E .0 .copied .long) (R .costs-in)) (row-back (E .0 .passed .picksLong) (R .picks-in))
 
 same-length : tie.Need-same-length Inv-loop μ-loop

@@ -31,7 +31,10 @@ array-set-from-views : tie.Need-array-set-from-views Inv-loop μ-loop
 array-set-from-views c = search needs
 
 add-at : tie.Need-add-at Inv-loop μ-loop
-add-at c = search (needs, sections-fit (c .before .before .before .before .before .loop .inv) (c .before .before .before .view-at .ensures) (c .before .if1 .left))
+add-at c =
+    let view-at = c .before .before .before in
+    let head = view-at .before .before in
+    search (needs, sections-fit (head .loop .inv) (view-at .view-at .ensures) (c .before .if1 .left))
 
 add-i : tie.Need-add-i Inv-loop μ-loop
 add-i c = search needs
@@ -46,7 +49,12 @@ loop-less : tie.Need-loop-less Inv-loop μ-loop
 loop-less c = search needs
 
 loop-again : tie.Need-loop-again Inv-loop μ-loop
-loop-again c = sections-more (c .before .before .before .before .before .loop .inv) (c .before .before .before .view-at .ensures) (c .before .if1 .left) (c .before .before .before .before .before .before .before .before .pre) (c .before .before .before .before .loop-test .taken)
+loop-again c =
+    let view-at = c .before .before .before in
+    let turn = view-at .before in
+    let head = turn .before in
+    let entry = head .before .before .before in
+    sections-more (head .loop .inv) (view-at .view-at .ensures) (c .before .if1 .left) (entry .pre) (turn .loop-test .taken)
 
 returns-2 : tie.Need-returns-2 Inv-loop μ-loop
 returns-2 c = sections-end (c .before .loop .inv) (search needs)
