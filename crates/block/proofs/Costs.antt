@@ -85,7 +85,8 @@ four-all P l i w x y z all a b c d =
     (set-all P (set (set l i w) (i + 1) x) (i + 2) y (set-all P (set l i w) (i + 1) x (set-all P l i w all a) b) c) d
 
 -- what is written for the symbol a
-price-is : (n t cost a weight : ℕ) → weight ≡ 4 ^ (n - suc t) * labelUnit → cost * distanceUnit + a * weight ≡ ranked cost (a * 4 ^ (n - suc t)) 0
+price-is : (n t cost a weight : ℕ) → weight ≡ 4 ^ (n - suc t) * labelUnit
+    → cost * distanceUnit + a * weight ≡ ranked cost (a * 4 ^ (n - suc t)) 0
 unfolding ranked
 price-is n t cost a weight e =
     let m : a * (4 ^ (n - suc t) * labelUnit) ≡ a * 4 ^ (n - suc t) * labelUnit = sym (mul-assoc a (4 ^ (n - suc t)) labelUnit) in
@@ -101,7 +102,13 @@ pub prices-more : {n received mask t r weight c₀ c₁ c₂ c₃ w x y z : ℕ}
     → InPrices n received mask (four prices (4 * (t - 1)) w x y z) (weight * 4) (t - 1)
 unfolding symbolCost rankedCost
 prices-more {n} {received} {mask} {t} {r} {weight} {w = w} {x} {y} {z} {prices} {erased} few I h p q c₀-is a c₁-is b c₂-is c c₃-is d =
-    record { t-le = omega (arith, I .t-le); room = record { long = simp length-set (I .room .long); small = small }; weightIs = weights; light = lighter; at = at }
+    record {
+      t-le = omega (arith, I .t-le);
+      room = record { long = simp length-set (I .room .long); small = small };
+      weightIs = weights;
+      light = lighter;
+      at = at;
+    }
   where
     inside : 4 * (t - 1) + 3 < length prices
     inside = omega (arith, I .room .long, I .t-le)

@@ -50,7 +50,8 @@ left (merge file mapPlaces sectionPlaces) = leftByMerging (merging file (nines m
 left (readBack c places) = leftByReading (readingBack (left c .section) (nines places))
 left (decode c received erased) =
     let blocks = length received in
-    leftByDecoding (decoding (frame (left c .section) 1 (replicate blocks 0) received erased 0 0) (nines (costsABlock * blocks)) (nines blocks)
+    leftByDecoding (decoding (frame (left c .section) 1 (replicate blocks 0) received erased 0 0) (nines (costsABlock * blocks))
+    (nines blocks)
     (nines blocks))
 
 -- what of a call the paper names: the outcome's number and values; all of a buffer; and by the counts that stand in the section, the

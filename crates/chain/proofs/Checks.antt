@@ -40,7 +40,8 @@ module _ (f : Frame) where
     module _ (p : length (f .received) ≡ blockCount f) where
       pub frame-erased : (length (f .erased) ≡ blockCount f → ⊥) → true ≡ frameBad f
       unfolding frameBad
-      frame-erased n = simp (sym e, not-false w h, eq-eqb (length (f .received)) (blockCount f) p, ne-eqb (length (f .erased)) (blockCount f) n)
+      frame-erased n =
+          simp (sym e, not-false w h, eq-eqb (length (f .received)) (blockCount f) p, ne-eqb (length (f .erased)) (blockCount f) n)
 
       module _ (q : length (f .erased) ≡ blockCount f) where
         pub frame-start : mostStates ≤ f .start → true ≡ frameBad f
@@ -123,7 +124,11 @@ module _ {views : List View} {k : ℕ} {indices received erased : List ℕ} {b i
   bad-here h bad sections starts start end F =
       let f = frame sections k indices received erased start end in
       sym (first-is (blockBad f) (length indices) b
-      (record { most = I .b-le; hit = λ l. holds (bad sections starts start end F); miss = λ c l t. fails (I .none sections starts start end F c l) t }))
+      (record {
+        most = I .b-le;
+        hit = λ l. holds (bad sections starts start end F);
+        miss = λ c l t. fails (I .none sections starts start end F c l) t;
+      }))
 
   pub blocks-index : b < length indices → k ≤ i → Answer b
   blocks-index h l = bad-here h (λ s t u v F. block-index (frame s k indices received erased u v) b e l)

@@ -1,6 +1,6 @@
--- Behind all checks. The blocks as the code holds them are the frame's: the places that were found are the places where the sections begin. So
--- the table that is filled is the frame's cost table, as no distance reaches its mark for no path. Where the start state's place has that
--- mark there is no path; elsewhere the path that is followed is the first of least distance.
+-- Behind all checks. The blocks as the code holds them are the frame's: the places that were found are the places where the sections begin.
+-- So the table that is filled is the frame's cost table, as no distance reaches its mark for no path. Where the start state's place has
+-- that mark there is no path; elsewhere the path that is followed is the first of least distance.
 use mathlib.Core.Path.{_≡_, refl, sym, ap, subst, _∙_}
 use mathlib.Core.List.{List, map}
 use Prim.Native.Nat.{ℕ, _+_, _-_, _*_, _/_, _%_, _≤_, _<_}

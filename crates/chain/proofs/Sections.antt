@@ -157,7 +157,8 @@ sections-end I h = record { r-le = I .i-le; found = I .found; unusable-at = λ l
 
 -- ---- fault 8
 
-first-unusable : {sections starts : List ℕ} {views : List View} {k r : ℕ} → FirstUnusable sections starts views k r → first (unusable sections) k ≡ r
+first-unusable : {sections starts : List ℕ} {views : List View} {k r : ℕ} → FirstUnusable sections starts views k r
+    → first (unusable sections) k ≡ r
 unfolding unusable
 first-unusable {sections} {k = k} {r} F = first-is (unusable sections) k r (record {
   most = F .r-le;

@@ -1,5 +1,5 @@
--- The loop over the blocks: what is left to pay, the cost table and the picks are those of whatever chain the blocks are, from block b on. One
--- block more is passed as the laws of a chain say, and its rows are put in their places.
+-- The loop over the blocks: what is left to pay, the cost table and the picks are those of whatever chain the blocks are, from block b on.
+-- One block more is passed as the laws of a chain say, and its rows are put in their places.
 use mathlib.Core.Path.{_≡_, refl, sym, ap, subst, _∙_}
 use mathlib.Core.Logic.{inr}
 use mathlib.Core.List.{List}
@@ -71,7 +71,8 @@ pub record BlockAt (H : Held) (b i : ℕ) : Type 0 where
   pub index-lt : i < mostSections
   pub inside : getD (H .starts) i 0 ≤ length (H .sections)
   pub part-is : take (length (H .sections) - getD (H .starts) i 0) (drop (getD (H .starts) i 0) (H .sections)) ≡ partOf H b
-  pub seen : Seen (take (length (H .sections) - getD (H .starts) i 0) (drop (getD (H .starts) i 0) (H .sections))) (getD (H .views) i noView)
+  pub seen : Seen (take (length (H .sections) - getD (H .starts) i 0) (drop (getD (H .starts) i 0) (H .sections)))
+      (getD (H .views) i noView)
   pub few : b < 256
 
 pub block-at : {H : Held} {b i : ℕ} → Ready H → b < length (H .indices) → i ≡ getD (H .indices) b 0 → BlockAt H b i

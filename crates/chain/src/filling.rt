@@ -26,8 +26,8 @@ fn copy_row(row: &[u32; COSTS_A_BLOCK], place: &mut [u32])
     }
 }
 
-// One block: `left` has what is left to pay behind it, and then before it, which goes to the cost table; `picks` gets its picks. The prices and
-// the two rows are working room.
+// One block: `left` has what is left to pay behind it, and then before it, which goes to the cost table; `picks` gets its picks. The prices
+// and the two rows are working room.
 fn fill_block(
     l: &[u16],
     at: View,

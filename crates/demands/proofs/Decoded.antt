@@ -205,7 +205,11 @@ module _ (f : Frame) (costs labels goals : List ℕ) where
 
   pub meaning : Meaning f decoded
   meaning = record {
-    paths = λ p. (in-paths words (endsIn (f .end)) (blockCount f) 0 (f .start) p, of-paths words (endsIn (f .end)) (blockCount f) 0 (f .start) p);
+    paths = λ p. (
+      in-paths words (endsIn (f .end)) (blockCount f) 0 (f .start) p,
+      of-paths words (endsIn (f .end)) (blockCount f) 0
+          (f .start) p,
+    );
     none = none-means;
     best = best-means;
   }

@@ -88,7 +88,8 @@ roots-start h = record {
 }
 
 pub roots-more : {l row left picks : List ℕ} {at : View} {v s rank cost pick : ℕ} → Seen l at → RootsPut l row left picks v
-    → v < at .goals - at .roots → s ≡ getD l (at .roots + v) 0 → rank ≡ getD row v 0 → cost ≡ rank / distanceUnit → pick ≡ rank % distanceUnit
+    → v < at .goals - at .roots → s ≡ getD l (at .roots + v) 0 → rank ≡ getD row v 0 → cost ≡ rank / distanceUnit
+    → pick ≡ rank % distanceUnit
     → RootsPut l row (set left s cost) (set picks s pick) (v + 1)
 roots-more {l} {row} {left} {picks} {at} {v} {s} {rank} {cost} {pick} S I h p r q w = record {
   long = simp length-set (I .long);

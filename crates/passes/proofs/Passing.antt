@@ -1,5 +1,5 @@
--- One block: the ranks of the goals make the ranks of the roots along the edges of the section, and a root's rank has the least cost from its
--- state and below it the first word of that cost. A state that is no root has no word.
+-- One block: the ranks of the goals make the ranks of the roots along the edges of the section, and a root's rank has the least cost from
+-- its state and below it the first word of that cost. A state that is no root has no word.
 use mathlib.Core.Path.{_≡_, refl, sym, ap, subst, _∙_}
 use mathlib.Core.Bool.{Bool, true, false, cond}
 use mathlib.Core.List.{List}
@@ -143,7 +143,8 @@ module _ {l prices left even odd newEven newOdd new picks : List ℕ} {at : View
         go F (yes h) =
             subst (λ x. getD new x 0 ≡ least x) (F .is h)
             (R .cost (rootOf l s) h ∙ ap (λ x. x / distanceUnit) (ranks (rootOf l s) h)
-            ∙ ranked-least (uses (S .sound) cost) (rankable (S .sound) cost) rest (C .bound) (rootOf l s) (listed (S .sound) cost (rootOf l s) h))
+            ∙ ranked-least (uses (S .sound) cost) (rankable (S .sound) cost) rest (C .bound) (rootOf l s)
+            (listed (S .sound) cost (rootOf l s) h))
         go F (no h) =
             let none = F .none (omega arith) in
             R .none s k none ∙ sym (least-else (uses (S .sound) cost) unreached rest (C .bound) s (none-listed (S .sound) cost s none))
@@ -157,7 +158,8 @@ module _ {l prices left even odd newEven newOdd new picks : List ℕ} {at : View
             subst (λ x. Pick (sectionWords l) (wordPrice (nOf l) cost) rest x (getD picks x 0)) (F .is h)
             (subst (Pick (sectionWords l) (wordPrice (nOf l) cost) rest (rootState l (rootOf l s)))
             (sym (R .pick (rootOf l s) h ∙ ap (λ x. x % distanceUnit) (ranks (rootOf l s) h)))
-            (ranked-pick (uses (S .sound) cost) (rankable (S .sound) cost) rest (C .bound) (rootOf l s) (listed (S .sound) cost (rootOf l s) h)
+            (ranked-pick (uses (S .sound) cost) (rankable (S .sound) cost) rest (C .bound) (rootOf l s)
+            (listed (S .sound) cost (rootOf l s) h)
             (subst (λ x. least x < unreached) (sym (F .is h)) o)))
         go F (no h) =
             let e = least-else (uses (S .sound) cost) unreached rest (C .bound) s (none-listed (S .sound) cost s (F .none (omega arith))) in

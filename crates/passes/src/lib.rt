@@ -1,7 +1,7 @@
-// One block of a chain, whatever its symbols cost and wherever a path may end: from what is left to pay behind the block, state by state, to
-// what is left to pay before it, over the edges of the block's section and never over its words; and for each state a pick, the label and
-// the goal of the first word of least cost. Blocks are passed from the last to the first, and the picks are followed from the first to the
-// last.
+// One block of a chain, whatever its symbols cost and wherever a path may end: from what is left to pay behind the block, state by state,
+// to what is left to pay before it, over the edges of the block's section and never over its words; and for each state a pick, the label
+// and the goal of the first word of least cost. Blocks are passed from the last to the first, and the picks are followed from the first to
+// the last.
 ghost use mathlib.Core.Path.{_≡_};
 ghost use Prim.Native.Nat.{_/_, _%_, _<_, _≤_};
 ghost use lib.ListN.{length};
@@ -96,7 +96,8 @@ fn put_roots(
     picks: &mut [u32],
 )
     requires { ⌜ Seen (now l) at × RootsAsked (now l) (now row) (now picks) ⌝ }
-    ensures { λ _. ⌜ RootsPut (now (l .entry)) (now (row .entry)) (now (left .exit)) (now (picks .exit)) (vertexCountOf (now (l .entry)) 0) ⌝ }
+    ensures { λ _. ⌜ RootsPut (now (l .entry)) (now (row .entry)) (now (left .exit)) (now (picks .exit)) (vertexCountOf (now (l .entry)) 0)
+        ⌝ }
 {
     *left = [NO_PATH; COSTS_A_BLOCK];
     let roots = at.roots;
@@ -111,8 +112,8 @@ fn put_roots(
     }
 }
 
-// One block backward. `left` has what is left to pay in each state behind the block, and then before it; `picks` gets the pick of each state.
-// The two rows are working room.
+// One block backward. `left` has what is left to pay in each state behind the block, and then before it; `picks` gets the pick of each
+// state. The two rows are working room.
 pub fn pass_block(
     l: &[u16],
     at: View,

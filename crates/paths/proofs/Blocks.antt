@@ -1,5 +1,5 @@
--- One block that is a section: at the states of its roots the least costs follow along the edges of the section, at any other state there is
--- no path. The first word of least cost is that of the path which the section's numbers name.
+-- One block that is a section: at the states of its roots the least costs follow along the edges of the section, at any other state there
+-- is no path. The first word of least cost is that of the path which the section's numbers name.
 use mathlib.Core.Path.{_≡_, refl, sym, ap, _∙_}
 use mathlib.Core.List.{List, map}
 use mathlib.Core.Option.{some as just}

@@ -72,13 +72,15 @@ record Ranks (f F K : ℕ) : Type 0 where
   small : K < distanceUnit
 
 ranks : (rest : ℕ → ℕ) (d label goal : ℕ) → rest goal ≤ 4294967295 → label < 65536 → goal < labelUnit
-    → Ranks (plus 4294967295 d (rest goal)) (plus topRank (d * distanceUnit + label * labelUnit) (rankedLeft (rest goal) goal)) (label * labelUnit + goal)
+    → Ranks (plus 4294967295 d (rest goal)) (plus topRank (d * distanceUnit + label * labelUnit) (rankedLeft (rest goal) goal))
+    (label * labelUnit + goal)
 unfolding plus rankedLeft ranked
 ranks rest d label goal h l g = go (ltb (rest goal) 4294967295) refl
   where
     go : (b : Bool) → ltb (rest goal) 4294967295 ≡ b
         → Ranks (min 4294967295 (d + rest goal))
-        (min topRank (d * distanceUnit + label * labelUnit + cond b (rest goal * distanceUnit + (0 * labelUnit + goal)) topRank)) (label * labelUnit + goal)
+        (min topRank (d * distanceUnit + label * labelUnit + cond b (rest goal * distanceUnit + (0 * labelUnit + goal)) topRank))
+        (label * labelUnit + goal)
     go true e = let k = ltb-true (rest goal) 4294967295 e in record { front = omega arith; whole = λ z. omega arith; small = omega arith }
     go false e = let k = ltb-false (rest goal) 4294967295 e in record { front = omega arith; whole = λ z. omega arith; small = omega arith }
 
@@ -270,7 +272,12 @@ module _ {ws : List Word} {price : Word → ℕ} {edges : ℕ → List Edge} {n 
   pub ranked-pick : (v : ℕ) → v ∈ roots → leastOver ws price unreached left (rootOf v) < unreached
       → Pick ws price left (rootOf v) (rankFrom v % distanceUnit)
   unfolding firstOver wordOf
-  ranked-pick v m h = record { small = omega arith; goal-lt = subst (λ x. x < mostStates) (K .goal-is) (M .goal-lt); first = first ∙ ap just same }
+  ranked-pick v m h = record {
+    small = omega arith;
+    goal-lt = subst (λ x. x < mostStates) (K .goal-is) (M .goal-lt);
+    first = first
+        ∙ ap just same;
+  }
     where
       c : ℕ
       c = leastOver ws price unreached left (rootOf v)
@@ -293,7 +300,8 @@ module _ {ws : List Word} {price : Word → ℕ} {edges : ℕ → List Edge} {n 
       K : Reads (rankFrom v % distanceUnit) (w .label) (w .goal)
       K =
           reads c (w .label) (w .goal)
-          (sym (rank-is v) ∙ least-first (mine-ascend v m) (mine-ranks v) c h least w (mine-ranks v w (of-first (λ x. eqb (onWord x) c) (mine v) named .0) .small) named)
+          (sym (rank-is v) ∙ least-first (mine-ascend v m) (mine-ranks v) c h least w
+          (mine-ranks v w (of-first (λ x. eqb (onWord x) c) (mine v) named .0) .small) named)
           (M .label-lt) (M .goal-lt)
 
       same : w ≡ word (rootOf v) (rankFrom v % distanceUnit / labelUnit) (rankFrom v % distanceUnit % labelUnit)

@@ -13,6 +13,7 @@ use Rattle.trellis.specs.Bounds.{mostStates, mostWords, mostSymbols, mostQ}
 use Rattle.trellis.specs.Own as own
 use Rattle.trellis.specs.Layout.{qOf, nOf, vertexCountOf, edgeCountOf, edgesBefore, allEdges, sectionLength, edgeNumber}
 use Rattle.trellis.specs.Layout.{rootsPlace, goalsPlace, pairsPlace, symbolsPlace, rootState, goalState}
+use Rattle.trellis.proofs.Lists.{rest-of}
 use Rattle.trellis.proofs.Laid.{before-none, before-more, before-le, before-few}
 use Rattle.section_file.specs.Usable.{stepEdge}
 use Rattle.section_file.specs.inner.Sound.{Sound}
@@ -103,14 +104,11 @@ before-in {l} {at} {t} L h e = let v = viewed (L .is) in omega (arith, before-le
 -- ---- a slice from a place on
 
 module _ (l : List ℕ) (a : ℕ) where
-  pub from-is : take (length l - a) (drop a l) ≡ drop a l
-  from-is = take-all (length l - a) (drop a l) (le-of-eq (length-drop a l))
-
   from-at : (i : ℕ) → getD (take (length l - a) (drop a l)) i 0 ≡ getD l (a + i) 0
-  from-at i = ap (λ m. getD m i 0) from-is ∙ getD-drop a l i 0
+  from-at i = ap (λ m. getD m i 0) (rest-of l a) ∙ getD-drop a l i 0
 
   pub from-length : length (take (length l - a) (drop a l)) ≡ length l - a
-  from-length = ap length from-is ∙ length-drop a l
+  from-length = ap length (rest-of l a) ∙ length-drop a l
 
 pub numbers-from : (l : List ℕ) {a b : ℕ} → a ≡ b
     → _≡_ {A = ℕ → ℕ} (λ i. getD (take (length l - a) (drop a l)) i 0) (λ i. getD l (b + i) 0)

@@ -26,7 +26,8 @@ use Rattle.section_file.specs.declared.Part.the-variants.{Usable, Unusab
 use Rattle.section_file.proofs.Tests.{holds-by, fails-by, to-high, all-at, all-of}
 use Rattle.section_file.proofs.Tests.{Passed, passed-start, passed-next}
 use Rattle.section_file.proofs.Reading.{ascend-is}
-use Rattle.section_file.proofs.Seen.{viewed, from-is, edges-from, run-there}
+use Rattle.trellis.proofs.Lists.{rest-of}
+use Rattle.section_file.proofs.Seen.{viewed, edges-from, run-there}
 use Rattle.section_file.proofs.Usable.{Conditions, Inside, usable-says, usable-by, step-says, step-by, inside-says}
 use Rattle.section_file.proofs.Usable.{inside-is, onward-is, inward-is, reached-is, leading-is}
 
@@ -200,4 +201,4 @@ unfolding sizesRight within
 part-past s at h = let e : drop at s ≡ [] = drop-of-length-le s {i = at} (omega arith) in rw e (unusable [] (λ c. clash (sym (c .sizes))))
 
 pub part-from : (s : List ℕ) (at : ℕ) {r : Part} → r ≡ partOf (take (length s - at) (drop at s)) → r ≡ partOf (drop at s)
-part-from s at e = e ∙ ap partOf (from-is s at)
+part-from s at e = e ∙ ap partOf (rest-of s at)

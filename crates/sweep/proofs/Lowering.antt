@@ -1,5 +1,5 @@
--- One row: cleared, then lowered edge by edge. What a place has and what the edges still to come give it come, by `min`, to what all its edges
--- give; each edge moves from the one side to the other.
+-- One row: cleared, then lowered edge by edge. What a place has and what the edges still to come give it come, by `min`, to what all its
+-- edges give; each edge moves from the one side to the other.
 use mathlib.Core.Path.{_≡_, refl, sym, ap, ap₂, subst, _∙_}
 use mathlib.Core.Bool.{cond}
 use mathlib.Core.List.{List, [], _∷_}
@@ -53,7 +53,8 @@ module _ (pairs symbols : List ℕ) (count : ℕ) (prices behind : List ℕ) whe
   pub record InLower (old row : List ℕ) (k : ℕ) : Type 0 where
     pub k-le : k ≤ count
     pub long : length row ≡ mostWords
-    pub left : (v : ℕ) → v < mostWords → minAll (getD row v 0) gives (leaving v (later k)) ≡ minAll (getD old v 0) gives (leaving v (later 0))
+    pub left : (v : ℕ) → v < mostWords → minAll (getD row v 0) gives (leaving v (later k)) ≡ minAll (getD old v 0) gives
+        (leaving v (later 0))
 
 leaving-here : (e : Edge) (es : List Edge) (v : ℕ) → e .from ≡ v → leaving v (e ∷ es) ≡ e ∷ leaving v es
 unfolding leaving keep
@@ -74,7 +75,7 @@ pub lower-start : {pairs symbols prices behind row : List ℕ} {count : ℕ} →
 lower-start A = record { k-le = omega arith; long = A .rowLong; left = λ v h. refl }
 
 -- an edge as it is read: there are places for it in the rows, and what it gives does not wrap
-pub record Placed (prices behind row : List ℕ) (from symbol to : ℕ) : Type 0 where
+pub record EdgeFits (prices behind row : List ℕ) (from symbol to : ℕ) : Type 0 where
   pub from-lt : from < mostWords
   pub symbol-lt : symbol < length prices
   pub to-lt : to < mostWords
@@ -89,9 +90,9 @@ record Read (pairs symbols : List ℕ) (k : ℕ) (e : code.Edge) : Type 0 where
 read-of : {pairs symbols : List ℕ} {k : ℕ} {e : code.Edge} → e ≡ heldEdge (edgeIn pairs symbols k) → Read pairs symbols k e
 read-of q = record { from-is = ap (λ e. e .from) q; symbol-is = ap (λ e. e .symbol) q; to-is = ap (λ e. e .to) q }
 
-pub placed : {pairs symbols prices behind row : List ℕ} {count k : ℕ} {e : code.Edge} → StepAsked pairs symbols count prices behind row
-    → k < count → e ≡ heldEdge (edgeIn pairs symbols k) → Placed prices behind row (e .from) (e .symbol) (e .to)
-placed {pairs} {symbols} {behind = behind} {k = k} {e = d} A h q =
+pub edge-fits : {pairs symbols prices behind row : List ℕ} {count k : ℕ} {e : code.Edge} → StepAsked pairs symbols count prices behind row
+    → k < count → e ≡ heldEdge (edgeIn pairs symbols k) → EdgeFits prices behind row (e .from) (e .symbol) (e .to)
+edge-fits {pairs} {symbols} {behind = behind} {k = k} {e = d} A h q =
     let R : Read pairs symbols k d = read-of q in
     let a = A .fromSmall k h in
     let b = A .symbolSmall k h in
@@ -137,10 +138,12 @@ lower-more {pairs} {symbols} {prices} {behind} {old} {row} {count} {k} {x} {d} A
     f = through prices behind
 
     left : (v : ℕ) → v < mostWords
-        → minAll (getD (set row from x) v 0) f (leaving v es) ≡ minAll (getD old v 0) f (leaving v (run (edgeIn pairs symbols) 0 (count - 0)))
+        → minAll (getD (set row from x) v 0) f (leaving v es) ≡ minAll (getD old v 0) f
+        (leaving v (run (edgeIn pairs symbols) 0 (count - 0)))
     left v l = go (ℕ-discrete from v)
       where
-        before : minAll (getD row v 0) f (leaving v (e ∷ es)) ≡ minAll (getD old v 0) f (leaving v (run (edgeIn pairs symbols) 0 (count - 0)))
+        before : minAll (getD row v 0) f (leaving v (e ∷ es)) ≡ minAll (getD old v 0) f
+            (leaving v (run (edgeIn pairs symbols) 0 (count - 0)))
         before = ap (λ ds. minAll (getD row v 0) f (leaving v ds)) (sym begins) ∙ I .left v l
 
         go : Dec (from ≡ v)
@@ -156,7 +159,8 @@ lower-more {pairs} {symbols} {prices} {behind} {old} {row} {count} {k} {x} {d} A
             ap (λ y. minAll y f (leaving v es)) (getD-set-other row from v x 0 (λ u. z (omega arith)))
             ∙ ap (minAll (getD row v 0) f) (sym (leaving-other e es v (λ u. z (R .from-is ∙ u)))) ∙ before
 
-pub lower-end : {pairs symbols prices behind old row : List ℕ} {count k : ℕ} → InLower pairs symbols count prices behind old row k → count ≤ k
+pub lower-end : {pairs symbols prices behind old row : List ℕ} {count k : ℕ} → InLower pairs symbols count prices behind old row k
+    → count ≤ k
     → Lowered pairs symbols count prices behind old row
 unfolding run leaving keep minAll
 lower-end {pairs} {symbols} {prices} {behind} {old} {row} {count} {k} I h = record { long = I .long; at = at }

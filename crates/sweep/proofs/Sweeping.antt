@@ -1,5 +1,5 @@
--- All rows: the row of a depth follows from the row behind it, since what an edge gives over the two arrays is, up to the top, what it gives by
--- the theory. The two arrays take turns, and depth 0 is even.
+-- All rows: the row of a depth follows from the row behind it, since what an edge gives over the two arrays is, up to the top, what it
+-- gives by the theory. The two arrays take turns, and depth 0 is even.
 use mathlib.Core.Path.{_≡_, refl, sym, ap, ap₂, subst, _∙_}
 use mathlib.Core.Bool.{Bool, true, false, cond}
 use mathlib.Core.List.{List, [], _∷_, List·Memᴰ·head, List·Memᴰ·tail}
@@ -33,7 +33,7 @@ use Rattle.sweep.specs.inner.Loops.{Cleared, StepAsked, through, Lowered
 -- ---- places
 
 -- where the edges of step t stand
-pub record Near (l : List ℕ) (at : View) (t before : ℕ) : Type 0 where
+pub record StepNear (l : List ℕ) (at : View) (t before : ℕ) : Type 0 where
   pub counts : Header l at
   pub few : before + edgeCountOf l t ≤ 30000
   pub pairs-in : at .pairs + 2 * (before + edgeCountOf l t) ≤ length l
@@ -41,7 +41,7 @@ pub record Near (l : List ℕ) (at : View) (t before : ℕ) : Type 0 where
   pub near : at .symbols + (before + edgeCountOf l t) ≤ 30000
   pub pairs-near : at .pairs + 2 * (before + edgeCountOf l t) ≤ 30000
 
-pub near-by : {l : List ℕ} {at : View} {t before : ℕ} → Seen l at → t < nOf l → before ≡ edgesBefore l t → Near l at t before
+pub near-by : {l : List ℕ} {at : View} {t before : ℕ} → Seen l at → t < nOf l → before ≡ edgesBefore l t → StepNear l at t before
 near-by {l} {at} {t} S h e =
     let W = viewed (S .is) in
     let P = parts l in
@@ -66,7 +66,8 @@ vertices-few {t = t} S h e = omega (arith, S .sound .verticesTo t h)
 
 -- ---- one step, in the slices that the code takes
 
-module _ {l : List ℕ} {at : View} {t before : ℕ} (S : Seen l at) {prices behind old : List ℕ} (A : DepthAsked l t before prices behind old) where
+module _ {l : List ℕ} {at : View} {t before : ℕ} (S : Seen l at) {prices behind old : List ℕ}
+    (A : DepthAsked l t before prices behind old) where
   abbrev pairs : List ℕ
   pairs = take (length l - (at .pairs + 2 * before)) (drop (at .pairs + 2 * before) l)
 
@@ -112,8 +113,14 @@ module _ {l : List ℕ} {at : View} {t before : ℕ} (S : Seen l at) {prices beh
         rowLong = r;
         fromSmall = λ k h. let i = in-step k (omega arith) in
             subst (λ d. d .from < mostWords) (sym (numbered k))
-            (omega (arith, from-below (S .sound) t (before + k) (A .inside) (i .from) (i .to), S .sound .verticesTo t (omega (arith, A .inside))));
-        symbolSmall = λ k h. subst (λ d. d .symbol < 4) (sym (numbered k)) (symbol-small (S .sound) (before + k) (in-step k (omega arith) .all));
+            (omega (
+              arith,
+              from-below (S .sound) t (before + k) (A .inside) (i .from) (i .to),
+              S .sound .verticesTo t
+                  (omega (arith, A .inside)),
+            ));
+        symbolSmall = λ k h. subst (λ d. d .symbol < 4) (sym (numbered k))
+            (symbol-small (S .sound) (before + k) (in-step k (omega arith) .all));
         toSmall = λ k h. let i = in-step k (omega arith) in
             subst (λ d. d .to < mostWords) (sym (numbered k))
             (omega (arith, to-below (S .sound) t (before + k) (A .inside) (i .from) (i .to), S .sound .verticesTo (suc t) (A .inside)));
@@ -144,7 +151,8 @@ module _ {l : List ℕ} {at : View} {t before : ℕ} (S : Seen l at) {prices beh
       ap₂ (λ x y. min topRank (x + y))
       (own-at (e .symbol)
       ∙ P .at t (e .symbol) (A .inside) (subst (λ d. d .symbol < 4) (sym (w .is)) (symbol-small (S .sound) i (omega arith))))
-      (R .at (e .to) (subst (λ d. d .to < vertexCountOf l (suc t)) (sym (w .is)) (to-below (S .sound) t i (A .inside) (omega arith) (omega arith))))
+      (R .at (e .to) (subst (λ d. d .to < vertexCountOf l (suc t)) (sym (w .is))
+      (to-below (S .sound) t i (A .inside) (omega arith) (omega arith))))
 
 -- sums above the top may as well be the top
 min-capped : {A : Type 0} (top : ℕ) (f : A → ℕ) {g : A → ℕ} (xs : List A) → ((x : A) → x ∈ xs → min top (f x) ≡ g x)
@@ -164,7 +172,12 @@ pub depth-done : {l : List ℕ} {at : View} {t before first count : ℕ} {prices
     → Lowered (pairs S A) (symbols S A) count (own S A) behind mid new → DepthDone l t prices behind new
 unfolding vertexCountOf edgeCountOf
 depth-done {l} {at} {t} {before} {first} {count} {prices} {behind} {mid = mid} {new} S A f C c L =
-    record { long = L .long; small = λ v h. subst (λ x. x ≤ topRank) (sym (lowered v h)) (min-all-le topRank _ (leaving v (stepEdges l t))); done = done }
+    record {
+      long = L .long;
+      small = λ v h. subst (λ x. x ≤ topRank) (sym (lowered v h))
+          (min-all-le topRank _ (leaving v (stepEdges l t)));
+      done = done;
+    }
   where
     below : (v : ℕ) → v < vertexCountOf l t → v < mostWords
     below v h = omega (arith, S .sound .verticesTo t (omega (arith, A .inside)))
@@ -197,7 +210,8 @@ module _ (t : ℕ) (even odd : List ℕ) where
   side-odd e = ap (λ b. cond b even odd) (ne-eqb (t % 2) 0 e)
 
 module _ {l prices even odd : List ℕ} {t before : ℕ} where
-  pub asked-even : t % 2 ≡ 0 → DepthAsked l t before prices (side (suc t) even odd) (side t even odd) → DepthAsked l t before prices odd even
+  pub asked-even : t % 2 ≡ 0 → DepthAsked l t before prices (side (suc t) even odd) (side t even odd)
+      → DepthAsked l t before prices odd even
   asked-even e A =
       subst (λ x. DepthAsked l t before prices x even) (side-odd (suc t) even odd (omega arith))
       (subst (DepthAsked l t before prices (side (suc t) even odd)) (side-even t even odd e) A)

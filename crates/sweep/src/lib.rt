@@ -1,6 +1,6 @@
-// The least costs of one section, over its edges and never over its words: depth by depth from the last to the first, the least cost from each
-// vertex. Only two rows are kept, one for the even depths and one for the odd. What a symbol costs and what it costs to end in a vertex are
-// the caller's.
+// The least costs of one section, over its edges and never over its words: depth by depth from the last to the first, the least cost from
+// each vertex. Only two rows are kept, one for the even depths and one for the odd. What a symbol costs and what it costs to end in a
+// vertex are the caller's.
 ghost use mathlib.Core.Path.{_≡_};
 ghost use Prim.Native.Nat.{suc, _+_, _*_, _<_, _≤_, min};
 ghost use lib.ListN.{length};
@@ -32,8 +32,8 @@ fn clear(count: usize, row: &mut [u64; MOST_WORDS])
     }
 }
 
-// Lowers the row of a depth to the least that the edges of its step give: the price of an edge's symbol, and what the row behind has where the
-// edge leads. No sum wraps, since both are at most TOP_RANK, and none above it stays, since the row has nothing above it.
+// Lowers the row of a depth to the least that the edges of its step give: the price of an edge's symbol, and what the row behind has where
+// the edge leads. No sum wraps, since both are at most TOP_RANK, and none above it stays, since the row has nothing above it.
 fn lower(
     pairs: &[u16],
     symbols: &[u16],

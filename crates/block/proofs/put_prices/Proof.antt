@@ -1,5 +1,5 @@
--- `block::put_prices` goes from the last symbol to the first, each weighing four times the one before it. The loop's invariant: the steps passed
--- have what their symbols add. The measure is how many are left.
+-- `block::put_prices` goes from the last symbol to the first, each weighing four times the one before it. The loop's invariant: the steps
+-- passed have what their symbols add. The measure is how many are left.
 use borrow.Author.Needs.{needs}
 use Rattle.block.proofs.Costs.{prices-start, prices-more, prices-end, InPrices}
 use Rattle.block.proofs.put_prices.Statement.{statement}

@@ -65,7 +65,8 @@ decode-frame-requires c κs =
     let find-sections = else3 .before .before .before .before .before in
     let else1 = find-sections .before in
     let is-within = else1 .before in
-    sections-good (is-within .is-within .ensures) (else1 .if1 .left) (find-sections .find-sections .ensures) (search needs) (else3 .if3 .left) .found
+    sections-good (is-within .is-within .ensures) (else1 .if1 .left) (find-sections .find-sections .ensures) (search needs)
+    (else3 .if3 .left) .found
 
 same-length : tie.Need-same-length
 same-length c = search needs
@@ -85,7 +86,8 @@ returns-4 c =
     let is-within = else1 .before in
     let entry = is-within .before .before .before .before .before .before .before .before in
     past-sections (frame-of entry) _ _ _
-    (sections-good (is-within .is-within .ensures) (else1 .if1 .left) (find-sections .find-sections .ensures) (search needs) (else3 .if3 .left) .good)
+    (sections-good (is-within .is-within .ensures) (else1 .if1 .left) (find-sections .find-sections .ensures) (search needs)
+    (else3 .if3 .left) .good)
     (decode-frame .decode-frame .ensures)
 
 pub decode-spec : {M : Type 1} → statement M

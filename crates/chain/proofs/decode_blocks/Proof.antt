@@ -41,8 +41,12 @@ slice-aggregate-decode-with-2 c = search needs
 decode-with-requires-2 : tie.Need-decode-with-requires-2
 decode-with-requires-2 c κs =
     let needed = c .before .before .before .before .before .before in
-    let entry = needed .before .before .before .before .before .before .before .before in
-    (entry .pre, room-of (entry .pre .checks .framed .some) (needed .needed .ensures) (search needs), picks-enough (entry .pre .checks .framed .many))
+    let entry = needed .before .before .before .before .before .before .before .before in (
+      entry .pre,
+      room-of (entry .pre .checks .framed .some) (needed .needed .ensures) (search needs),
+      picks-enough
+          (entry .pre .checks .framed .many),
+    )
 
 same-length-4 : tie.Need-same-length-4
 same-length-4 c = search needs

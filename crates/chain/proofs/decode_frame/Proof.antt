@@ -14,7 +14,8 @@ frame-of s =
     (s .args .end)
 
 -- it passes where neither test names a fault
-passed : (e : tie.Else2) → FramePassed (frame-of (e .before .before .before .before .before .before .before .before .before .before .before))
+passed : (e : tie.Else2) → FramePassed (frame-of (e .before .before .before .before .before .before .before .before .before .before
+    .before))
 passed e =
     let s = e .before .before .before .before .before .before .before .before .before .before .before in
     let f = frame-of s in

@@ -38,7 +38,8 @@ returns c =
     let widened2 = ends-in .before in
     let widened = widened2 .before in
     let entry = widened .before .before .before .before .before .before .before .before .before in
-    with-none (entry .pre .0) (widened .widened .ensures .0) (widened2 .widened2 .ensures .0) (ends-in .ends-in .ensures) (entry .pre .1) (fill-table .fill-table .ensures)
+    with-none (entry .pre .0) (widened .widened .ensures .0) (widened2 .widened2 .ensures .0) (ends-in .ends-in .ensures) (entry .pre .1)
+    (fill-table .fill-table .ensures)
     (c .if1 .taken)
 
 follow-requires : tie.Need-follow-requires
@@ -49,7 +50,8 @@ follow-requires c κs =
     let widened2 = ends-in .before in
     let widened = widened2 .before in
     let entry = widened .before .before .before .before .before .before .before .before .before in
-    with-picks (entry .pre .0) (widened .widened .ensures .0) (widened2 .widened2 .ensures .0) (ends-in .ends-in .ensures) (entry .pre .1) (fill-table .fill-table .ensures)
+    with-picks (entry .pre .0) (widened .widened .ensures .0) (widened2 .widened2 .ensures .0) (ends-in .ends-in .ensures) (entry .pre .1)
+    (fill-table .fill-table .ensures)
     (else1 .if1 .left) (entry .pre .2)
 
 same-length-3 : tie.Need-same-length-3

@@ -54,7 +54,8 @@ returns-2 c =
     let widened = c .before .before .before .before .before .before in
     let turn = widened .before .before in
     let head = turn .before in
-    blocks-unfit (head .loop .inv) (widened .widened .ensures .0) (search needs) (c .before .fits2 .ensures) (turn .loop-test .taken) (c .if2 .taken)
+    blocks-unfit (head .loop .inv) (widened .widened .ensures .0) (search needs) (c .before .fits2 .ensures) (turn .loop-test .taken)
+    (c .if2 .taken)
 
 add-b : tie.Need-add-b Inv-loop μ-loop
 add-b c = search needs
@@ -67,7 +68,8 @@ loop-again c =
     let widened = c .before .before .before .before .before .before in
     let turn = widened .before .before in
     let head = turn .before in
-    blocks-more (head .loop .inv) (widened .widened .ensures .0) (search needs) (c .before .fits2 .ensures) (turn .loop-test .taken) (c .if2 .left)
+    blocks-more (head .loop .inv) (widened .widened .ensures .0) (search needs) (c .before .fits2 .ensures) (turn .loop-test .taken)
+    (c .if2 .left)
 
 returns-3 : tie.Need-returns-3 Inv-loop μ-loop
 returns-3 c = blocks-none (c .before .loop .inv) (search needs)

@@ -25,14 +25,16 @@ returns-4 c =
     let else2 = c .before .before in
     let else1 = else2 .before in
     let is-within = else1 .before in
-    λ s k. frame-start (frame s k _ _ _ _ _) (is-within .is-within .ensures) (else1 .if1 .left) (else2 .if2 .left) (c .before .if3 .left) (c .if4 .taken)
+    λ s k. frame-start (frame s k _ _ _ _ _) (is-within .is-within .ensures) (else1 .if1 .left) (else2 .if2 .left) (c .before .if3 .left)
+    (c .if4 .taken)
 
 returns-5 : tie.Need-returns-5
 returns-5 c =
     let else2 = c .before .before in
     let else1 = else2 .before in
     let is-within = else1 .before in
-    λ s k. frame-end (frame s k _ _ _ _ _) (is-within .is-within .ensures) (else1 .if1 .left) (else2 .if2 .left) (c .before .if3 .left) (search needs)
+    λ s k. frame-end (frame s k _ _ _ _ _) (is-within .is-within .ensures) (else1 .if1 .left) (else2 .if2 .left) (c .before .if3 .left)
+    (search needs)
 
 pub frame-bad-spec : {M : Type 1} → statement M
 frame-bad-spec =

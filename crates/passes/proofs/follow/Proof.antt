@@ -76,7 +76,8 @@ loop-again c =
     let turn = goal-of .before .before in
     let head = turn .before in
     let entry = head .before .before .before .before in
-    follow-more (entry .pre) (head .loop .inv) (turn .loop-test .taken) (c .before .label-of .ensures) (goal-of .goal-of .ensures) (c .widened .ensures .0)
+    follow-more (entry .pre) (head .loop .inv) (turn .loop-test .taken) (c .before .label-of .ensures) (goal-of .goal-of .ensures)
+    (c .widened .ensures .0)
 
 same-length : tie.Need-same-length Inv-loop μ-loop
 same-length c = c .before .loop .inv .labelsLong

@@ -1,5 +1,5 @@
--- `passes::put_goals` goes over the goals. The loop's invariant: the places passed have what is left to pay in the states of their goals. The
--- measure is how many goals are left.
+-- `passes::put_goals` goes over the goals. The loop's invariant: the places passed have what is left to pay in the states of their goals.
+-- The measure is how many goals are left.
 use borrow.Author.Needs.{needs}
 use Prim.Native.Nat.{_-_}
 use Rattle.section_file.proofs.Seen.{goals-at}

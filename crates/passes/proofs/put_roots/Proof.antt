@@ -1,5 +1,5 @@
--- `passes::put_roots` goes over the roots. The loop's invariant: the states of the roots passed have their costs and picks, and the others no
--- path. The measure is how many roots are left.
+-- `passes::put_roots` goes over the roots. The loop's invariant: the states of the roots passed have their costs and picks, and the others
+-- no path. The measure is how many roots are left.
 use borrow.Author.Needs.{needs}
 use mathlib.Core.Path.{refl, sym, _∙_}
 use native.Mathlib.Omega.{arith}
@@ -82,7 +82,12 @@ slice-write-picks c =
     let turn = wide .before .before in
     let head = turn .before in
     let entry = head .before .before .before .before .before in
-    omega (arith, head .loop .inv .0 .picksLong, state-read (roots-at (entry .pre .0)) (turn .loop-test .taken) (wide .wide .ensures .0) .s-lt)
+    omega (
+      arith,
+      head .loop .inv .0 .picksLong,
+      state-read (roots-at (entry .pre .0)) (turn .loop-test .taken) (wide .wide .ensures .0)
+          .s-lt,
+    )
 
 add-v : tie.Need-add-v Inv-loop μ-loop
 add-v c = search needs
@@ -96,8 +101,10 @@ loop-again c =
     let turn = wide .before .before in
     let head = turn .before in
     let entry = head .before .before .before .before .before in
-    let I = head .loop .inv in
-    (roots-more (entry .pre .0) (I .0) (turn .loop-test .taken) (wide .wide .ensures .0) refl (c .before .high .ensures) (c .low .ensures), search needs)
+    let I = head .loop .inv in (
+      roots-more (entry .pre .0) (I .0) (turn .loop-test .taken) (wide .wide .ensures .0) refl (c .before .high .ensures) (c .low .ensures),
+      search needs,
+    )
 
 same-length : tie.Need-same-length Inv-loop μ-loop
 same-length c = c .before .loop .inv .0 .picksLong ∙ sym (c .before .before .before .before .before .before .pre .1 .long)

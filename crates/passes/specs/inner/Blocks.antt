@@ -1,5 +1,5 @@
--- What passing a block leaves: what is left to pay before it and the picks, from the prices of its symbols and what is left to pay behind it.
--- `l` has the block's section at its front.
+-- What passing a block leaves: what is left to pay before it and the picks, from the prices of its symbols and what is left to pay behind
+-- it. `l` has the block's section at its front.
 use mathlib.Core.Path.{_≡_}
 use mathlib.Core.List.{List}
 use Prim.Native.Nat.{ℕ, _≤_, _<_}

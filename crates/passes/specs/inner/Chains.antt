@@ -1,5 +1,5 @@
--- A chain of blocks, one behind another: what passing them backward leaves, and what following the picks forward writes. Which words a block
--- has, what they cost and where a path may end are the chain's, and none of them is fixed here.
+-- A chain of blocks, one behind another: what passing them backward leaves, and what following the picks forward writes. Which words a
+-- block has, what they cost and where a path may end are the chain's, and none of them is fixed here.
 use mathlib.Core.Path.{_≡_}
 use mathlib.Core.Bool.{Bool}
 use mathlib.Core.Logic.{_⊎_}

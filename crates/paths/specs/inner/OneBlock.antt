@@ -1,5 +1,5 @@
--- One block of a chain, with words ws: what it costs to go on from each state before it. `price w` is what the word w costs and `left s` what is
--- left to pay behind the block in the state s: neither is fixed here. A number `top` stands for no path.
+-- One block of a chain, with words ws: what it costs to go on from each state before it. `price w` is what the word w costs and `left s`
+-- what is left to pay behind the block in the state s: neither is fixed here. A number `top` stands for no path.
 use mathlib.Core.Option.{Option}
 use mathlib.Core.List.{List}
 use Prim.Native.Nat.{ℕ}

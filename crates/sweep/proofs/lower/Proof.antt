@@ -1,8 +1,8 @@
--- `sweep::lower` takes the edges of a step one by one. The loop's invariant: what each vertex of the row has and what the edges to come give
--- it come to what all its edges give. The measure is how many edges are left.
+-- `sweep::lower` takes the edges of a step one by one. The loop's invariant: what each vertex of the row has and what the edges to come
+-- give it come to what all its edges give. The measure is how many edges are left.
 use borrow.Author.Needs.{needs}
 use Prim.Native.Nat.{_-_}
-use Rattle.sweep.proofs.Lowering.{InLower, lower-start, placed, lower-more, lower-end}
+use Rattle.sweep.proofs.Lowering.{InLower, lower-start, edge-fits, lower-more, lower-end}
 use Rattle.sweep.proofs.lower.Statement.{statement}
 use Rattle.sweep.proofs.lower.Tie as tie
 
@@ -23,34 +23,34 @@ edge-at-requires : tie.Need-edge-at-requires Inv-loop μ-loop
 edge-at-requires c κs = search needs
 
 mul-lesser : tie.Need-mul-lesser Inv-loop μ-loop
-mul-lesser c = let P = placed (entry (c .before) .pre) (c .before .loop-test .taken) (c .edge-at .ensures) in search needs
+mul-lesser c = let P = edge-fits (entry (c .before) .pre) (c .before .loop-test .taken) (c .edge-at .ensures) in search needs
 
 element-copy-out-lesser : tie.Need-element-copy-out-lesser Inv-loop μ-loop
-element-copy-out-lesser c = let P = placed (entry (c .before) .pre) (c .before .loop-test .taken) (c .edge-at .ensures) in search needs
+element-copy-out-lesser c = let P = edge-fits (entry (c .before) .pre) (c .before .loop-test .taken) (c .edge-at .ensures) in search needs
 
 mul-lesser-2 : tie.Need-mul-lesser-2 Inv-loop μ-loop
 mul-lesser-2 c =
-    let e = c .before in let P = placed (entry (e .before) .pre) (e .before .loop-test .taken) (e .edge-at .ensures) in search needs
+    let e = c .before in let P = edge-fits (entry (e .before) .pre) (e .before .loop-test .taken) (e .edge-at .ensures) in search needs
 
 shared-slice-read-lesser : tie.Need-shared-slice-read-lesser Inv-loop μ-loop
 shared-slice-read-lesser c =
     let edge-at = c .before .before in
-    let e = edge-at in let P = placed (entry (e .before) .pre) (e .before .loop-test .taken) (e .edge-at .ensures) in search needs
+    let e = edge-at in let P = edge-fits (entry (e .before) .pre) (e .before .loop-test .taken) (e .edge-at .ensures) in search needs
 
 mul-lesser-3 : tie.Need-mul-lesser-3 Inv-loop μ-loop
 mul-lesser-3 c =
     let edge-at = c .before .before in
-    let e = edge-at in let P = placed (entry (e .before) .pre) (e .before .loop-test .taken) (e .edge-at .ensures) in search needs
+    let e = edge-at in let P = edge-fits (entry (e .before) .pre) (e .before .loop-test .taken) (e .edge-at .ensures) in search needs
 
 element-copy-out-lesser-2 : tie.Need-element-copy-out-lesser-2 Inv-loop μ-loop
 element-copy-out-lesser-2 c =
     let edge-at = c .before .before in
-    let e = edge-at in let P = placed (entry (e .before) .pre) (e .before .loop-test .taken) (e .edge-at .ensures) in search needs
+    let e = edge-at in let P = edge-fits (entry (e .before) .pre) (e .before .loop-test .taken) (e .edge-at .ensures) in search needs
 
 add-lesser : tie.Need-add-lesser Inv-loop μ-loop
 add-lesser c =
     let edge-at = c .before .before .before in
-    let e = edge-at in let P = placed (entry (e .before) .pre) (e .before .loop-test .taken) (e .edge-at .ensures) in search needs
+    let e = edge-at in let P = edge-fits (entry (e .before) .pre) (e .before .loop-test .taken) (e .edge-at .ensures) in search needs
 
 lesser-requires : tie.Need-lesser-requires Inv-loop μ-loop
 lesser-requires c κs = search needs
@@ -58,12 +58,12 @@ lesser-requires c κs = search needs
 mul-row : tie.Need-mul-row Inv-loop μ-loop
 mul-row c =
     let edge-at = c .before .before .before .before in
-    let e = edge-at in let P = placed (entry (e .before) .pre) (e .before .loop-test .taken) (e .edge-at .ensures) in search needs
+    let e = edge-at in let P = edge-fits (entry (e .before) .pre) (e .before .loop-test .taken) (e .edge-at .ensures) in search needs
 
 element-write-row : tie.Need-element-write-row Inv-loop μ-loop
 element-write-row c =
     let edge-at = c .before .before .before .before in
-    let e = edge-at in let P = placed (entry (e .before) .pre) (e .before .loop-test .taken) (e .edge-at .ensures) in search needs
+    let e = edge-at in let P = edge-fits (entry (e .before) .pre) (e .before .loop-test .taken) (e .edge-at .ensures) in search needs
 
 add-k : tie.Need-add-k Inv-loop μ-loop
 add-k c = search needs
@@ -75,7 +75,8 @@ loop-again : tie.Need-loop-again Inv-loop μ-loop
 loop-again c =
     let edge-at = c .before .before .before .before in
     let e = edge-at in
-    lower-more (entry (e .before) .pre) (e .before .before .loop .inv) (e .before .loop-test .taken) (e .edge-at .ensures) (c .lesser .ensures)
+    lower-more (entry (e .before) .pre) (e .before .before .loop .inv) (e .before .loop-test .taken) (e .edge-at .ensures)
+    (c .lesser .ensures)
 
 returns : tie.Need-returns Inv-loop μ-loop
 returns c = lower-end (c .before .loop .inv) (search needs)

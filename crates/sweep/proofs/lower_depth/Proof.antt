@@ -1,11 +1,11 @@
--- `sweep::lower_depth` lends the edges of the step from where they begin: they are there, since the section is, and what they give the cleared
--- row is the row of the depth.
+-- `sweep::lower_depth` lends the edges of the step from where they begin: they are there, since the section is, and what they give the
+-- cleared row is the row of the depth.
 use borrow.Author.Needs.{needs}
-use Rattle.sweep.proofs.Sweeping.{Near, near-by, vertices-few, step-asked, depth-done}
+use Rattle.sweep.proofs.Sweeping.{StepNear, near-by, vertices-few, step-asked, depth-done}
 use Rattle.sweep.proofs.lower_depth.Statement.{statement}
 use Rattle.sweep.proofs.lower_depth.Tie as tie
 
-near : (s : tie.Start) → Near (s .args .l .now) (s .args .at) (s .args .t) (s .args .before)
+near : (s : tie.Start) → StepNear (s .args .l .now) (s .args .at) (s .args .t) (s .args .before)
 near s = near-by (s .pre .0) (s .pre .1 .inside) (s .pre .1 .beforeIs)
 
 mul-pairs : tie.Need-mul-pairs
@@ -103,7 +103,8 @@ returns c =
     let clear = wide2 .before .before .before .before .before in
     let wide = clear .before .before in
     let entry = wide .before .before .before .before .before .before in
-    depth-done (entry .pre .0) (entry .pre .1) (wide .wide .ensures .0) (clear .clear .ensures) (wide2 .wide2 .ensures .0) (c .lower .ensures)
+    depth-done (entry .pre .0) (entry .pre .1) (wide .wide .ensures .0) (clear .clear .ensures) (wide2 .wide2 .ensures .0)
+    (c .lower .ensures)
 
 pub lower-depth-spec : {M : Type 1} → statement M
 lower-depth-spec =

@@ -1,5 +1,5 @@
--- `sweep::sweep` makes the rows from the last depth to the first. The loop's invariant: the row of depth t holds the least costs. The measure is
--- t.
+-- `sweep::sweep` makes the rows from the last depth to the first. The loop's invariant: the row of depth t holds the least costs. The
+-- measure is t.
 use borrow.Author.Needs.{needs}
 use Rattle.section_file.proofs.Seen.{header}
 use Rattle.sweep.proofs.Sweeping.{InSweep, sweep-start, sweep-fits, sweep-asked, sweep-more, sweep-end}
@@ -46,8 +46,13 @@ lower-side-requires c κs =
     let turn = wide .before .before in
     let head = turn .before in
     let entry = head .before .before .before in
-    let I = head .loop .inv in
-    (entry .pre .0, sweep-asked (entry .pre .0) (entry .pre .1) I (turn .loop-test .taken) (wide .wide .ensures .0), I .evenLong, I .oddLong)
+    let I = head .loop .inv in (
+      entry .pre .0,
+      sweep-asked (entry .pre .0) (entry .pre .1) I (turn .loop-test .taken) (wide .wide .ensures .0),
+      I .evenLong,
+      I
+          .oddLong,
+    )
 
 loop-less : tie.Need-loop-less Inv-loop μ-loop
 loop-less c = search needs

@@ -1,4 +1,5 @@
--- What the functions on one step ask and leave, over raw lists and numbers: `pairs` and `symbols` have the edges of the step at their fronts.
+-- What the functions on one step ask and leave, over raw lists and numbers: `pairs` and `symbols` have the edges of the step at their
+-- fronts.
 use mathlib.Core.Path.{_≡_}
 use mathlib.Core.List.{List}
 use Prim.Native.Nat.{ℕ, suc, _+_, _*_, _≤_, _<_}

@@ -1,5 +1,5 @@
--- `chain::filling::fill_table` passes the blocks from the last to the first. The loop's invariant: what is left to pay, the cost table and the
--- picks are those of the chain from block b on. The measure is b.
+-- `chain::filling::fill_table` passes the blocks from the last to the first. The loop's invariant: what is left to pay, the cost table and
+-- the picks are those of the chain from block b on. The measure is b.
 use borrow.Author.Needs.{needs}
 use native.Mathlib.Omega.{arith}
 use lib.ListN.{length-take, length-drop}
@@ -10,7 +10,8 @@ use Rattle.chain.proofs.filling.fill_table.Statement.{statement}
 use Rattle.chain.proofs.filling.fill_table.Tie as tie
 
 abbrev Inv-loop : tie.InvT-loop
-Inv-loop sections starts indices received erased costs₀ picks₀ views left₀ prices₀ even₀ odd₀ b₀ costs picks left prices even odd b = InFill (held sections starts views indices received erased) left₀ costs₀ costs picks₀ picks left prices even odd b
+Inv-loop sections starts indices received erased costs₀ picks₀ views left₀ prices₀ even₀ odd₀ b₀ costs picks left prices even odd b =
+    InFill (held sections starts views indices received erased) left₀ costs₀ costs picks₀ picks left prices even odd b
 
 abbrev μ-loop : tie.MeasureT-loop
 μ-loop sections starts indices received erased costs₀ picks₀ views left₀ prices₀ even₀ odd₀ b₀ costs picks left prices even odd b = b
@@ -69,7 +70,12 @@ shared-slice-read-word c =
     let turn = widened .before .before in
     let head = turn .before in
     let entry = head .before .before .before .before .before .before .before in
-    search (needs, block-at (entry .pre .0) (fill-below (head .loop .inv) (turn .loop-test .taken)) (widened .widened .ensures .0), head .loop .inv .b-le)
+    search (
+      needs,
+      block-at (entry .pre .0) (fill-below (head .loop .inv) (turn .loop-test .taken)) (widened .widened .ensures .0),
+      head
+          .loop .inv .b-le,
+    )
 
 shared-slice-read-mask : tie.Need-shared-slice-read-mask Inv-loop μ-loop
 shared-slice-read-mask c =
@@ -77,7 +83,12 @@ shared-slice-read-mask c =
     let turn = widened .before .before in
     let head = turn .before in
     let entry = head .before .before .before .before .before .before .before in
-    search (needs, block-at (entry .pre .0) (fill-below (head .loop .inv) (turn .loop-test .taken)) (widened .widened .ensures .0), head .loop .inv .b-le)
+    search (
+      needs,
+      block-at (entry .pre .0) (fill-below (head .loop .inv) (turn .loop-test .taken)) (widened .widened .ensures .0),
+      head
+          .loop .inv .b-le,
+    )
 
 mul-first : tie.Need-mul-first Inv-loop μ-loop
 mul-first c =
@@ -199,7 +210,8 @@ fill-block-requires c κs =
 
 loop-less : tie.Need-loop-less Inv-loop μ-loop
 loop-less c =
-    let turn = c .before .before .before .before .before .before .before .before .before .before .before .before .before .before .before .before .before .before in
+    let turn = c .before .before .before .before .before .before .before .before .before .before .before .before .before .before .before
+    .before .before .before in
     omega (arith, turn .loop-test .taken)
 
 loop-again : tie.Need-loop-again Inv-loop μ-loop
@@ -211,7 +223,8 @@ loop-again c =
     let entry = head .before .before .before .before .before .before .before in
     let E = fill-block .fill-block .ensures in
     let R = rows-at (head .loop .inv) (entry .pre .2) (entry .pre .3) (turn .loop-test .taken) in
-    fill-more (head .loop .inv) (turn .loop-test .taken) (filled-part (block-at (entry .pre .0) (fill-below (head .loop .inv) (turn .loop-test .taken)) (widened .widened .ensures .0)) (E .0)) (E .1)
+    fill-more (head .loop .inv) (turn .loop-test .taken) (filled-part (block-at (entry .pre .0)
+    (fill-below (head .loop .inv) (turn .loop-test .taken)) (widened .widened .ensures .0)) (E .0)) (E .1)
     (row-back (E .0 .copied .long) (R .costs-in)) (row-back (E .0 .passed .picksLong) (R .picks-in))
 
 same-length : tie.Need-same-length Inv-loop μ-loop
