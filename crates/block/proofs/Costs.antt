@@ -12,19 +12,19 @@ use lib.Seq.{getD-set-same, getD-set-other, set-out}
 use Rattle.trellis.specs.Bounds.{mostSymbols}
 use Rattle.trellis.specs.Lists.{one-if, sum}
 use Rattle.trellis.specs.Label.{symbol}
-use Rattle.paths.specs.inner.Ranked.{labelUnit, distanceUnit, topRank, ranked, rankedCost, Room}
+use Rattle.paths.specs.inner.Ranked.{labelUnit, distanceUnit, topRank, ranked, rankedCost, PriceRoom}
 use Rattle.block.specs.Received.{erasedAt, costOver, symbolCost, blockDistance}
 use Rattle.block.specs.inner.Prices.{Prices}
 
 -- what the symbols from t on add is there, and the next one's weight is known
 pub record InPrices (n received mask : ℕ) (prices : List ℕ) (weight t : ℕ) : Type 0 where
   pub t-le : t ≤ n
-  pub room : Room prices
+  pub room : PriceRoom prices
   pub weightIs : weight ≡ 4 ^ (n - t) * labelUnit
   pub light : weight ≤ distanceUnit
   pub at : (u a : ℕ) → t ≤ u → u < n → a < 4 → getD prices (4 * u + a) 0 ≡ rankedCost n (symbolCost n received mask) u a
 
-pub prices-start : {n received mask : ℕ} {prices : List ℕ} → Room prices → InPrices n received mask prices labelUnit n
+pub prices-start : {n received mask : ℕ} {prices : List ℕ} → PriceRoom prices → InPrices n received mask prices labelUnit n
 prices-start {n} h =
     let e : n - n ≡ 0 = omega arith in
     record {

@@ -5,7 +5,7 @@ ghost use lib.Dec.{ltb, eqb};
 ghost use Rattle.trellis.specs.Bounds.{mostSymbols};
 ghost use Rattle.trellis.specs.Lists.{first};
 ghost use Rattle.block.specs.Received.{erasedAt, costOver, stray, fitsBlock};
-ghost use Rattle.paths.specs.inner.Ranked.{distanceUnit, topRank, Room};
+ghost use Rattle.paths.specs.inner.Ranked.{distanceUnit, topRank, PriceRoom};
 ghost use Rattle.block.specs.inner.Prices.{Prices};
 use paths::DISTANCE_UNIT;
 use paths::LABEL_UNIT;
@@ -87,7 +87,7 @@ fn price(cost: u32, symbol: u64, weight: u64) -> u64
 
 // What the symbols add, four a step: the cost ranks first, then the symbol. Places of other steps are left as they were.
 pub fn put_prices(n: usize, received: u16, mask: u8, prices: &mut [u64; MOST_Q * MOST_SYMBOLS])
-    requires { ⌜ (n ≤ mostSymbols) × Room (now prices) ⌝ }
+    requires { ⌜ (n ≤ mostSymbols) × PriceRoom (now prices) ⌝ }
     ensures { λ _. ⌜ Prices n received mask (now (prices .exit)) ⌝ }
 {
     let mut weight = LABEL_UNIT;

@@ -29,8 +29,8 @@ use Rattle.passes.specs.inner.Chains.{Chain, leastFrom, pathFrom, CostsFrom, Wr
 use Rattle.chain.specs.Sections.{sectionStart, sectionAt}
 use Rattle.chain.specs.Frame.{Frame, frame, blockCount, blockSection, blockWords, wordDistance}
 use Rattle.chain.specs.Decoding.{left, bestOf, tableOf, found, fitted}
-use Rattle.chain.specs.inner.Checked.{FrameChecked, Checked, Room, Ends}
-use Rattle.chain.specs.inner.Filled.{EndsAs, Held, held, partOf, viewAt, Ready, ChainOf, Filled}
+use Rattle.chain.specs.inner.Checked.{FrameChecked, Checked, Room, EndRow}
+use Rattle.chain.specs.inner.Filled.{EndsAs, HeldBlocks, heldBlocks, blockPart, viewAt, Ready, ChainOf, Filled}
 use Rattle.chain.proofs.Sections.{long-enough}
 use Rattle.chain.proofs.Faults.{past-room}
 
@@ -39,8 +39,8 @@ abbrev pub chainOf : Frame → Chain
 chainOf f = record { words = blockWords f; ends = endsIn (f .end); price = wordDistance f; blocks = blockCount f }
 
 module _ {f : Frame} {starts : List ℕ} {views : List View} (K : FrameChecked f starts views) where
-  abbrev pub heldOf : Held
-  heldOf = held (f .sections) starts views (f .indices) (f .received) (f .erased)
+  abbrev pub heldOf : HeldBlocks
+  heldOf = heldBlocks (f .sections) starts views (f .indices) (f .received) (f .erased)
 
   -- past the last block the index reads as 0, and there is a section 0
   index-below : (b : ℕ) → getD (f .indices) b 0 < f .k
@@ -60,7 +60,7 @@ module _ {f : Frame} {starts : List ℕ} {views : List View} (K : FrameChecked f
   place-is : (b : ℕ) → getD starts (getD (f .indices) b 0) 0 ≡ sectionStart (f .sections) (getD (f .indices) b 0)
   place-is b = K .sectionsFound .found .at (getD (f .indices) b 0) (omega (arith, index-below b))
 
-  part-is : (b : ℕ) → partOf heldOf b ≡ blockSection f b
+  part-is : (b : ℕ) → blockPart heldOf b ≡ blockSection f b
   unfolding sectionAt
   part-is b = ap (λ x. drop x (f .sections)) (place-is b)
 
@@ -115,7 +115,7 @@ module _ {f : Frame} {starts : List ℕ} {views : List View} (K : FrameChecked f
   abbrev path : List Word
   path = pathFrom (chainOf f) 0 (f .start)
 
-  module _ {ends costs new oldPicks picks labels goals : List ℕ} (E : Ends (f .end) ends) (R : Room (f .indices) costs labels goals)
+  module _ {ends costs new oldPicks picks labels goals : List ℕ} (E : EndRow (f .end) ends) (R : Room (f .indices) costs labels goals)
       (F : Filled heldOf ends costs new oldPicks picks) where
     ends-as : EndsAs (chainOf f) ends
     ends-as = record { at = E .at }
@@ -234,10 +234,10 @@ any-k sections indices received erased start end i j costs labels goals = refl
 
 module _ {sections starts : List ℕ} {views : List View} {indices received erased : List ℕ} {start end from to : ℕ}
     {ends costs new oldPicks picks labels goals : List ℕ} (C : Checked sections starts views indices received erased start end)
-    (p : from ≡ start) (q : to ≡ end) (E : Ends to ends) (R : Room indices costs labels goals)
-    (F : Filled (held sections starts views indices received erased) ends costs new oldPicks picks) where
-  E-end : Ends end ends
-  E-end = subst (λ x. Ends x ends) q E
+    (p : from ≡ start) (q : to ≡ end) (E : EndRow to ends) (R : Room indices costs labels goals)
+    (F : Filled (heldBlocks sections starts views indices received erased) ends costs new oldPicks picks) where
+  E-end : EndRow end ends
+  E-end = subst (λ x. EndRow x ends) q E
 
   pub from-in : from < length new
   from-in = omega (arith, start-in (C .checks) E-end R F)

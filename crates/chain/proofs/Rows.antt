@@ -14,16 +14,16 @@ use borrow.Author.Tests.{eq-eqb, ne-eqb}
 use Rattle.trellis.specs.Bounds.{mostStates, costsABlock}
 use Rattle.paths.specs.Chain.{unreached, endsIn}
 use Rattle.paths.specs.inner.Chains.{atEnd}
-use Rattle.passes.specs.inner.Chains.{RowPut}
-use Rattle.chain.specs.inner.Checked.{Ends}
-use Rattle.chain.specs.inner.Filled.{Copied}
+use Rattle.passes.specs.inner.Chains.{RowWritten}
+use Rattle.chain.specs.inner.Checked.{EndRow}
+use Rattle.chain.specs.inner.Filled.{RowCopied}
 
 -- ---- copied
 
-pub copy-start : {row place : List ℕ} → length place ≡ mostStates → Copied row place 0
+pub copy-start : {row place : List ℕ} → length place ≡ mostStates → RowCopied row place 0
 copy-start h = record { long = h; at = λ u l. absurd (not-suc-le-zero l) }
 
-pub copy-more : {row place : List ℕ} {s : ℕ} → Copied row place s → s < mostStates → Copied row (set place s (getD row s 0)) (s + 1)
+pub copy-more : {row place : List ℕ} {s : ℕ} → RowCopied row place s → s < mostStates → RowCopied row (set place s (getD row s 0)) (s + 1)
 copy-more {row} {place} {s} I h = record { long = simp length-set (I .long); at = λ u l. go u l (ℕ-discrete u s) }
   where
     go : (u : ℕ) → u < s + 1 → Dec (u ≡ s) → getD (set place s (getD row s 0)) u 0 ≡ getD row u 0
@@ -32,12 +32,12 @@ copy-more {row} {place} {s} I h = record { long = simp length-set (I .long); at 
         (getD-set-same place s (getD row s 0) 0 (omega (arith, I .long)))
     go u l (no e) = getD-set-other place s u (getD row s 0) 0 e ∙ I .at u (omega arith)
 
-pub copy-end : {row place : List ℕ} {s : ℕ} → Copied row place s → mostStates ≤ s → Copied row place mostStates
+pub copy-end : {row place : List ℕ} {s : ℕ} → RowCopied row place s → mostStates ≤ s → RowCopied row place mostStates
 copy-end I h = record { long = I .long; at = λ u l. I .at u (omega arith) }
 
 -- ---- nothing to pay in the end state
 
-pub ends-put : {end : ℕ} → end < mostStates → Ends end (set (replicate mostStates unreached) end 0)
+pub ends-put : {end : ℕ} → end < mostStates → EndRow end (set (replicate mostStates unreached) end 0)
 ends-put {end} h = record { long = simp length-set (length-replicate {A = ℕ} mostStates unreached); at = λ s k. go s k (ℕ-discrete s end) }
   where
     go : (s : ℕ) → s < mostStates → Dec (s ≡ end) → getD (set (replicate mostStates unreached) end 0) s 0 ≡ atEnd unreached (endsIn end) s
@@ -52,7 +52,7 @@ ends-put {end} h = record { long = simp length-set (length-replicate {A = ℕ} m
 -- ---- a row put back in its place
 
 row-in : {first : ℕ} {row old : List ℕ} → length row ≡ costsABlock → first + costsABlock ≤ length old
-    → RowPut first row old (take first old ++ (row ++ drop costsABlock (drop first old)))
+    → RowWritten first row old (take first old ++ (row ++ drop costsABlock (drop first old)))
 row-in {first} {row} {old} l h = record { long = long; at = at; kept = λ i. ⊎-elim (before i) (after i) }
   where
     front : length (take first old) ≡ first
@@ -85,9 +85,9 @@ row-in {first} {row} {old} l h = record { long = long; at = at; kept = λ i. ⊎
 
 -- as the code has it
 pub row-back : {first : ℕ} {row old : List ℕ} → length row ≡ costsABlock → first + costsABlock ≤ length old
-    → RowPut first row old (take first old ++ (row ++ drop (first + costsABlock - first) (drop first old)))
+    → RowWritten first row old (take first old ++ (row ++ drop (first + costsABlock - first) (drop first old)))
 row-back {first} {row} {old} l h =
-    subst (λ k. RowPut first row old (take first old ++ (row ++ drop k (drop first old)))) (sym (same first)) (row-in l h)
+    subst (λ k. RowWritten first row old (take first old ++ (row ++ drop k (drop first old)))) (sym (same first)) (row-in l h)
   where
     same : (n : ℕ) → n + costsABlock - n ≡ costsABlock
     same n = omega arith

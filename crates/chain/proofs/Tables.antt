@@ -11,17 +11,17 @@ use Rattle.trellis.specs.Bounds.{mostStates, mostWords, mostSections, costsABlo
 use Rattle.trellis.specs.Layout.{nOf}
 use Rattle.trellis.proofs.Lists.{rest-of}
 use Rattle.paths.specs.inner.OneBlock.{wordPrice}
-use Rattle.paths.specs.inner.Ranked.{topRank, Room}
+use Rattle.paths.specs.inner.Ranked.{topRank, PriceRoom}
 use Rattle.section_file.specs.inner.View.{Seen}
 use Rattle.block.specs.Received.{symbolCost, blockDistance}
 use Rattle.block.specs.inner.Prices.{Prices}
-use Rattle.passes.specs.inner.Blocks.{Passed}
-use Rattle.passes.specs.inner.Chains.{Chain, LeftAt, CostsFrom, Picked, RowPut}
+use Rattle.passes.specs.inner.Blocks.{BlockPassed}
+use Rattle.passes.specs.inner.Chains.{Chain, LeftAt, CostsFrom, Picked, RowWritten}
 use Rattle.passes.proofs.Chains.{Uses, left-last, left-more, pick-more, costs-more, picks-more}
 use Rattle.chain.specs.inner.Loops.{noView}
-use Rattle.chain.specs.inner.Filled.{Copied, Working, BlockFilled, EndsAs, Held, partOf, Ready, ChainOf, Filled}
+use Rattle.chain.specs.inner.Filled.{RowCopied, Working, BlockFilled, EndsAs, HeldBlocks, blockPart, Ready, ChainOf, Filled}
 
-pub record InFill (H : Held) (ends old new oldPicks picks left prices even odd : List ℕ) (b : ℕ) : Type 0 where
+pub record InFill (H : HeldBlocks) (ends old new oldPicks picks left prices even odd : List ℕ) (b : ℕ) : Type 0 where
   pub b-le : b ≤ length (H .indices)
   pub long : length new ≡ length old
   pub picksLong : length picks ≡ length oldPicks
@@ -32,7 +32,7 @@ pub record InFill (H : Held) (ends old new oldPicks picks left prices even odd :
   pub picked : (C : Chain) → ChainOf H C → EndsAs C ends → Picked C b picks
 
 -- prices that are not there yet
-room-none : Room (replicate 32 0)
+room-none : PriceRoom (replicate 32 0)
 room-none = record { long = length-replicate {A = ℕ} 32 0; small = λ i. go i (decLt i 32) }
   where
     go : (i : ℕ) → Dec (i < 32) → getD (replicate 32 0) i 0 ≤ topRank
@@ -42,7 +42,7 @@ room-none = record { long = length-replicate {A = ℕ} 32 0; small = λ i. go i 
         let e = List·getD-eq-default {A = ℕ} (replicate 32 0) 0 {n = i} (omega arith) in
         omega arith
 
-pub fill-start : {H : Held} {ends costs picks : List ℕ} → length ends ≡ mostStates
+pub fill-start : {H : HeldBlocks} {ends costs picks : List ℕ} → length ends ≡ mostStates
     → InFill H ends costs costs picks picks ends (replicate 32 0) (replicate mostWords 0) (replicate mostWords 0) (length (H .indices))
 fill-start {H} {ends} {costs} {picks} h = record {
   b-le = omega arith;
@@ -63,58 +63,58 @@ fill-start {H} {ends} {costs} {picks} h = record {
 -- ---- one block, as the code takes it
 
 pub block-filled : {l : List ℕ} {n received mask : ℕ} {prices left new costs picks : List ℕ} → n ≡ nOf l → Prices n received mask prices
-    → Passed l prices left new picks → Copied new costs mostStates → BlockFilled l received mask left new costs picks
+    → BlockPassed l prices left new picks → RowCopied new costs mostStates → BlockFilled l received mask left new costs picks
 block-filled {received = received} {mask} {prices} e P B C =
     record { prices = prices; priced = subst (λ n. Prices n received mask prices) e P; passed = B; copied = C }
 
-pub record BlockAt (H : Held) (b i : ℕ) : Type 0 where
+pub record BlockAt (H : HeldBlocks) (b i : ℕ) : Type 0 where
   pub index-lt : i < mostSections
   pub inside : getD (H .starts) i 0 ≤ length (H .sections)
-  pub part-is : take (length (H .sections) - getD (H .starts) i 0) (drop (getD (H .starts) i 0) (H .sections)) ≡ partOf H b
+  pub part-is : take (length (H .sections) - getD (H .starts) i 0) (drop (getD (H .starts) i 0) (H .sections)) ≡ blockPart H b
   pub seen : Seen (take (length (H .sections) - getD (H .starts) i 0) (drop (getD (H .starts) i 0) (H .sections)))
       (getD (H .views) i noView)
   pub few : b < 256
 
-pub block-at : {H : Held} {b i : ℕ} → Ready H → b < length (H .indices) → i ≡ getD (H .indices) b 0 → BlockAt H b i
+pub block-at : {H : HeldBlocks} {b i : ℕ} → Ready H → b < length (H .indices) → i ≡ getD (H .indices) b 0 → BlockAt H b i
 block-at {H} {b} {i} R h e =
-    let p : take (length (H .sections) - getD (H .starts) i 0) (drop (getD (H .starts) i 0) (H .sections)) ≡ partOf H b
+    let p : take (length (H .sections) - getD (H .starts) i 0) (drop (getD (H .starts) i 0) (H .sections)) ≡ blockPart H b
     = rest-of (H .sections) (getD (H .starts) i 0) ∙ ap (λ j. drop (getD (H .starts) j 0) (H .sections)) e in
     record {
       index-lt = omega (arith, R .indexBelow b h);
       inside = subst (λ j. getD (H .starts) j 0 ≤ length (H .sections)) (sym e) (R .inside b h);
       part-is = p;
       seen = subst (λ l. Seen l (getD (H .views) i noView)) (sym p)
-          (subst (λ j. Seen (partOf H b) (getD (H .views) j noView)) (sym e) (R .seen b h));
+          (subst (λ j. Seen (blockPart H b) (getD (H .views) j noView)) (sym e) (R .seen b h));
       few = omega (arith, R .many);
     }
 
-pub filled-part : {H : Held} {b i received mask : ℕ} {left new costs picks : List ℕ} → BlockAt H b i
+pub filled-part : {H : HeldBlocks} {b i received mask : ℕ} {left new costs picks : List ℕ} → BlockAt H b i
     → BlockFilled (take (length (H .sections) - getD (H .starts) i 0) (drop (getD (H .starts) i 0) (H .sections))) received mask left new
     costs picks
-    → BlockFilled (partOf H b) received mask left new costs picks
+    → BlockFilled (blockPart H b) received mask left new costs picks
 filled-part {received = received} {mask} {left} {new} {costs} {picks} A B =
     subst (λ l. BlockFilled l received mask left new costs picks) (A .part-is) B
 
 -- the rows of the block in the two lists
-pub record RowsAt (H : Held) (costs picks : List ℕ) (b : ℕ) : Type 0 where
+pub record RowsAt (H : HeldBlocks) (costs picks : List ℕ) (b : ℕ) : Type 0 where
   pub costs-in : costsABlock * b + costsABlock ≤ length costs
   pub picks-in : costsABlock * b + costsABlock ≤ length picks
 
-pub fill-below : {H : Held} {ends old new oldPicks picks left prices even odd : List ℕ} {b : ℕ}
+pub fill-below : {H : HeldBlocks} {ends old new oldPicks picks left prices even odd : List ℕ} {b : ℕ}
     → InFill H ends old new oldPicks picks left prices even odd b → 0 < b → b - 1 < length (H .indices)
 fill-below I h = omega (arith, I .b-le)
 
-pub rows-at : {H : Held} {ends old new oldPicks picks left prices even odd : List ℕ} {b : ℕ}
+pub rows-at : {H : HeldBlocks} {ends old new oldPicks picks left prices even odd : List ℕ} {b : ℕ}
     → InFill H ends old new oldPicks picks left prices even odd b
     → costsABlock * length (H .indices) ≤ length old → costsABlock * length (H .indices) ≤ length oldPicks → 0 < b
     → RowsAt H new picks (b - 1)
 rows-at I c p h = record { costs-in = omega (arith, I .long, I .b-le); picks-in = omega (arith, I .picksLong, I .b-le) }
 
-module _ {H : Held} {ends old mid new oldPicks midPicks picks left newLeft prices newPrices even newEven odd newOdd : List ℕ} {b : ℕ}
+module _ {H : HeldBlocks} {ends old mid new oldPicks midPicks picks left newLeft prices newPrices even newEven odd newOdd : List ℕ} {b : ℕ}
     {row pickRow : List ℕ} (I : InFill H ends old mid oldPicks midPicks left prices even odd b) (h : 0 < b)
-    (B : BlockFilled (partOf H (b - 1)) (getD (H .received) (b - 1) 0) (getD (H .erased) (b - 1) 0) left newLeft row pickRow)
-    (W : Working newLeft newPrices newEven newOdd) (P : RowPut (costsABlock * (b - 1)) row mid new)
-    (Q : RowPut (costsABlock * (b - 1)) pickRow midPicks picks) where
+    (B : BlockFilled (blockPart H (b - 1)) (getD (H .received) (b - 1) 0) (getD (H .erased) (b - 1) 0) left newLeft row pickRow)
+    (W : Working newLeft newPrices newEven newOdd) (P : RowWritten (costsABlock * (b - 1)) row mid new)
+    (Q : RowWritten (costsABlock * (b - 1)) pickRow midPicks picks) where
   below : b - 1 < length (H .indices)
   below = omega (arith, I .b-le)
 
@@ -125,10 +125,10 @@ module _ {H : Held} {ends old mid new oldPicks midPicks picks left newLeft price
     in-chain : b - 1 < C .blocks
     in-chain = omega (arith, O .blocksIs, below)
 
-    uses : Uses C (b - 1) (partOf H (b - 1)) (B .prices)
+    uses : Uses C (b - 1) (blockPart H (b - 1)) (B .prices)
     unfolding blockDistance wordPrice
     uses = record {
-      cost = symbolCost (nOf (partOf H (b - 1))) (getD (H .received) (b - 1) 0) (getD (H .erased) (b - 1) 0);
+      cost = symbolCost (nOf (blockPart H (b - 1))) (getD (H .received) (b - 1) 0) (getD (H .erased) (b - 1) 0);
       wordsAre = O .wordsAre (b - 1) below;
       priceIs = O .priceIs (b - 1) below;
       priced = record { at = B .priced .at };
@@ -162,7 +162,7 @@ module _ {H : Held} {ends old mid new oldPicks midPicks picks left newLeft price
     picked = picks-here;
   }
 
-pub fill-end : {H : Held} {ends old new oldPicks picks left prices even odd : List ℕ} {b : ℕ}
+pub fill-end : {H : HeldBlocks} {ends old new oldPicks picks left prices even odd : List ℕ} {b : ℕ}
     → InFill H ends old new oldPicks picks left prices even odd b → b ≤ 0 → Filled H ends old new oldPicks picks
 fill-end {new = new} {picks = picks} {b = b} I h =
     let e : b ≡ 0 = omega arith in

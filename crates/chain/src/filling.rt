@@ -4,7 +4,7 @@ ghost use Prim.Native.Nat.{_*_, _≤_};
 ghost use lib.ListN.{length};
 ghost use Rattle.trellis.specs.Bounds.{mostStates, costsABlock};
 ghost use Rattle.section_file.specs.inner.View.{Seen};
-ghost use Rattle.chain.specs.inner.Filled.{Copied, Parts, Working, BlockFilled, held, Ready, Filled};
+ghost use Rattle.chain.specs.inner.Filled.{RowCopied, BlockRows, Working, BlockFilled, heldBlocks, Ready, Filled};
 use block::put_prices;
 use numbers::widened;
 use passes::pass_block;
@@ -17,7 +17,7 @@ use trellis::MOST_WORDS;
 
 fn copy_row(row: &[u32; COSTS_A_BLOCK], place: &mut [u32])
     requires { ⌜ (length (now row) ≡ mostStates) × (length (now place) ≡ mostStates) ⌝ }
-    ensures { λ _. ⌜ Copied (now (row .entry)) (now (place .exit)) mostStates ⌝ }
+    ensures { λ _. ⌜ RowCopied (now (row .entry)) (now (place .exit)) mostStates ⌝ }
 {
     let mut s: usize = 0;
     while s < COSTS_A_BLOCK {
@@ -40,7 +40,7 @@ fn fill_block(
     even: &mut [u64; MOST_WORDS],
     odd: &mut [u64; MOST_WORDS],
 )
-    requires { ⌜ Seen (now l) at × Parts (now costs) (now picks) × Working (now left) (now prices) (now even) (now odd) ⌝ }
+    requires { ⌜ Seen (now l) at × BlockRows (now costs) (now picks) × Working (now left) (now prices) (now even) (now odd) ⌝ }
     ensures { λ _. ⌜ BlockFilled (now (l .entry)) received mask (now (left .entry)) (now (left .exit)) (now (costs .exit))
         (now (picks .exit)) × Working (now (left .exit)) (now (prices .exit)) (now (even .exit)) (now (odd .exit)) ⌝ }
 {
@@ -61,10 +61,10 @@ pub fn fill_table(
     costs: &mut [u32],
     picks: &mut [u32],
 )
-    requires { ⌜ Ready (held (now sections) (now starts) views (now indices) (now received) (now erased))
+    requires { ⌜ Ready (heldBlocks (now sections) (now starts) views (now indices) (now received) (now erased))
         × (length ends ≡ mostStates)
         × (costsABlock * length (now indices) ≤ length (now costs)) × (costsABlock * length (now indices) ≤ length (now picks)) ⌝ }
-    ensures { λ _. ⌜ Filled (held (now (sections .entry)) (now (starts .entry)) views (now (indices .entry)) (now (received .entry))
+    ensures { λ _. ⌜ Filled (heldBlocks (now (sections .entry)) (now (starts .entry)) views (now (indices .entry)) (now (received .entry))
         (now (erased .entry))) ends (now (costs .entry)) (now (costs .exit)) (now (picks .entry)) (now (picks .exit)) ⌝ }
 {
     let mut left = ends;

@@ -11,7 +11,7 @@ ghost use Rattle.outcomes.specs.inner.Holds.{Holds};
 ghost use Rattle.chain.specs.Frame.{frame, frameBad, blockBad};
 ghost use Rattle.chain.specs.Decoding.{left, neededOf, fitted, framed, decoding, decodedOutcome};
 ghost use Rattle.chain.specs.inner.Loops.{SectionsFound};
-ghost use Rattle.chain.specs.inner.Checked.{Views, AllFound, Checked, Room, Ends};
+ghost use Rattle.chain.specs.inner.Checked.{Views, AllFound, Checked, Room, EndRow};
 
 mod filling;
 mod finding;
@@ -127,7 +127,7 @@ fn needed(blocks: usize, costs: usize, labels: usize, goals: usize) -> usize
 // Nothing is left to pay in the end state, and there is no path from any other.
 fn ends_in(end: usize) -> [u32; COSTS_A_BLOCK]
     requires { ⌜ end < mostStates ⌝ }
-    ensures { λ r. ⌜ Ends end r ⌝ }
+    ensures { λ r. ⌜ EndRow end r ⌝ }
 {
     let mut ends = [NO_PATH; COSTS_A_BLOCK];
     ends[end] = 0;

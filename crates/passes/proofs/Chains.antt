@@ -21,8 +21,8 @@ use Rattle.paths.specs.inner.OneBlock.{leastOver, firstOver, wordPrice}
 use Rattle.paths.specs.inner.Ranked.{labelUnit, distanceUnit, rankedCost}
 use Rattle.paths.proofs.Chain.{least-le, least-drops, least-block, trace-block}
 use Rattle.sweep.specs.inner.Rows.{Priced}
-use Rattle.passes.specs.inner.Blocks.{Costs, Passed}
-use Rattle.passes.specs.inner.Chains.{Chain, leastFrom, pathFrom, LeftAt, PickAt, Picked, CostsFrom, Written, RowPut, Followed}
+use Rattle.passes.specs.inner.Blocks.{Costs, BlockPassed}
+use Rattle.passes.specs.inner.Chains.{Chain, leastFrom, pathFrom, LeftAt, PickAt, Picked, CostsFrom, Written, RowWritten, Followed}
 use Rattle.passes.specs.inner.Chains.{FollowedTo}
 
 -- ---- backward
@@ -45,7 +45,7 @@ module _ (C : Chain) where
     pub priced : Priced l prices (rankedCost (nOf l) cost)
 
   module _ {b : ℕ} {l prices left new picks : List ℕ} (h : b < C .blocks) (U : Uses b l prices) (L : LeftAt C (suc b) left)
-      (P : Passed l prices left new picks) where
+      (P : BlockPassed l prices left new picks) where
     abbrev k : ℕ
     k = C .blocks - suc b
 
@@ -91,7 +91,7 @@ module _ (C : Chain) where
         pathTo j s = chainTrace (C .words) (C .ends) (C .price) unreached j b s
 
   -- the cost table and the picks, a row more of each
-  pub costs-more : {b : ℕ} {row old new : List ℕ} → CostsFrom C (suc b) old → LeftAt C b row → RowPut (costsABlock * b) row old new
+  pub costs-more : {b : ℕ} {row old new : List ℕ} → CostsFrom C (suc b) old → LeftAt C b row → RowWritten (costsABlock * b) row old new
       → CostsFrom C b new
   costs-more {b} {row} {old} {new} F L R = record { at = λ c s g h e. go c s g h e (ℕ-discrete c b) }
     where
@@ -100,7 +100,7 @@ module _ (C : Chain) where
       go c s g h e (no z) = R .kept (costsABlock * c + s) (inr (omega arith)) ∙ F .at c s (omega arith) h e
 
   pub picks-more : {b : ℕ} {row old new : List ℕ} → Picked C (suc b) old
-      → ((s : ℕ) → s < mostStates → leastFrom C b s < unreached → PickAt C b s (getD row s 0)) → RowPut (costsABlock * b) row old new
+      → ((s : ℕ) → s < mostStates → leastFrom C b s < unreached → PickAt C b s (getD row s 0)) → RowWritten (costsABlock * b) row old new
       → Picked C b new
   picks-more {b} {row} {old} {new} F K R = record { at = λ c s g h e o. go c s g h e o (ℕ-discrete c b) }
     where

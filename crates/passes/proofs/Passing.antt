@@ -18,7 +18,7 @@ use Rattle.trellis.proofs.Lists.{of-run, in-each, First, first-ok}
 use Rattle.paths.specs.Chain.{unreached}
 use Rattle.paths.specs.inner.Sections.{sectionLeast}
 use Rattle.paths.specs.inner.OneBlock.{leastOver, wordPrice}
-use Rattle.paths.specs.inner.Ranked.{distanceUnit, topRank, ranked, rankedCost, rankedLeft, Room, Pick}
+use Rattle.paths.specs.inner.Ranked.{distanceUnit, topRank, ranked, rankedCost, rankedLeft, PriceRoom, Pick}
 use Rattle.paths.proofs.Sections.{least-last}
 use Rattle.paths.proofs.Packed.{cost-packed}
 use Rattle.paths.proofs.Words.{whole-fits}
@@ -30,8 +30,8 @@ use Rattle.section_file.specs.inner.View.{Seen}
 use Rattle.section_file.specs.declared.View.{View}
 use Rattle.section_file.proofs.Words.{bounded, words-ascend}
 use Rattle.section_file.proofs.Seen.{goals-at}
-use Rattle.sweep.specs.inner.Rows.{side, Row, Asked, Swept}
-use Rattle.passes.specs.inner.Blocks.{Costs, Passed}
+use Rattle.sweep.specs.inner.Rows.{side, LeastRow, SweepAsked, Swept}
+use Rattle.passes.specs.inner.Blocks.{Costs, BlockPassed}
 use Rattle.passes.specs.inner.Loops.{GoalsRanked, RootsPut}
 
 -- ---- the section as the theory of paths takes it
@@ -93,9 +93,9 @@ left-small cost s h = go (ltb cost unreached) refl
     go true e = let k = ltb-true cost unreached e in omega arith
     go false e = omega arith
 
-pub sweep-asked : {l prices left even odd : List ℕ} {at : View} → Seen l at → Room prices
+pub sweep-asked : {l prices left even odd : List ℕ} {at : View} → Seen l at → PriceRoom prices
     → GoalsRanked l left (side (nOf l) even odd) (vertexCountOf l (nOf l)) → length even ≡ mostWords → length odd ≡ mostWords
-    → Asked l prices even odd
+    → SweepAsked l prices even odd
 sweep-asked {l} {left = left} S R G e o = record {
   room = R;
   evenLong = e;
@@ -118,7 +118,7 @@ module _ {l prices left even odd newEven newOdd new picks : List ℕ} {at : View
     abbrev number : ℕ → ℕ
     number g = rankedLeft (rest (goalState l g)) (goalState l g)
 
-    last : Row l (rankedCost (nOf l) cost) number (nOf l) (side (nOf l) even odd)
+    last : LeastRow l (rankedCost (nOf l) cost) number (nOf l) (side (nOf l) even odd)
     last = record {
       at = λ v h.
           let z : nOf l - nOf l ≡ 0 = omega arith in
@@ -165,5 +165,5 @@ module _ {l prices left even odd newEven newOdd new picks : List ℕ} {at : View
             let e = least-else (uses (S .sound) cost) unreached rest (C .bound) s (none-listed (S .sound) cost s (F .none (omega arith))) in
             absurd (omega arith)
 
-  pub passed : Passed l prices left new picks
+  pub passed : BlockPassed l prices left new picks
   passed = record { long = R .long; picksLong = R .picksLong; least = least-is; pick = pick-is }

@@ -7,10 +7,10 @@ ghost use Prim.Native.Nat.{_/_, _%_, _<_, _≤_};
 ghost use lib.ListN.{length};
 ghost use Rattle.trellis.specs.Bounds.{mostStates, mostWords};
 ghost use Rattle.trellis.specs.Layout.{nOf, vertexCountOf};
-ghost use Rattle.paths.specs.inner.Ranked.{labelUnit, distanceUnit, topRank, rankedLeft, Room};
+ghost use Rattle.paths.specs.inner.Ranked.{labelUnit, distanceUnit, topRank, rankedLeft, PriceRoom};
 ghost use Rattle.section_file.specs.inner.View.{Seen};
 ghost use Rattle.sweep.specs.inner.Rows.{side};
-ghost use Rattle.passes.specs.inner.Blocks.{Passed};
+ghost use Rattle.passes.specs.inner.Blocks.{BlockPassed};
 ghost use Rattle.passes.specs.inner.Chains.{Followed, FollowedTo};
 ghost use Rattle.passes.specs.inner.Loops.{GoalsRanked, RootsAsked, RootsPut};
 use numbers::wide;
@@ -123,9 +123,9 @@ pub fn pass_block(
     even: &mut [u64; MOST_WORDS],
     odd: &mut [u64; MOST_WORDS],
 )
-    requires { ⌜ Seen (now l) at × Room (now prices) × (length (now left) ≡ mostStates) × (length (now picks) ≡ mostStates)
+    requires { ⌜ Seen (now l) at × PriceRoom (now prices) × (length (now left) ≡ mostStates) × (length (now picks) ≡ mostStates)
         × (length (now even) ≡ mostWords) × (length (now odd) ≡ mostWords) ⌝ }
-    ensures { λ _. ⌜ Passed (now (l .entry)) (now (prices .entry)) (now (left .entry)) (now (left .exit)) (now (picks .exit))
+    ensures { λ _. ⌜ BlockPassed (now (l .entry)) (now (prices .entry)) (now (left .entry)) (now (left .exit)) (now (picks .exit))
         × (length (now (even .exit)) ≡ mostWords) × (length (now (odd .exit)) ≡ mostWords) ⌝ }
 {
     put_goals_side(l, at, left, even, odd);

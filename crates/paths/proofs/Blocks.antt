@@ -12,7 +12,7 @@ use Rattle.trellis.specs.Section.{Path, pathsFrom, wordOf, wordsOf}
 use Rattle.paths.specs.Chain.{rootedAt}
 use Rattle.paths.specs.inner.Costs.{minAll, firstWith}
 use Rattle.paths.specs.inner.Sections.{sectionLeast}
-use Rattle.paths.specs.inner.OneBlock.{onward, leastOver, firstOver}
+use Rattle.paths.specs.inner.OneBlock.{onwardCost, leastOver, firstOver}
 use Rattle.paths.specs.inner.Ordered.{Ordered}
 use Rattle.paths.proofs.Sections.{costFrom, sectionTrace}
 use Rattle.paths.proofs.Words.{rooted-words, rooted-none}
@@ -41,14 +41,14 @@ module _ {ws : List Word} {price : Word → ℕ} {edges : ℕ → List Edge} {n 
         → leastOver ws price top left (rootOf v) ≡ sectionLeast edges cost top (λ g. left (goalOf g)) n 0 v
     unfolding leastOver
     least-root v m =
-        ap (minAll top (onward ws price top left)) (rooted v m)
+        ap (minAll top (onwardCost ws price top left)) (rooted v m)
         ∙ block-cost edges n v (spells v) top left bound
 
     -- at any other state
     pub least-else : (s : ℕ) → ((v : ℕ) → v ∈ roots → rootOf v ≡ s → ⊥) → leastOver ws price top left s ≡ top
     unfolding leastOver minAll
     least-else s h =
-        ap (minAll top (onward ws price top left)) (ap (rootedAt s) (U .words-are) ∙ rooted-none edges n rootOf goalOf roots s h)
+        ap (minAll top (onwardCost ws price top left)) (ap (rootedAt s) (U .words-are) ∙ rooted-none edges n rootOf goalOf roots s h)
 
     -- the first word of least cost
     pub first-root : (v : ℕ) → v ∈ roots → leastOver ws price top left (rootOf v) < top
@@ -56,5 +56,5 @@ module _ {ws : List Word} {price : Word → ℕ} {edges : ℕ → List Edge} {n 
         ≡ just (wordOf rootOf goalOf v (sectionTrace edges cost top (λ g. left (goalOf g)) n 0 v))
     unfolding firstOver
     first-root v m h =
-        ap (firstWith (λ w. eqb (onward ws price top left w) (leastOver ws price top left (rootOf v)))) (rooted v m)
+        ap (firstWith (λ w. eqb (onwardCost ws price top left w) (leastOver ws price top left (rootOf v)))) (rooted v m)
         ∙ block-word edges n v (spells v) top left bound (leastOver ws price top left (rootOf v)) (sym (least-root v m)) h

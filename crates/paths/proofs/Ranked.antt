@@ -22,7 +22,7 @@ use Rattle.trellis.specs.Section.{Path, leaving, pathsFrom, packOnto, wordOf, w
 use Rattle.paths.specs.Chain.{unreached, rootedAt}
 use Rattle.paths.specs.inner.Costs.{plus, minAll, least, firstWith}
 use Rattle.paths.specs.inner.Sections.{sectionLeast}
-use Rattle.paths.specs.inner.OneBlock.{onward, leastOver, firstOver}
+use Rattle.paths.specs.inner.OneBlock.{onwardCost, leastOver, firstOver}
 use Rattle.paths.specs.inner.Ranked.{labelUnit, distanceUnit, ranked, topRank, rankedCost, rankedLeft, Pick}
 use Rattle.paths.specs.inner.Ordered.{Ordered, leads, ended}
 use Rattle.paths.proofs.Sections.{costFrom, sectionTrace}
@@ -221,7 +221,7 @@ module _ {ws : List Word} {price : Word → ℕ} {edges : ℕ → List Edge} {n 
       (record { root-is = refl; label-lt = lt-of-lt-of-le (pack-fits (P .symbols-fit)) h; goal-lt = R .small (x .0 .end) (P .end-fits) })
 
   abbrev onWord : Word → ℕ
-  onWord w = onward ws price unreached left w
+  onWord w = onwardCost ws price unreached left w
 
   abbrev onRank : Word → ℕ
   onRank w = plus topRank (priceRanked w) (leftRanked (w .goal))

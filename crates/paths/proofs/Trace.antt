@@ -71,9 +71,9 @@ module _ {E P : Type 0} {G : Graph E P} (Q : Prices G) (top : ℕ) (final : ℕ 
     pub found : next G (Q .cost) top final k t v ≡ just edge
     pub behind : Extended (Q .cost t edge) (G .onto edge) (ahead Q k (suc t) (G .to edge)) c p
 
-  pub onward : (k t v : ℕ) {c : ℕ} {p : P} → ahead Q (suc k) t v ≡ some c p → c < top → Onward k t v c p
+  pub onwardCost : (k t v : ℕ) {c : ℕ} {p : P} → ahead Q (suc k) t v ≡ some c p → c < top → Onward k t v c p
   unfolding next ahead
-  onward k t v {c} {p} e h = record {
+  onwardCost k t v {c} {p} e h = record {
     edge = C .member;
     found = ap (λ n. firstWith (λ x. eqb (number x) n) (G .out t v)) total ∙ chosen-first top through number (λ x m. is x) C h;
     behind = extended _ _ _ (C .offers);
@@ -102,7 +102,7 @@ module _ {E P : Type 0} {G : Graph E P} (Q : Prices G) (top : ℕ) (final : ℕ 
   unfolding trace orStop
   trace-best stop s zero t v {c} {p} e h = s t v c p e
   trace-best stop s (suc k) t v {c} {p} e h =
-      let O = onward k t v e h in
+      let O = onwardCost k t v e h in
       let B = O .behind in
       let l = B .cost-is in
       ap (orStop (stop v) _) (O .found) ∙ ap (G .onto (O .edge)) (trace-best stop s k (suc t) (G .to (O .edge)) (B .had) (omega arith))

@@ -27,8 +27,8 @@ use Rattle.section_file.specs.inner.View.{Seen}
 use Rattle.section_file.specs.declared.View.{View}
 use Rattle.section_file.proofs.Seen.{viewed, parts, section-near, symbols-in, edges-from, from-length, from-below, to-below}
 use Rattle.section_file.proofs.Seen.{symbol-small, Header, header}
-use Rattle.sweep.specs.inner.Rows.{side, Priced, Row, Asked, Swept}
-use Rattle.sweep.specs.inner.Loops.{Cleared, StepAsked, through, Lowered, DepthAsked, DepthDone}
+use Rattle.sweep.specs.inner.Rows.{side, Priced, LeastRow, SweepAsked, Swept}
+use Rattle.sweep.specs.inner.Loops.{Cleared, StepAsked, through, Lowered, RowAsked, RowDone}
 
 -- ---- places
 
@@ -67,7 +67,7 @@ vertices-few {t = t} S h e = omega (arith, S .sound .verticesTo t h)
 -- ---- one step, in the slices that the code takes
 
 module _ {l : List ℕ} {at : View} {t before : ℕ} (S : Seen l at) {prices behind old : List ℕ}
-    (A : DepthAsked l t before prices behind old) where
+    (A : RowAsked l t before prices behind old) where
   abbrev pairs : List ℕ
   pairs = take (length l - (at .pairs + 2 * before)) (drop (at .pairs + 2 * before) l)
 
@@ -138,7 +138,7 @@ module _ {l : List ℕ} {at : View} {t before : ℕ} (S : Seen l at) {prices beh
       ∙ ap (run (edgeNumber l) (edgesBefore l t)) e
 
   -- what an edge gives, up to the top
-  gives-is : {cost : ℕ → ℕ → ℕ} {number : ℕ → ℕ} → Priced l prices cost → Row l cost number (suc t) behind
+  gives-is : {cost : ℕ → ℕ → ℕ} {number : ℕ → ℕ} → Priced l prices cost → LeastRow l cost number (suc t) behind
       → (v : ℕ) (e : Edge) → e ∈ leaving v (stepEdges l t)
       → min topRank (through own behind e) ≡ across (stepEdges l) cost topRank number (nOf l - suc t) t e
   unfolding plus stepEdges
@@ -168,8 +168,8 @@ min-capped top f (x ∷ xs) h =
 -- ---- the row of a depth
 
 pub depth-done : {l : List ℕ} {at : View} {t before first count : ℕ} {prices behind old mid new : List ℕ} (S : Seen l at)
-    (A : DepthAsked l t before prices behind old) → first ≡ getD l (3 + t) 0 → Cleared mid first → count ≡ getD l (4 + at .n + t) 0
-    → Lowered (pairs S A) (symbols S A) count (own S A) behind mid new → DepthDone l t prices behind new
+    (A : RowAsked l t before prices behind old) → first ≡ getD l (3 + t) 0 → Cleared mid first → count ≡ getD l (4 + at .n + t) 0
+    → Lowered (pairs S A) (symbols S A) count (own S A) behind mid new → RowDone l t prices behind new
 unfolding vertexCountOf edgeCountOf
 depth-done {l} {at} {t} {before} {first} {count} {prices} {behind} {mid = mid} {new} S A f C c L =
     record {
@@ -188,7 +188,7 @@ depth-done {l} {at} {t} {before} {first} {count} {prices} {behind} {mid = mid} {
         ∙ ap₂ (λ x es. minAll x (through (own S A) behind) (leaving v es)) (C .at v (omega arith))
         (edges-are S A (c ∙ ap (λ k. getD l (4 + k + t) 0) (viewed (S .is) .n-is)))
 
-    done : (cost : ℕ → ℕ → ℕ) (number : ℕ → ℕ) → Priced l prices cost → Row l cost number (suc t) behind → Row l cost number t new
+    done : (cost : ℕ → ℕ → ℕ) (number : ℕ → ℕ) → Priced l prices cost → LeastRow l cost number (suc t) behind → LeastRow l cost number t new
     done cost number P R =
         record {
           at = λ v h.
@@ -210,28 +210,28 @@ module _ (t : ℕ) (even odd : List ℕ) where
   side-odd e = ap (λ b. cond b even odd) (ne-eqb (t % 2) 0 e)
 
 module _ {l prices even odd : List ℕ} {t before : ℕ} where
-  pub asked-even : t % 2 ≡ 0 → DepthAsked l t before prices (side (suc t) even odd) (side t even odd)
-      → DepthAsked l t before prices odd even
+  pub asked-even : t % 2 ≡ 0 → RowAsked l t before prices (side (suc t) even odd) (side t even odd)
+      → RowAsked l t before prices odd even
   asked-even e A =
-      subst (λ x. DepthAsked l t before prices x even) (side-odd (suc t) even odd (omega arith))
-      (subst (DepthAsked l t before prices (side (suc t) even odd)) (side-even t even odd e) A)
+      subst (λ x. RowAsked l t before prices x even) (side-odd (suc t) even odd (omega arith))
+      (subst (RowAsked l t before prices (side (suc t) even odd)) (side-even t even odd e) A)
 
-  pub asked-odd : (t % 2 ≡ 0 → ⊥) → DepthAsked l t before prices (side (suc t) even odd) (side t even odd)
-      → DepthAsked l t before prices even odd
+  pub asked-odd : (t % 2 ≡ 0 → ⊥) → RowAsked l t before prices (side (suc t) even odd) (side t even odd)
+      → RowAsked l t before prices even odd
   asked-odd e A =
-      subst (λ x. DepthAsked l t before prices x odd) (side-even (suc t) even odd (omega arith))
-      (subst (DepthAsked l t before prices (side (suc t) even odd)) (side-odd t even odd e) A)
+      subst (λ x. RowAsked l t before prices x odd) (side-even (suc t) even odd (omega arith))
+      (subst (RowAsked l t before prices (side (suc t) even odd)) (side-odd t even odd e) A)
 
 module _ {l prices new : List ℕ} {t : ℕ} (even odd : List ℕ) where
-  pub done-even : t % 2 ≡ 0 → DepthDone l t prices odd new → DepthDone l t prices (side (suc t) even odd) (side t new odd)
+  pub done-even : t % 2 ≡ 0 → RowDone l t prices odd new → RowDone l t prices (side (suc t) even odd) (side t new odd)
   done-even e D =
-      subst (λ x. DepthDone l t prices x (side t new odd)) (sym (side-odd (suc t) even odd (omega arith)))
-      (subst (DepthDone l t prices odd) (sym (side-even t new odd e)) D)
+      subst (λ x. RowDone l t prices x (side t new odd)) (sym (side-odd (suc t) even odd (omega arith)))
+      (subst (RowDone l t prices odd) (sym (side-even t new odd e)) D)
 
-  pub done-odd : (t % 2 ≡ 0 → ⊥) → DepthDone l t prices even new → DepthDone l t prices (side (suc t) even odd) (side t even new)
+  pub done-odd : (t % 2 ≡ 0 → ⊥) → RowDone l t prices even new → RowDone l t prices (side (suc t) even odd) (side t even new)
   done-odd e D =
-      subst (λ x. DepthDone l t prices x (side t even new)) (sym (side-even (suc t) even odd (omega arith)))
-      (subst (DepthDone l t prices even) (sym (side-odd t even new e)) D)
+      subst (λ x. RowDone l t prices x (side t even new)) (sym (side-even (suc t) even odd (omega arith)))
+      (subst (RowDone l t prices even) (sym (side-odd t even new e)) D)
 
 -- ---- the loop over the steps
 
@@ -242,10 +242,10 @@ pub record InSweep (l prices oldEven oldOdd even odd : List ℕ) (t before : ℕ
   pub evenLong : length even ≡ mostWords
   pub oddLong : length odd ≡ mostWords
   pub small : (v : ℕ) → v < vertexCountOf l t → getD (side t even odd) v 0 ≤ topRank
-  pub done : (cost : ℕ → ℕ → ℕ) (number : ℕ → ℕ) → Priced l prices cost → Row l cost number (nOf l) (side (nOf l) oldEven oldOdd)
-      → Row l cost number t (side t even odd)
+  pub done : (cost : ℕ → ℕ → ℕ) (number : ℕ → ℕ) → Priced l prices cost → LeastRow l cost number (nOf l) (side (nOf l) oldEven oldOdd)
+      → LeastRow l cost number t (side t even odd)
 
-module _ {l : List ℕ} {at : View} (S : Seen l at) {prices oldEven oldOdd : List ℕ} (A : Asked l prices oldEven oldOdd) where
+module _ {l : List ℕ} {at : View} (S : Seen l at) {prices oldEven oldOdd : List ℕ} (A : SweepAsked l prices oldEven oldOdd) where
   pub sweep-start : InSweep l prices oldEven oldOdd oldEven oldOdd (at .n) (at .edges)
   sweep-start =
       let W = viewed (S .is) in
@@ -280,7 +280,7 @@ module _ {l : List ℕ} {at : View} (S : Seen l at) {prices oldEven oldOdd : Lis
         go true = I .evenLong
         go false = I .oddLong
 
-    pub sweep-asked : DepthAsked l (t - 1) (before - count) prices (side (suc (t - 1)) even odd) (side (t - 1) even odd)
+    pub sweep-asked : RowAsked l (t - 1) (before - count) prices (side (suc (t - 1)) even odd) (side (t - 1) even odd)
     sweep-asked =
         let e : t ≡ suc (t - 1) = omega arith in
         record {
@@ -293,7 +293,7 @@ module _ {l : List ℕ} {at : View} (S : Seen l at) {prices oldEven oldOdd : Lis
         }
 
     pub sweep-more : {newEven newOdd : List ℕ}
-        → DepthDone l (t - 1) prices (side (suc (t - 1)) even odd) (side (t - 1) newEven newOdd)
+        → RowDone l (t - 1) prices (side (suc (t - 1)) even odd) (side (t - 1) newEven newOdd)
         → length newEven ≡ mostWords → length newOdd ≡ mostWords
         → InSweep l prices oldEven oldOdd newEven newOdd (t - 1) (before - count)
     sweep-more {newEven} {newOdd} D e o =
@@ -304,7 +304,8 @@ module _ {l : List ℕ} {at : View} (S : Seen l at) {prices oldEven oldOdd : Lis
           evenLong = e;
           oddLong = o;
           small = D .small;
-          done = λ cost number P R. D .done cost number P (subst (λ u. Row l cost number u (side u even odd)) z (I .done cost number P R));
+          done = λ cost number P R. D .done cost number P (subst (λ u. LeastRow l cost number u (side u even odd)) z
+              (I .done cost number P R));
         }
 
 pub sweep-end : {l prices oldEven oldOdd even odd : List ℕ} {t before : ℕ} → InSweep l prices oldEven oldOdd even odd t before → t ≤ 0
@@ -317,5 +318,5 @@ sweep-end {l} {prices} {oldEven} {oldOdd} {even} {odd} {t} I h =
       oddLong = I .oddLong;
       small = subst (λ u. (v : ℕ) → v < vertexCountOf l u → getD even v 0 ≤ topRank) e
           (subst (λ r. (v : ℕ) → v < vertexCountOf l t → getD r v 0 ≤ topRank) s (I .small));
-      row = λ cost number P R. subst (λ u. Row l cost number u even) e (subst (Row l cost number t) s (I .done cost number P R));
+      row = λ cost number P R. subst (λ u. LeastRow l cost number u even) e (subst (LeastRow l cost number t) s (I .done cost number P R));
     }

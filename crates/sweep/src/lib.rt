@@ -6,8 +6,8 @@ ghost use Prim.Native.Nat.{suc, _+_, _*_, _<_, _≤_, min};
 ghost use lib.ListN.{length};
 ghost use Rattle.trellis.specs.Bounds.{mostWords};
 ghost use Rattle.section_file.specs.inner.View.{Seen};
-ghost use Rattle.sweep.specs.inner.Rows.{Asked, Swept, side};
-ghost use Rattle.sweep.specs.inner.Loops.{Cleared, StepAsked, Lowered, DepthAsked, DepthDone};
+ghost use Rattle.sweep.specs.inner.Rows.{SweepAsked, Swept, side};
+ghost use Rattle.sweep.specs.inner.Loops.{Cleared, StepAsked, Lowered, RowAsked, RowDone};
 use numbers::wide;
 use paths::TOP_RANK;
 use section_file::View;
@@ -67,8 +67,8 @@ fn lower_depth(
     behind: &[u64; MOST_WORDS],
     row: &mut [u64; MOST_WORDS],
 )
-    requires { ⌜ Seen (now l) at × DepthAsked (now l) t before (now prices) (now behind) (now row) ⌝ }
-    ensures { λ _. ⌜ DepthDone (now (l .entry)) t (now (prices .entry)) (now (behind .entry)) (now (row .exit)) ⌝ }
+    requires { ⌜ Seen (now l) at × RowAsked (now l) t before (now prices) (now behind) (now row) ⌝ }
+    ensures { λ _. ⌜ RowDone (now (l .entry)) t (now (prices .entry)) (now (behind .entry)) (now (row .exit)) ⌝ }
 {
     let pairs = at.pairs + 2 * before;
     let symbols = at.symbols + before;
@@ -95,9 +95,9 @@ fn lower_side(
     odd: &mut [u64; MOST_WORDS],
 )
     requires { ⌜ Seen (now l) at
-        × DepthAsked (now l) t before (now prices) (side (suc t) (now even) (now odd)) (side t (now even) (now odd))
+        × RowAsked (now l) t before (now prices) (side (suc t) (now even) (now odd)) (side t (now even) (now odd))
         × (length (now even) ≡ mostWords) × (length (now odd) ≡ mostWords) ⌝ }
-    ensures { λ _. ⌜ DepthDone (now (l .entry)) t (now (prices .entry)) (side (suc t) (now (even .entry)) (now (odd .entry)))
+    ensures { λ _. ⌜ RowDone (now (l .entry)) t (now (prices .entry)) (side (suc t) (now (even .entry)) (now (odd .entry)))
         (side t (now (even .exit)) (now (odd .exit)))
         × (length (now (even .exit)) ≡ mostWords) × (length (now (odd .exit)) ≡ mostWords) ⌝ }
 {
@@ -116,7 +116,7 @@ pub fn sweep(
     even: &mut [u64; MOST_WORDS],
     odd: &mut [u64; MOST_WORDS],
 )
-    requires { ⌜ Seen (now l) at × Asked (now l) (now prices) (now even) (now odd) ⌝ }
+    requires { ⌜ Seen (now l) at × SweepAsked (now l) (now prices) (now even) (now odd) ⌝ }
     ensures { λ _. ⌜ Swept (now (l .entry)) (now (prices .entry)) (now (even .entry)) (now (odd .entry)) (now (even .exit))
         (now (odd .exit)) ⌝ }
 {

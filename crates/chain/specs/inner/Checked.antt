@@ -51,6 +51,6 @@ pub record Room (indices costs labels goals : List ℕ) : Type 0 where
   pub forGoals : length indices ≤ length goals
 
 -- nothing is left to pay in the end state, and there is no path from any other
-pub record Ends (end : ℕ) (left : List ℕ) : Type 0 where
+pub record EndRow (end : ℕ) (left : List ℕ) : Type 0 where
   pub long : length left ≡ mostStates
   pub at : (s : ℕ) → s < mostStates → getD left s 0 ≡ atEnd unreached (endsIn end) s

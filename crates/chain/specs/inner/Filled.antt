@@ -11,14 +11,14 @@ use Rattle.paths.specs.Chain.{unreached}
 use Rattle.paths.specs.inner.Chains.{atEnd}
 use Rattle.section_file.specs.inner.View.{Seen}
 use Rattle.section_file.specs.declared.View.{View}
-use Rattle.paths.specs.inner.Ranked.{Room}
+use Rattle.paths.specs.inner.Ranked.{PriceRoom}
 use Rattle.block.specs.Received.{blockDistance}
 use Rattle.block.specs.inner.Prices.{Prices}
-use Rattle.passes.specs.inner.Blocks.{Passed}
+use Rattle.passes.specs.inner.Blocks.{BlockPassed}
 use Rattle.passes.specs.inner.Chains.{Chain, CostsFrom, Picked}
 use Rattle.chain.specs.inner.Loops.{noView}
 
-pub record Held : Type 0 where
+pub record HeldBlocks : Type 0 where
   pub sections : List ℕ
   pub starts : List ℕ
   pub views : List View
@@ -26,24 +26,24 @@ pub record Held : Type 0 where
   pub received : List ℕ
   pub erased : List ℕ
 
-abbrev pub held : List ℕ → List ℕ → List View → List ℕ → List ℕ → List ℕ → Held
-held sections starts views indices received erased =
+abbrev pub heldBlocks : List ℕ → List ℕ → List View → List ℕ → List ℕ → List ℕ → HeldBlocks
+heldBlocks sections starts views indices received erased =
     record { sections = sections; starts = starts; views = views; indices = indices; received = received; erased = erased }
 
 -- the first s numbers of a row of 64 are copied
-pub record Copied (row place : List ℕ) (s : ℕ) : Type 0 where
+pub record RowCopied (row place : List ℕ) (s : ℕ) : Type 0 where
   pub long : length place ≡ mostStates
   pub at : (u : ℕ) → u < s → getD place u 0 ≡ getD row u 0
 
 -- the parts of the cost table and of the picks that a block has
-pub record Parts (costs picks : List ℕ) : Type 0 where
+pub record BlockRows (costs picks : List ℕ) : Type 0 where
   pub costsLong : length costs ≡ mostStates
   pub picksLong : length picks ≡ mostStates
 
 -- working room: what is left to pay, the prices, the two rows
 pub record Working (left prices even odd : List ℕ) : Type 0 where
   pub leftLong : length left ≡ mostStates
-  pub room : Room prices
+  pub room : PriceRoom prices
   pub evenLong : length even ≡ mostWords
   pub oddLong : length odd ≡ mostWords
 
@@ -51,17 +51,17 @@ pub record Working (left prices even odd : List ℕ) : Type 0 where
 pub record BlockFilled (l : List ℕ) (received mask : ℕ) (left new costs picks : List ℕ) : Type 0 where
   pub prices : List ℕ
   pub priced : Prices (nOf l) received mask prices
-  pub passed : Passed l prices left new picks
-  pub copied : Copied new costs mostStates
+  pub passed : BlockPassed l prices left new picks
+  pub copied : RowCopied new costs mostStates
 
 -- nothing is left to pay in a state where a path may end, and there is no path from any other
 pub record EndsAs (C : Chain) (left : List ℕ) : Type 0 where
   pub at : (s : ℕ) → s < mostStates → getD left s 0 ≡ atEnd unreached (C .ends) s
 
-module _ (H : Held) where
+module _ (H : HeldBlocks) where
   -- the section of block b, with what follows it, and its view
-  abbrev pub partOf : ℕ → List ℕ
-  partOf b = drop (getD (H .starts) (getD (H .indices) b 0) 0) (H .sections)
+  abbrev pub blockPart : ℕ → List ℕ
+  blockPart b = drop (getD (H .starts) (getD (H .indices) b 0) 0) (H .sections)
 
   abbrev pub viewAt : ℕ → View
   viewAt b = getD (H .views) (getD (H .indices) b 0) noView
@@ -74,14 +74,14 @@ module _ (H : Held) where
     pub viewsLong : length (H .views) ≡ mostSections
     pub indexBelow : (b : ℕ) → b < length (H .indices) → getD (H .indices) b 0 < mostSections
     pub inside : (b : ℕ) → b < length (H .indices) → getD (H .starts) (getD (H .indices) b 0) 0 ≤ length (H .sections)
-    pub seen : (b : ℕ) → b < length (H .indices) → Seen (partOf b) (viewAt b)
+    pub seen : (b : ℕ) → b < length (H .indices) → Seen (blockPart b) (viewAt b)
 
   -- the chain that these blocks are
   pub record ChainOf (C : Chain) : Type 0 where
     pub blocksIs : C .blocks ≡ length (H .indices)
-    pub wordsAre : (b : ℕ) → b < length (H .indices) → C .words b ≡ sectionWords (partOf b)
+    pub wordsAre : (b : ℕ) → b < length (H .indices) → C .words b ≡ sectionWords (blockPart b)
     pub priceIs : (b : ℕ) → b < length (H .indices) → (w : Word)
-        → C .price b w ≡ blockDistance (nOf (partOf b)) (getD (H .received) b 0) (getD (H .erased) b 0) (w .label)
+        → C .price b w ≡ blockDistance (nOf (blockPart b)) (getD (H .received) b 0) (getD (H .erased) b 0) (w .label)
 
   -- the table is filled, and places beyond it are as they were; `left` has what is left to pay behind the last block
   pub record Filled (left old new oldPicks picks : List ℕ) : Type 0 where

@@ -18,7 +18,7 @@ pub record Costs (l prices left : List ℕ) (cost : ℕ → ℕ → ℕ) (rest :
   pub bound : (s : ℕ) → rest s ≤ unreached
 
 -- the least cost from each state before the block, and the first word of least cost
-pub record Passed (l prices left new picks : List ℕ) : Type 0 where
+pub record BlockPassed (l prices left new picks : List ℕ) : Type 0 where
   pub long : length new ≡ mostStates
   pub picksLong : length picks ≡ mostStates
   pub least : (cost : ℕ → ℕ → ℕ) (rest : ℕ → ℕ) → Costs l prices left cost rest → (s : ℕ) → s < mostStates

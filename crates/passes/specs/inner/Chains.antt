@@ -54,7 +54,7 @@ module _ (C : Chain) where
     pub goalsKept : (i : ℕ) → b ≤ i → getD newGoals i 0 ≡ getD goals i 0
 
 -- a row of 64 numbers is written from one place on, and the other places are as they were
-pub record RowPut (first : ℕ) (row old new : List ℕ) : Type 0 where
+pub record RowWritten (first : ℕ) (row old new : List ℕ) : Type 0 where
   pub long : length new ≡ length old
   pub at : (s : ℕ) → s < costsABlock → getD new (first + s) 0 ≡ getD row s 0
   pub kept : (i : ℕ) → (i < first) ⊎ (first + costsABlock ≤ i) → getD new i 0 ≡ getD old i 0

@@ -12,16 +12,16 @@ use Rattle.paths.specs.inner.Costs.{plus, minAll, firstWith}
 
 module _ (ws : List Word) (price : Word → ℕ) (top : ℕ) (left : ℕ → ℕ) where
   -- what is to pay from the word w on
-  abbrev pub onward : Word → ℕ
-  onward w = plus top (price w) (left (w .goal))
+  abbrev pub onwardCost : Word → ℕ
+  onwardCost w = plus top (price w) (left (w .goal))
 
   -- the least cost from state s on
   unfoldable pub leastOver : ℕ → ℕ
-  leastOver s = minAll top onward (rootedAt s ws)
+  leastOver s = minAll top onwardCost (rootedAt s ws)
 
   -- the first word of least cost from there
   unfoldable pub firstOver : ℕ → Option Word
-  firstOver s = firstWith (λ w. eqb (onward w) (leastOver s)) (rootedAt s ws)
+  firstOver s = firstWith (λ w. eqb (onwardCost w) (leastOver s)) (rootedAt s ws)
 
 -- what a word of n symbols costs where the symbol a costs `cost t a` as symbol t
 unfoldable pub wordPrice : ℕ → (ℕ → ℕ → ℕ) → Word → ℕ

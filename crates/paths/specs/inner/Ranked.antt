@@ -35,7 +35,7 @@ unfoldable pub rankedLeft : ℕ → ℕ → ℕ
 rankedLeft left s = cond (ltb left unreached) (ranked left 0 s) topRank
 
 -- an array of prices, four a step for 8 steps, none of them above the top
-pub record Room (prices : List ℕ) : Type 0 where
+pub record PriceRoom (prices : List ℕ) : Type 0 where
   pub long : length prices ≡ 32
   pub small : (i : ℕ) → getD prices i 0 ≤ topRank
 

@@ -10,9 +10,9 @@ use Rattle.trellis.specs.Own.{Edge}
 use Rattle.trellis.specs.Section.{leaving}
 use Rattle.trellis.specs.Layout.{nOf, vertexCountOf, edgesBefore}
 use Rattle.paths.specs.inner.Costs.{minAll}
-use Rattle.paths.specs.inner.Ranked.{topRank, Room}
+use Rattle.paths.specs.inner.Ranked.{topRank, PriceRoom}
 use Rattle.section_file.specs.inner.Answer.{edgeIn}
-use Rattle.sweep.specs.inner.Rows.{Priced, Row}
+use Rattle.sweep.specs.inner.Rows.{Priced, LeastRow}
 
 -- the first v places have no path
 pub record Cleared (row : List ℕ) (v : ℕ) : Type 0 where
@@ -44,16 +44,17 @@ pub record Lowered (pairs symbols : List ℕ) (count : ℕ) (prices behind old n
       → getD new v 0 ≡ minAll (getD old v 0) (through prices behind) (leaving v (run (edgeIn pairs symbols) 0 count))
 
 -- the row behind depth t has numbers small enough, and the steps before have `before` edges
-pub record DepthAsked (l : List ℕ) (t before : ℕ) (prices behind row : List ℕ) : Type 0 where
+pub record RowAsked (l : List ℕ) (t before : ℕ) (prices behind row : List ℕ) : Type 0 where
   pub inside : t < nOf l
   pub beforeIs : before ≡ edgesBefore l t
-  pub room : Room prices
+  pub room : PriceRoom prices
   pub behindLong : length behind ≡ mostWords
   pub rowLong : length row ≡ mostWords
   pub small : (v : ℕ) → v < vertexCountOf l (suc t) → getD behind v 0 ≤ topRank
 
 -- the row of depth t follows from the row behind it
-pub record DepthDone (l : List ℕ) (t : ℕ) (prices behind row : List ℕ) : Type 0 where
+pub record RowDone (l : List ℕ) (t : ℕ) (prices behind row : List ℕ) : Type 0 where
   pub long : length row ≡ mostWords
   pub small : (v : ℕ) → v < vertexCountOf l t → getD row v 0 ≤ topRank
-  pub done : (cost : ℕ → ℕ → ℕ) (number : ℕ → ℕ) → Priced l prices cost → Row l cost number (suc t) behind → Row l cost number t row
+  pub done : (cost : ℕ → ℕ → ℕ) (number : ℕ → ℕ) → Priced l prices cost → LeastRow l cost number (suc t) behind
+      → LeastRow l cost number t row

@@ -9,7 +9,7 @@ use lib.ListN.{length, getD}
 use Rattle.trellis.specs.Bounds.{mostWords}
 use Rattle.trellis.specs.Layout.{nOf, vertexCountOf, stepEdges}
 use Rattle.paths.specs.inner.Sections.{sectionLeast}
-use Rattle.paths.specs.inner.Ranked.{topRank, Room}
+use Rattle.paths.specs.inner.Ranked.{topRank, PriceRoom}
 
 -- the row of depth t: even depths take turns in one array, odd depths in the other
 unfoldable pub side : ℕ → List ℕ → List ℕ → List ℕ
@@ -20,12 +20,12 @@ pub record Priced (l prices : List ℕ) (cost : ℕ → ℕ → ℕ) : Type 0 wh
   pub at : (t a : ℕ) → t < nOf l → a < 4 → getD prices (4 * t + a) 0 ≡ cost t a
 
 -- the row of depth t holds the least costs from its vertices
-pub record Row (l : List ℕ) (cost : ℕ → ℕ → ℕ) (number : ℕ → ℕ) (t : ℕ) (row : List ℕ) : Type 0 where
+pub record LeastRow (l : List ℕ) (cost : ℕ → ℕ → ℕ) (number : ℕ → ℕ) (t : ℕ) (row : List ℕ) : Type 0 where
   pub at : (v : ℕ) → v < vertexCountOf l t → getD row v 0 ≡ sectionLeast (stepEdges l) cost topRank number (nOf l - t) t v
 
 -- prices for every step, and numbers of which no two add up to one that wraps
-pub record Asked (l prices even odd : List ℕ) : Type 0 where
-  pub room : Room prices
+pub record SweepAsked (l prices even odd : List ℕ) : Type 0 where
+  pub room : PriceRoom prices
   pub evenLong : length even ≡ mostWords
   pub oddLong : length odd ≡ mostWords
   pub small : (v : ℕ) → v < vertexCountOf l (nOf l) → getD (side (nOf l) even odd) v 0 ≤ topRank
@@ -35,5 +35,5 @@ pub record Swept (l prices even odd newEven newOdd : List ℕ) : Type 0 where
   pub evenLong : length newEven ≡ mostWords
   pub oddLong : length newOdd ≡ mostWords
   pub small : (v : ℕ) → v < vertexCountOf l 0 → getD newEven v 0 ≤ topRank
-  pub row : (cost : ℕ → ℕ → ℕ) (number : ℕ → ℕ) → Priced l prices cost → Row l cost number (nOf l) (side (nOf l) even odd)
-      → Row l cost number 0 newEven
+  pub row : (cost : ℕ → ℕ → ℕ) (number : ℕ → ℕ) → Priced l prices cost → LeastRow l cost number (nOf l) (side (nOf l) even odd)
+      → LeastRow l cost number 0 newEven

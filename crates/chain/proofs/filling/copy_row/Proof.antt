@@ -3,13 +3,13 @@ use borrow.Author.Needs.{needs}
 use mathlib.Core.Path.{sym, _∙_}
 use Prim.Native.Nat.{_-_, _≤_}
 use Rattle.trellis.specs.Bounds.{mostStates}
-use Rattle.chain.specs.inner.Filled.{Copied}
+use Rattle.chain.specs.inner.Filled.{RowCopied}
 use Rattle.chain.proofs.Rows.{copy-start, copy-more, copy-end}
 use Rattle.chain.proofs.filling.copy_row.Statement.{statement}
 use Rattle.chain.proofs.filling.copy_row.Tie as tie
 
 abbrev Inv-loop : tie.InvT-loop
-Inv-loop row place₀ s₀ place s = Copied row place s × (s ≤ mostStates)
+Inv-loop row place₀ s₀ place s = RowCopied row place s × (s ≤ mostStates)
 
 abbrev μ-loop : tie.MeasureT-loop
 μ-loop row place₀ s₀ place s = mostStates - s

@@ -3,7 +3,7 @@
 use borrow.Author.Needs.{needs}
 use native.Mathlib.Omega.{arith}
 use lib.ListN.{length-take, length-drop}
-use Rattle.chain.specs.inner.Filled.{held}
+use Rattle.chain.specs.inner.Filled.{heldBlocks}
 use Rattle.chain.proofs.Tables.{InFill, fill-start, fill-below, block-at, rows-at, filled-part, fill-more, fill-end}
 use Rattle.chain.proofs.Rows.{row-back}
 use Rattle.chain.proofs.filling.fill_table.Statement.{statement}
@@ -11,7 +11,7 @@ use Rattle.chain.proofs.filling.fill_table.Tie as tie
 
 abbrev Inv-loop : tie.InvT-loop
 Inv-loop sections starts indices received erased costs₀ picks₀ views left₀ prices₀ even₀ odd₀ b₀ costs picks left prices even odd b =
-    InFill (held sections starts views indices received erased) left₀ costs₀ costs picks₀ picks left prices even odd b
+    InFill (heldBlocks sections starts views indices received erased) left₀ costs₀ costs picks₀ picks left prices even odd b
 
 abbrev μ-loop : tie.MeasureT-loop
 μ-loop sections starts indices received erased costs₀ picks₀ views left₀ prices₀ even₀ odd₀ b₀ costs picks left prices even odd b = b
