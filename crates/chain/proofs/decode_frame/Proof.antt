@@ -19,7 +19,7 @@ passed : (e : tie.Else2) → FramePassed (frame-of (e .before .before .before .b
 passed e =
     let s = e .before .before .before .before .before .before .before .before .before .before .before in
     let f = frame-of s in
-    frame-passed (e .before .before .before .frame-bad .ensures (f .sections) (f .k)) (e .before .before .if1 .left)
+    frame-passed {f = f} (e .before .before .before .frame-bad .ensures (f .sections) (f .k)) (e .before .before .if1 .left)
     (e .before .first-bad .ensures (f .sections) (s .args .starts .now) (f .start) (f .end) (s .pre .found)) (search needs)
 
 frame-bad-requires : tie.Need-frame-bad-requires

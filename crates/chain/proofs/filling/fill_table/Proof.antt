@@ -33,28 +33,32 @@ mul-at c =
     let turn = c .before .before in
     let head = turn .before in
     let entry = head .before .before .before .before .before .before .before in
-    search (needs, block-at (entry .pre .0) (fill-below (head .loop .inv) (turn .loop-test .taken)) (c .widened .ensures .0))
+    let B = block-at (entry .pre .0) (fill-below (head .loop .inv) (turn .loop-test .taken)) (c .widened .ensures .0) in
+    omega arith
 
 array-copy-out-at : tie.Need-array-copy-out-at Inv-loop μ-loop
 array-copy-out-at c =
     let turn = c .before .before in
     let head = turn .before in
     let entry = head .before .before .before .before .before .before .before in
-    search (needs, block-at (entry .pre .0) (fill-below (head .loop .inv) (turn .loop-test .taken)) (c .widened .ensures .0))
+    let B = block-at (entry .pre .0) (fill-below (head .loop .inv) (turn .loop-test .taken)) (c .widened .ensures .0) in
+    omega arith
 
 mul-start : tie.Need-mul-start Inv-loop μ-loop
 mul-start c =
     let turn = c .before .before .before in
     let head = turn .before in
     let entry = head .before .before .before .before .before .before .before in
-    search (needs, block-at (entry .pre .0) (fill-below (head .loop .inv) (turn .loop-test .taken)) (c .before .widened .ensures .0))
+    let B = block-at (entry .pre .0) (fill-below (head .loop .inv) (turn .loop-test .taken)) (c .before .widened .ensures .0) in
+    omega arith
 
 element-copy-out-start : tie.Need-element-copy-out-start Inv-loop μ-loop
 element-copy-out-start c =
     let turn = c .before .before .before in
     let head = turn .before in
     let entry = head .before .before .before .before .before .before .before in
-    search (needs, block-at (entry .pre .0) (fill-below (head .loop .inv) (turn .loop-test .taken)) (c .before .widened .ensures .0))
+    let B = block-at (entry .pre .0) (fill-below (head .loop .inv) (turn .loop-test .taken)) (c .before .widened .ensures .0) in
+    omega arith
 
 mul-word : tie.Need-mul-word Inv-loop μ-loop
 mul-word c =
@@ -62,7 +66,8 @@ mul-word c =
     let turn = widened .before .before in
     let head = turn .before in
     let entry = head .before .before .before .before .before .before .before in
-    search (needs, block-at (entry .pre .0) (fill-below (head .loop .inv) (turn .loop-test .taken)) (widened .widened .ensures .0))
+    let B = block-at (entry .pre .0) (fill-below (head .loop .inv) (turn .loop-test .taken)) (widened .widened .ensures .0) in
+    omega arith
 
 shared-slice-read-word : tie.Need-shared-slice-read-word Inv-loop μ-loop
 shared-slice-read-word c =
@@ -70,12 +75,8 @@ shared-slice-read-word c =
     let turn = widened .before .before in
     let head = turn .before in
     let entry = head .before .before .before .before .before .before .before in
-    search (
-      needs,
-      block-at (entry .pre .0) (fill-below (head .loop .inv) (turn .loop-test .taken)) (widened .widened .ensures .0),
-      head
-          .loop .inv .b-le,
-    )
+    let B = block-at (entry .pre .0) (fill-below (head .loop .inv) (turn .loop-test .taken)) (widened .widened .ensures .0) in
+    omega (arith, head .loop .inv .b-le, entry .pre .0 .receivedLong, entry .pre .0 .erasedLong)
 
 shared-slice-read-mask : tie.Need-shared-slice-read-mask Inv-loop μ-loop
 shared-slice-read-mask c =
@@ -83,12 +84,8 @@ shared-slice-read-mask c =
     let turn = widened .before .before in
     let head = turn .before in
     let entry = head .before .before .before .before .before .before .before in
-    search (
-      needs,
-      block-at (entry .pre .0) (fill-below (head .loop .inv) (turn .loop-test .taken)) (widened .widened .ensures .0),
-      head
-          .loop .inv .b-le,
-    )
+    let B = block-at (entry .pre .0) (fill-below (head .loop .inv) (turn .loop-test .taken)) (widened .widened .ensures .0) in
+    omega (arith, head .loop .inv .b-le, entry .pre .0 .receivedLong, entry .pre .0 .erasedLong)
 
 mul-first : tie.Need-mul-first Inv-loop μ-loop
 mul-first c =
@@ -96,7 +93,8 @@ mul-first c =
     let turn = widened .before .before in
     let head = turn .before in
     let entry = head .before .before .before .before .before .before .before in
-    search (needs, block-at (entry .pre .0) (fill-below (head .loop .inv) (turn .loop-test .taken)) (widened .widened .ensures .0))
+    let B = block-at (entry .pre .0) (fill-below (head .loop .inv) (turn .loop-test .taken)) (widened .widened .ensures .0) in
+    omega arith
 
 add-next : tie.Need-add-next Inv-loop μ-loop
 add-next c =
@@ -104,7 +102,8 @@ add-next c =
     let turn = widened .before .before in
     let head = turn .before in
     let entry = head .before .before .before .before .before .before .before in
-    search (needs, block-at (entry .pre .0) (fill-below (head .loop .inv) (turn .loop-test .taken)) (widened .widened .ensures .0))
+    let B = block-at (entry .pre .0) (fill-below (head .loop .inv) (turn .loop-test .taken)) (widened .widened .ensures .0) in
+    omega arith
 
 mul-fill-block : tie.Need-mul-fill-block Inv-loop μ-loop
 mul-fill-block c =
@@ -112,7 +111,8 @@ mul-fill-block c =
     let turn = widened .before .before in
     let head = turn .before in
     let entry = head .before .before .before .before .before .before .before in
-    search (needs, block-at (entry .pre .0) (fill-below (head .loop .inv) (turn .loop-test .taken)) (widened .widened .ensures .0))
+    let B = block-at (entry .pre .0) (fill-below (head .loop .inv) (turn .loop-test .taken)) (widened .widened .ensures .0) in
+    omega arith
 
 sub-fill-block : tie.Need-sub-fill-block Inv-loop μ-loop
 sub-fill-block c =
@@ -120,7 +120,8 @@ sub-fill-block c =
     let turn = widened .before .before in
     let head = turn .before in
     let entry = head .before .before .before .before .before .before .before in
-    search (needs, block-at (entry .pre .0) (fill-below (head .loop .inv) (turn .loop-test .taken)) (widened .widened .ensures .0))
+    let B = block-at (entry .pre .0) (fill-below (head .loop .inv) (turn .loop-test .taken)) (widened .widened .ensures .0) in
+    omega arith
 
 part-fill-block-start : tie.Need-part-fill-block-start Inv-loop μ-loop
 part-fill-block-start c =
@@ -128,7 +129,8 @@ part-fill-block-start c =
     let turn = widened .before .before in
     let head = turn .before in
     let entry = head .before .before .before .before .before .before .before in
-    search (needs, block-at (entry .pre .0) (fill-below (head .loop .inv) (turn .loop-test .taken)) (widened .widened .ensures .0))
+    let B = block-at (entry .pre .0) (fill-below (head .loop .inv) (turn .loop-test .taken)) (widened .widened .ensures .0) in
+    omega arith
 
 part-fill-block-end : tie.Need-part-fill-block-end Inv-loop μ-loop
 part-fill-block-end c = search needs
@@ -139,7 +141,8 @@ mul-fill-block-2 c =
     let turn = widened .before .before in
     let head = turn .before in
     let entry = head .before .before .before .before .before .before .before in
-    search (needs, block-at (entry .pre .0) (fill-below (head .loop .inv) (turn .loop-test .taken)) (widened .widened .ensures .0))
+    let B = block-at (entry .pre .0) (fill-below (head .loop .inv) (turn .loop-test .taken)) (widened .widened .ensures .0) in
+    omega arith
 
 sub-fill-block-2 : tie.Need-sub-fill-block-2 Inv-loop μ-loop
 sub-fill-block-2 c =
@@ -147,21 +150,24 @@ sub-fill-block-2 c =
     let turn = widened .before .before in
     let head = turn .before in
     let entry = head .before .before .before .before .before .before .before in
-    search (needs, block-at (entry .pre .0) (fill-below (head .loop .inv) (turn .loop-test .taken)) (widened .widened .ensures .0))
+    let B = block-at (entry .pre .0) (fill-below (head .loop .inv) (turn .loop-test .taken)) (widened .widened .ensures .0) in
+    omega arith
 
 part-fill-block-start-2 : tie.Need-part-fill-block-start-2 Inv-loop μ-loop
 part-fill-block-start-2 c =
     let turn = c .before .before .before .before .before .before .before .before in
     let head = turn .before in
     let entry = head .before .before .before .before .before .before .before in
-    search (needs, rows-at (head .loop .inv) (entry .pre .2) (entry .pre .3) (turn .loop-test .taken))
+    let B = rows-at (head .loop .inv) (entry .pre .2) (entry .pre .3) (turn .loop-test .taken) in
+    omega arith
 
 part-fill-block-end-2 : tie.Need-part-fill-block-end-2 Inv-loop μ-loop
 part-fill-block-end-2 c =
     let turn = c .before .before .before .before .before .before .before .before in
     let head = turn .before in
     let entry = head .before .before .before .before .before .before .before in
-    search (needs, rows-at (head .loop .inv) (entry .pre .2) (entry .pre .3) (turn .loop-test .taken))
+    let B = rows-at (head .loop .inv) (entry .pre .2) (entry .pre .3) (turn .loop-test .taken) in
+    omega arith
 
 mul-fill-block-3 : tie.Need-mul-fill-block-3 Inv-loop μ-loop
 mul-fill-block-3 c =
@@ -169,7 +175,8 @@ mul-fill-block-3 c =
     let turn = widened .before .before in
     let head = turn .before in
     let entry = head .before .before .before .before .before .before .before in
-    search (needs, block-at (entry .pre .0) (fill-below (head .loop .inv) (turn .loop-test .taken)) (widened .widened .ensures .0))
+    let B = block-at (entry .pre .0) (fill-below (head .loop .inv) (turn .loop-test .taken)) (widened .widened .ensures .0) in
+    omega arith
 
 sub-fill-block-3 : tie.Need-sub-fill-block-3 Inv-loop μ-loop
 sub-fill-block-3 c =
@@ -177,21 +184,24 @@ sub-fill-block-3 c =
     let turn = widened .before .before in
     let head = turn .before in
     let entry = head .before .before .before .before .before .before .before in
-    search (needs, block-at (entry .pre .0) (fill-below (head .loop .inv) (turn .loop-test .taken)) (widened .widened .ensures .0))
+    let B = block-at (entry .pre .0) (fill-below (head .loop .inv) (turn .loop-test .taken)) (widened .widened .ensures .0) in
+    omega arith
 
 part-fill-block-start-3 : tie.Need-part-fill-block-start-3 Inv-loop μ-loop
 part-fill-block-start-3 c =
     let turn = c .before .before .before .before .before .before .before .before .before in
     let head = turn .before in
     let entry = head .before .before .before .before .before .before .before in
-    search (needs, rows-at (head .loop .inv) (entry .pre .2) (entry .pre .3) (turn .loop-test .taken))
+    let B = rows-at (head .loop .inv) (entry .pre .2) (entry .pre .3) (turn .loop-test .taken) in
+    omega arith
 
 part-fill-block-end-3 : tie.Need-part-fill-block-end-3 Inv-loop μ-loop
 part-fill-block-end-3 c =
     let turn = c .before .before .before .before .before .before .before .before .before in
     let head = turn .before in
     let entry = head .before .before .before .before .before .before .before in
-    search (needs, rows-at (head .loop .inv) (entry .pre .2) (entry .pre .3) (turn .loop-test .taken))
+    let B = rows-at (head .loop .inv) (entry .pre .2) (entry .pre .3) (turn .loop-test .taken) in
+    omega arith
 
 fill-block-requires : tie.Need-fill-block-requires Inv-loop μ-loop
 fill-block-requires c κs =
