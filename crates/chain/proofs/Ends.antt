@@ -140,9 +140,6 @@ module _ {f : Frame} {starts : List ℕ} {views : List View} (K : FrameChecked f
             ∙ sym (each-at (λ j. tableFrom (j / costsABlock) (j % costsABlock)) (costsABlock * blockCount f) i 0 (omega arith))
 
     -- the start state's place
-    pub start-in : f .start < length new
-    start-in = omega (arith, K .framed .startBelow, K .framed .some, R .forCosts, F .long)
-
     start-at : getD new (f .start) 0 ≡ leastFrom (chainOf f) 0 (f .start)
     start-at =
         let a : costsABlock * 0 + f .start ≡ f .start = omega arith in
@@ -238,9 +235,6 @@ module _ {sections starts : List ℕ} {views : List View} {indices received eras
     (F : Filled (heldBlocks sections starts views indices received erased) ends costs new oldPicks picks) where
   E-end : EndRow end ends
   E-end = subst (λ x. EndRow x ends) q E
-
-  pub from-in : from < length new
-  from-in = omega (arith, start-in (C .checks) E-end R F)
 
   pub with-none : getD new from 0 ≡ unreached
       → (k : ℕ) → left noPath new labels goals ≡ fitted (frame sections k indices received erased start end) costs labels goals

@@ -234,14 +234,8 @@ module _ {l : List ℕ} (s : Sound l) where
     T : StepOf l (nOf l) i
     T = step-of l (nOf l) i h
 
-    pub from-small : edgeNumber l i .from < mostWords
-    from-small = omega (arith, from-below (T .at) i (T .below) (T .from) (T .to), s .verticesTo (T .at) (omega (arith, T .below)))
-
     pub symbol-small : edgeNumber l i .symbol < mostQ
     symbol-small = omega (arith, symbol-below (T .at) i (T .below) (T .from) (T .to), s .qTo)
-
-    pub to-small : edgeNumber l i .to < mostWords
-    to-small = omega (arith, to-below (T .at) i (T .below) (T .from) (T .to), s .verticesTo (suc (T .at)) (T .below))
 
 -- ---- a section and its view
 
