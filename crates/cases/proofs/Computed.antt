@@ -18,7 +18,7 @@ use Rattle.read_back.specs.ReadingBack.{isSection, readingBack}
 use Rattle.paths.specs.Choice.{choose, best, paidOr}
 use Rattle.paths.specs.Chain.{rootedAt, chainPaths, pathDistance, bestPath, costTable}
 use Rattle.block.specs.Received.{erasedAt, symbolCost, blockDistance, stray, fitsBlock}
-use Rattle.chain.specs.Sections.{sectionStart, sectionAt, unusable, sectionsBad, badSectionOf}
+use Rattle.sections.specs.Sections.{sectionStart, sectionAt, unusable, sectionsBad, badSectionOf}
 use Rattle.chain.specs.Frame.{frameBad, blockWords, wordDistance, blockBad}
 use Rattle.chain.specs.Decoding.{neededOf, bestOf, tableOf, found, fitted, framed, decoding}
 use Rattle.cases.specs.Marked.{left, shown, AllShown}

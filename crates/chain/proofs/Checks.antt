@@ -15,15 +15,15 @@ use Rattle.trellis.specs.Lists.{first, within}
 use Rattle.trellis.specs.Layout.{qOf, nOf}
 use Rattle.trellis.proofs.Bools.{holds, fails, is-true, is-false, both, neither}
 use Rattle.trellis.proofs.Lists.{first-is, first-ok}
+use Rattle.numbers.proofs.Bounds.{within-of, at-least}
+use Rattle.sections.specs.Sections.{sectionAt}
+use Rattle.sections.specs.inner.Found.{SectionsFound, noView, AllFound}
 use Rattle.block.specs.Received.{fitsBlock}
-use Rattle.chain.specs.Sections.{sectionAt}
 use Rattle.chain.specs.Frame.{Frame, frame, blockCount, frameBad, blockSection, blockBad}
 use Rattle.section_file.specs.inner.View.{viewOf}
 use Rattle.section_file.specs.declared.View.{View}
 use Rattle.section_file.proofs.Usable.{usable-sound}
-use Rattle.chain.specs.inner.Loops.{SectionsFound, noView}
-use Rattle.chain.specs.inner.Checked.{Views, AllFound, Framed, FrameChecked}
-use Rattle.chain.proofs.Bounds.{within-of, at-least}
+use Rattle.chain.specs.inner.Checked.{Views, Framed, FrameChecked}
 
 -- ---- the frame
 

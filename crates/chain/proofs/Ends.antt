@@ -23,15 +23,15 @@ use Rattle.section_file.specs.inner.Sound.{Sound}
 use Rattle.section_file.specs.inner.View.{Seen}
 use Rattle.section_file.specs.declared.View.{View}
 use Rattle.section_file.proofs.Usable.{usable-sound}
+use Rattle.sections.specs.Sections.{sectionStart, sectionAt}
+use Rattle.sections.proofs.Sections.{long-enough}
 use Rattle.block.specs.Received.{blockDistance}
 use Rattle.block.proofs.Costs.{block-at-most}
 use Rattle.passes.specs.inner.Chains.{Chain, leastFrom, pathFrom, CostsFrom, Written, Followed, FollowedTo}
-use Rattle.chain.specs.Sections.{sectionStart, sectionAt}
+use Rattle.cost_table.specs.inner.Filled.{EndRow, EndsAs, HeldBlocks, heldBlocks, blockPart, viewAt, Ready, ChainOf, Filled}
 use Rattle.chain.specs.Frame.{Frame, frame, blockCount, blockSection, blockWords, wordDistance}
 use Rattle.chain.specs.Decoding.{left, bestOf, tableOf, found, fitted}
-use Rattle.chain.specs.inner.Checked.{FrameChecked, Checked, Room, EndRow}
-use Rattle.chain.specs.inner.Filled.{EndsAs, HeldBlocks, heldBlocks, blockPart, viewAt, Ready, ChainOf, Filled}
-use Rattle.chain.proofs.Sections.{long-enough}
+use Rattle.chain.specs.inner.Checked.{FrameChecked, Checked, Room}
 use Rattle.chain.proofs.Faults.{past-room}
 
 -- the chain that a frame is

@@ -8,17 +8,16 @@ use lib.ListN.{length}
 use borrow.Author.Tests.{lt-ltb, le-ltb}
 use Rattle.trellis.specs.Lists.{first}
 use Rattle.trellis.specs.Outcome.{badSection, badBlock, shortBuffer}
-use Rattle.chain.specs.Sections.{sectionsBad}
+use Rattle.sections.specs.Sections.{sectionsBad, badSectionOf}
 use Rattle.chain.specs.Frame.{Frame, blockCount, frameBad, blockBad}
 use Rattle.chain.specs.Decoding.{Decoding, left, neededOf, bestOf, found, fitted, framed, decoding}
-use Rattle.chain.proofs.Sections.{SectionFault}
 use Rattle.chain.proofs.Checks.{FramePassed}
 
 module _ (f : Frame) (costs labels goals : List ℕ) where
-  pub ends-section : {i : ℕ} → SectionFault (f .sections) (f .k) i
+  pub ends-section : {i : ℕ} → sectionsBad (f .sections) (f .k) ≡ true → badSectionOf (f .sections) (f .k) ≡ i
       → left (badSection i) costs labels goals ≡ decoding f costs labels goals
   unfolding decoding
-  ends-section F = simp (F .bad, F .at)
+  ends-section b e = simp (b, e)
 
   pub ends-frame : {bad : Bool} → bad ≡ frameBad f → bad ≡ true
       → left (badBlock (blockCount f)) costs labels goals ≡ framed f costs labels goals

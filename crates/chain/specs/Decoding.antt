@@ -11,7 +11,7 @@ use Rattle.trellis.specs.Word.{Word}
 use Rattle.trellis.specs.Outcome.{Outcome, success, badSection, badBlock, shortBuffer, noPath}
 use Rattle.paths.specs.Choice.{Choice, none, some}
 use Rattle.paths.specs.Chain.{bestPath, costTable, endsIn}
-use Rattle.chain.specs.Sections.{sectionsBad, badSectionOf}
+use Rattle.sections.specs.Sections.{sectionsBad, badSectionOf}
 use Rattle.chain.specs.Frame.{Frame, blockCount, frameBad, blockWords, wordDistance, blockBad}
 use Rattle.chain.specs.declared.Decoded.{Decoded}
 use Rattle.chain.specs.declared.Decoded.the-variants.{Distance, Section, Block, Short, NoPath}

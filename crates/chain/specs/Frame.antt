@@ -10,7 +10,7 @@ use Rattle.trellis.specs.Word.{Word}
 use Rattle.trellis.specs.Layout.{qOf, nOf, sectionWords}
 use Rattle.trellis.specs.Lists.{within}
 use Rattle.block.specs.Received.{blockDistance, fitsBlock}
-use Rattle.chain.specs.Sections.{sectionAt}
+use Rattle.sections.specs.Sections.{sectionAt}
 
 pub record Frame : Type 0 where
   pub sections : List ℕ

@@ -1,5 +1,4 @@
--- Chain decoding: the sections, the frame, what decoding leaves, and what the answers say.
-pub mod Sections
+-- Chain decoding: the frame, what decoding leaves, and what the answers say.
 pub mod Frame
 pub mod Decoding
 pub mod inner

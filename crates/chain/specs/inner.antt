@@ -1,4 +1,2 @@
 -- What only the contracts of inner functions cite.
-pub mod Loops
 pub mod Checked
-pub mod Filled

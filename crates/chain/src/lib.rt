@@ -3,21 +3,16 @@
 // the three buffers.
 ghost use mathlib.Core.Path.{_≡_};
 ghost use mathlib.Core.List.{List};
-ghost use Prim.Native.Nat.{ℕ, _*_, _<_, _≤_};
+ghost use Prim.Native.Nat.{ℕ, _*_, _≤_};
 ghost use lib.ListN.{length};
-ghost use Rattle.trellis.specs.Bounds.{mostStates, mostBlocks, costsABlock};
-ghost use Rattle.trellis.specs.Lists.{first, within};
+ghost use Rattle.trellis.specs.Bounds.{mostBlocks, costsABlock};
+ghost use Rattle.trellis.specs.Lists.{first};
 ghost use Rattle.outcomes.specs.inner.Holds.{Holds};
+ghost use Rattle.sections.specs.inner.Found.{SectionsFound, AllFound};
 ghost use Rattle.chain.specs.Frame.{frame, frameBad, blockBad};
 ghost use Rattle.chain.specs.Decoding.{left, neededOf, fitted, framed, decoding, decodedOutcome};
-ghost use Rattle.chain.specs.inner.Loops.{SectionsFound};
-ghost use Rattle.chain.specs.inner.Checked.{Views, AllFound, Checked, Room, EndRow};
-
-mod filling;
-mod finding;
-
-use filling::fill_table;
-use finding::find_sections;
+ghost use Rattle.chain.specs.inner.Checked.{Views, Checked, Room};
+use numbers::is_within;
 use numbers::widened;
 use outcomes::Returned;
 use outcomes::no_value;
@@ -55,12 +50,6 @@ pub fn outcome(answer: Decoded) -> Returned
         Decoded::Short(needed) => one_value(10, needed),
         Decoded::NoPath => no_value(11),
     }
-}
-
-fn is_within(low: usize, high: usize, x: usize) -> bool
-    ensures { λ r. ⌜ r ≡ within low high x ⌝ }
-{
-    if x < low { false } else { x <= high }
 }
 
 fn frame_bad(indices: &[u8], received: &[u16], erased: &[u8], start: u8, end: u8) -> bool
@@ -124,16 +113,6 @@ fn needed(blocks: usize, costs: usize, labels: usize, goals: usize) -> usize
     if goals < blocks { blocks } else { 0 }
 }
 
-// Nothing is left to pay in the end state, and there is no path from any other.
-fn ends_in(end: usize) -> [u32; COSTS_A_BLOCK]
-    requires { ⌜ end < mostStates ⌝ }
-    ensures { λ r. ⌜ EndRow end r ⌝ }
-{
-    let mut ends = [NO_PATH; COSTS_A_BLOCK];
-    ends[end] = 0;
-    ends
-}
-
 // The two passes: the cost table, and where it has a path from the start state, the words of the first best one. K plays no part here, so
 // the promise is for any.
 fn decode_with(
@@ -157,8 +136,8 @@ fn decode_with(
         (now (costs .entry)) (now (labels .entry)) (now (goals .entry))) ⌝ }
 {
     let from = widened(start);
-    let ends = ends_in(widened(end));
-    fill_table(
+    let ends = cost_table::ends_in(widened(end));
+    cost_table::fill(
         sections,
         starts,
         views,
@@ -297,18 +276,12 @@ pub fn decode(
         ≡ decoding (frame (now (sections .entry)) k (now (indices .entry)) (now (received .entry)) (now (erased .entry)) start end)
         (now (costs .entry)) (now (labels .entry)) (now (goals .entry)) ⌝ }
 {
-    if !is_within(1, MOST_SECTIONS, k) {
-        return Decoded::Section(k);
-    }
-    let found = find_sections(sections, k);
-    if found.first < k {
-        return Decoded::Section(found.first);
+    let found = sections::find(sections, k);
+    if found.bad {
+        return Decoded::Section(found.index);
     }
     let starts = found.starts;
     let views = found.views;
-    if starts[k] != sections.len() {
-        return Decoded::Section(k);
-    }
     decode_frame(
         sections,
         &starts,

@@ -22,10 +22,10 @@ use Rattle.paths.proofs.Chain.{none-listed}
 use Rattle.paths.proofs.Winner.{of-paths, in-paths, word-of, best-right, best-wins, table-drops}
 use Rattle.section_file.proofs.Usable.{usable-sound}
 use Rattle.section_file.proofs.Words.{words-ascend}
-use Rattle.chain.specs.Sections.{sectionsBad}
+use Rattle.sections.specs.Sections.{sectionsBad}
+use Rattle.sections.proofs.Sections.{sections-usable}
 use Rattle.chain.specs.Frame.{Frame, blockCount, frameBad, blockSection, blockWords, wordDistance, blockBad}
 use Rattle.chain.specs.Decoding.{Decoding, neededOf, bestOf, tableOf, found, decoding}
-use Rattle.chain.proofs.Sections.{sections-usable}
 use Rattle.chain.proofs.Checks.{FramePassed, index-good}
 use Rattle.chain.proofs.Faults.{ends-section, ends-frame, ends-block, ends-short, past-sections, past-frame, past-room}
 use Rattle.demands.specs.Decoded.{leastDistance, Tabled, NoneFound, Won, Meaning}
@@ -94,7 +94,7 @@ module _ (f : Frame) (costs labels goals : List ℕ) where
       by-sections : (b : Bool) → sectionsBad (f .sections) (f .k) ≡ b → Passed
       by-sections true e =
           absurd (clear 8 (omega arith) (omega arith) (ap number
-          (ends-section f costs labels goals (record { bad = e; at = refl }))))
+          (ends-section f costs labels goals e refl)))
       by-sections false e = by-frame e (frameBad f) refl
 
   -- ---- the buffers

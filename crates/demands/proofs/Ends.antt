@@ -18,7 +18,7 @@ use Rattle.table.specs.File.{byteAt, wordCount, fileWords, lengthBad, firstSize
 use Rattle.merge.specs.Merging.{Merging, mapLength, written, merged, mergedTable, mergedFile, merging}
 use Rattle.paths.specs.Choice.{Choice, none, some}
 use Rattle.read_back.specs.ReadingBack.{ReadingBack, isSection, fileLength, readingBack}
-use Rattle.chain.specs.Sections.{sectionsBad}
+use Rattle.sections.specs.Sections.{sectionsBad}
 use Rattle.chain.specs.Frame.{Frame, blockCount, frameBad, blockBad}
 use Rattle.chain.specs.Decoding.{Decoding, left, neededOf, bestOf, found as decoded, fitted, framed, decoding}
 use Rattle.demands.specs.Demands.{MergingEnds, ReadingBackEnds, DecodingEnds}

@@ -1,8 +1,9 @@
-// A list of numbers, such as a section, read at any place. A number past the end reads as 0, so that reading asks for nothing.
+// Numbers: held to bounds, and read at any place of a list of them, such as a section. A number past the end reads as 0, so that reading asks
+// for nothing.
 ghost use mathlib.Core.Path.{_≡_};
 ghost use Prim.Native.Nat.{_+_, _*_, _≤_, _<_};
 ghost use lib.ListN.{getD};
-ghost use Rattle.trellis.specs.Lists.{sum};
+ghost use Rattle.trellis.specs.Lists.{sum, within};
 
 // A cast and its bound in one promise, so that callers need no proof of it.
 pub fn wide(x: u16) -> usize
@@ -15,6 +16,12 @@ pub fn widened(x: u8) -> usize
     ensures { λ r. ⌜ (r ≡ x) × (r < 256) ⌝ }
 {
     x as usize
+}
+
+pub fn is_within(low: usize, high: usize, x: usize) -> bool
+    ensures { λ r. ⌜ r ≡ within low high x ⌝ }
+{
+    if x < low { false } else { x <= high }
 }
 
 // The number at place i.

@@ -13,8 +13,8 @@ widened-requires-2 c κs = search needs
 ends-in-requires : tie.Need-ends-in-requires
 ends-in-requires c κs = search needs
 
-fill-table-requires : tie.Need-fill-table-requires
-fill-table-requires c κs =
+fill-requires : tie.Need-fill-requires
+fill-requires c κs =
     let ends-in = c .before .before in
     let entry = ends-in .before .before .before .before .before .before .before .before .before .before .before in
     (ready (entry .pre .0 .checks), ends-in .ends-in .ensures .long, entry .pre .1 .forCosts, entry .pre .2)
@@ -33,25 +33,25 @@ same-length-2 c = search needs
 
 returns : tie.Need-returns
 returns c =
-    let fill-table = c .before .before .before .before .before .before in
-    let ends-in = fill-table .before .before .before in
+    let fill = c .before .before .before .before .before .before in
+    let ends-in = fill .before .before .before in
     let widened2 = ends-in .before in
     let widened = widened2 .before in
     let entry = widened .before .before .before .before .before .before .before .before .before in
     with-none (entry .pre .0) (widened .widened .ensures .0) (widened2 .widened2 .ensures .0) (ends-in .ends-in .ensures) (entry .pre .1)
-    (fill-table .fill-table .ensures)
+    (fill .fill .ensures)
     (c .if1 .taken)
 
 follow-requires : tie.Need-follow-requires
 follow-requires c κs =
     let else1 = c .before .before .before in
-    let fill-table = else1 .before .before .before .before .before .before in
-    let ends-in = fill-table .before .before .before in
+    let fill = else1 .before .before .before .before .before .before in
+    let ends-in = fill .before .before .before in
     let widened2 = ends-in .before in
     let widened = widened2 .before in
     let entry = widened .before .before .before .before .before .before .before .before .before in
     with-picks (entry .pre .0) (widened .widened .ensures .0) (widened2 .widened2 .ensures .0) (ends-in .ends-in .ensures) (entry .pre .1)
-    (fill-table .fill-table .ensures)
+    (fill .fill .ensures)
     (else1 .if1 .left) (entry .pre .2)
 
 same-length-3 : tie.Need-same-length-3
@@ -70,13 +70,13 @@ returns-2 : tie.Need-returns-2
 returns-2 c =
     let follow = c .before .before .before .before in
     let else1 = follow .before .before .before .before in
-    let fill-table = else1 .before .before .before .before .before .before in
-    let ends-in = fill-table .before .before .before in
+    let fill = else1 .before .before .before .before .before .before in
+    let ends-in = fill .before .before .before in
     let widened2 = ends-in .before in
     let widened = widened2 .before in
     let entry = widened .before .before .before .before .before .before .before .before .before in
     with-path (entry .pre .0) (widened .widened .ensures .0) (widened2 .widened2 .ensures .0) (ends-in .ends-in .ensures) (entry .pre .1)
-    (fill-table .fill-table .ensures) (else1 .if1 .left) (follow .follow .ensures)
+    (fill .fill .ensures) (else1 .if1 .left) (follow .follow .ensures)
 
 pub decode-with-spec : {M : Type 1} → statement M
 decode-with-spec =
@@ -85,7 +85,7 @@ decode-with-spec =
     widened-requires
     widened-requires-2
     ends-in-requires
-    fill-table-requires
+    fill-requires
     mul-distance
     slice-read-distance
     same-length

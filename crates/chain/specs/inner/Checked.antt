@@ -5,17 +5,9 @@ use Prim.Native.Nat.{ℕ, _*_, _≤_, _<_}
 use lib.ListN.{length, getD}
 use Rattle.trellis.specs.Bounds.{mostStates, mostSymbols, mostSections, mostBlocks, costsABlock}
 use Rattle.section_file.specs.declared.View.{View}
-use Rattle.paths.specs.Chain.{unreached, endsIn}
-use Rattle.paths.specs.inner.Chains.{atEnd}
+use Rattle.sections.specs.inner.Found.{noView, AllFound}
 use Rattle.chain.specs.Decoding.{neededOf}
 use Rattle.chain.specs.Frame.{Frame, frame, blockCount}
-use Rattle.chain.specs.inner.Loops.{SectionsFound, noView}
-
--- 1 ≤ K ≤ 16, and all K sections are usable
-pub record AllFound (sections starts : List ℕ) (views : List View) (k : ℕ) : Type 0 where
-  pub some : 0 < k
-  pub few : k ≤ mostSections
-  pub found : SectionsFound sections starts views k
 
 -- views of k sections at most, each of few symbols
 pub record Views (views : List View) (k : ℕ) : Type 0 where
@@ -49,8 +41,3 @@ pub record Room (indices costs labels goals : List ℕ) : Type 0 where
   pub forCosts : costsABlock * length indices ≤ length costs
   pub forLabels : length indices ≤ length labels
   pub forGoals : length indices ≤ length goals
-
--- nothing is left to pay in the end state, and there is no path from any other
-pub record EndRow (end : ℕ) (left : List ℕ) : Type 0 where
-  pub long : length left ≡ mostStates
-  pub at : (s : ℕ) → s < mostStates → getD left s 0 ≡ atEnd unreached (endsIn end) s

@@ -1,12 +1,14 @@
-// The pass over the blocks of a frame, from the last to the first: the cost table, and the picks.
+// The pass over the blocks of a frame, from the last to the first: it fills the cost table, and keeps the picks. The blocks' sections are
+// found and the frame is checked; where a path may end is the caller's.
 ghost use mathlib.Core.Path.{_≡_};
-ghost use Prim.Native.Nat.{_*_, _≤_};
+ghost use Prim.Native.Nat.{_*_, _<_, _≤_};
 ghost use lib.ListN.{length};
 ghost use Rattle.trellis.specs.Bounds.{mostStates, costsABlock};
 ghost use Rattle.section_file.specs.inner.View.{Seen};
-ghost use Rattle.chain.specs.inner.Filled.{RowCopied, BlockRows, Working, BlockFilled, heldBlocks, Ready, Filled};
+ghost use Rattle.cost_table.specs.inner.Filled.{EndRow, RowCopied, BlockRows, Working, BlockFilled, heldBlocks, Ready, Filled};
 use block::put_prices;
 use numbers::widened;
+use passes::NO_PATH;
 use passes::pass_block;
 use section_file::View;
 use trellis::COSTS_A_BLOCK;
@@ -14,6 +16,16 @@ use trellis::MOST_Q;
 use trellis::MOST_SECTIONS;
 use trellis::MOST_SYMBOLS;
 use trellis::MOST_WORDS;
+
+// Nothing is left to pay in the end state, and there is no path from any other.
+pub fn ends_in(end: usize) -> [u32; COSTS_A_BLOCK]
+    requires { ⌜ end < mostStates ⌝ }
+    ensures { λ r. ⌜ EndRow end r ⌝ }
+{
+    let mut ends = [NO_PATH; COSTS_A_BLOCK];
+    ends[end] = 0;
+    ends
+}
 
 fn copy_row(row: &[u32; COSTS_A_BLOCK], place: &mut [u32])
     requires { ⌜ (length (now row) ≡ mostStates) × (length (now place) ≡ mostStates) ⌝ }
@@ -50,7 +62,7 @@ fn fill_block(
 }
 
 // `ends` has what is left to pay behind the last block: nothing in a state where a path may end.
-pub fn fill_table(
+pub fn fill(
     sections: &[u16],
     starts: &[usize; MOST_SECTIONS + 1],
     views: [View; MOST_SECTIONS],

@@ -15,8 +15,7 @@ use Rattle.trellis.specs.Bounds.{mostStates, costsABlock}
 use Rattle.paths.specs.Chain.{unreached, endsIn}
 use Rattle.paths.specs.inner.Chains.{atEnd}
 use Rattle.passes.specs.inner.Chains.{RowWritten}
-use Rattle.chain.specs.inner.Checked.{EndRow}
-use Rattle.chain.specs.inner.Filled.{RowCopied}
+use Rattle.cost_table.specs.inner.Filled.{RowCopied, EndRow}
 
 -- ---- copied
 

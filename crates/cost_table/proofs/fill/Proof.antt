@@ -1,13 +1,13 @@
--- `chain::filling::fill_table` passes the blocks from the last to the first. The loop's invariant: what is left to pay, the cost table and
+-- `cost_table::fill` passes the blocks from the last to the first. The loop's invariant: what is left to pay, the cost table and
 -- the picks are those of the chain from block b on. The measure is b.
 use borrow.Author.Needs.{needs}
 use native.Mathlib.Omega.{arith}
 use lib.ListN.{length-take, length-drop}
-use Rattle.chain.specs.inner.Filled.{heldBlocks}
-use Rattle.chain.proofs.Tables.{InFill, fill-start, fill-below, block-at, rows-at, filled-part, fill-more, fill-end}
-use Rattle.chain.proofs.Rows.{row-back}
-use Rattle.chain.proofs.filling.fill_table.Statement.{statement}
-use Rattle.chain.proofs.filling.fill_table.Tie as tie
+use Rattle.cost_table.specs.inner.Filled.{heldBlocks}
+use Rattle.cost_table.proofs.Tables.{InFill, fill-start, fill-below, block-at, rows-at, filled-part, fill-more, fill-end}
+use Rattle.cost_table.proofs.Rows.{row-back}
+use Rattle.cost_table.proofs.fill.Statement.{statement}
+use Rattle.cost_table.proofs.fill.Tie as tie
 
 abbrev Inv-loop : tie.InvT-loop
 Inv-loop sections starts indices received erased costs₀ picks₀ views left₀ prices₀ even₀ odd₀ b₀ costs picks left prices even odd b =
@@ -246,8 +246,8 @@ same-length-2 c = c .before .loop .inv .picksLong
 returns : tie.Need-returns Inv-loop μ-loop
 returns c = fill-end (c .before .loop .inv) (search needs)
 
-pub fill-table-spec : {M : Type 1} → statement M
-fill-table-spec =
+pub fill-spec : {M : Type 1} → statement M
+fill-spec =
     tie.close
     (tie.spec
     Inv-loop

@@ -1,10 +1,10 @@
--- `chain::filling::fill_block` makes the prices, passes the block and copies what is left to pay.
+-- `cost_table::fill_block` makes the prices, passes the block and copies what is left to pay.
 use borrow.Author.Needs.{needs}
 use native.Mathlib.Omega.{arith}
 use Rattle.section_file.proofs.Seen.{header}
-use Rattle.chain.proofs.Tables.{block-filled}
-use Rattle.chain.proofs.filling.fill_block.Statement.{statement}
-use Rattle.chain.proofs.filling.fill_block.Tie as tie
+use Rattle.cost_table.proofs.Tables.{block-filled}
+use Rattle.cost_table.proofs.fill_block.Statement.{statement}
+use Rattle.cost_table.proofs.fill_block.Tie as tie
 
 put-prices-requires : tie.Need-put-prices-requires
 put-prices-requires c κs =

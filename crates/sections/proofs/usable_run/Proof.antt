@@ -1,10 +1,10 @@
--- `chain::finding::find_sections` goes from section to section. The loop's invariant: the sections before i are usable, and their views and
+-- `sections::usable_run` goes from section to section. The loop's invariant: the sections before i are usable, and their views and
 -- places are known. The measure is how many are left.
 use borrow.Author.Needs.{needs}
 use Prim.Native.Nat.{_-_}
-use Rattle.chain.proofs.Sections.{InSections, sections-start, sections-found, sections-fit, sections-more, sections-end}
-use Rattle.chain.proofs.finding.find_sections.Statement.{statement}
-use Rattle.chain.proofs.finding.find_sections.Tie as tie
+use Rattle.sections.proofs.Sections.{InSections, sections-start, sections-found, sections-fit, sections-more, sections-end}
+use Rattle.sections.proofs.usable_run.Statement.{statement}
+use Rattle.sections.proofs.usable_run.Tie as tie
 
 abbrev Inv-loop : tie.InvT-loop
 Inv-loop sections k views₀ starts₀ at₀ i₀ views starts at i = InSections sections starts views k i at
@@ -59,8 +59,8 @@ loop-again c =
 returns-2 : tie.Need-returns-2 Inv-loop μ-loop
 returns-2 c = sections-end (c .before .loop .inv) (search needs)
 
-pub find-sections-spec : {M : Type 1} → statement M
-find-sections-spec =
+pub usable-run-spec : {M : Type 1} → statement M
+usable-run-spec =
     tie.close
     (tie.spec
     Inv-loop

@@ -7,16 +7,16 @@ use lib.ListN.{length, getD, drop}
 use Rattle.trellis.specs.Bounds.{mostStates, mostWords, mostSections, mostBlocks, costsABlock}
 use Rattle.trellis.specs.Word.{Word}
 use Rattle.trellis.specs.Layout.{nOf, sectionWords}
-use Rattle.paths.specs.Chain.{unreached}
+use Rattle.paths.specs.Chain.{unreached, endsIn}
 use Rattle.paths.specs.inner.Chains.{atEnd}
 use Rattle.section_file.specs.inner.View.{Seen}
 use Rattle.section_file.specs.declared.View.{View}
 use Rattle.paths.specs.inner.Ranked.{PriceRoom}
+use Rattle.sections.specs.inner.Found.{noView}
 use Rattle.block.specs.Received.{blockDistance}
 use Rattle.block.specs.inner.Prices.{Prices}
 use Rattle.passes.specs.inner.Blocks.{BlockPassed}
 use Rattle.passes.specs.inner.Chains.{Chain, CostsFrom, Picked}
-use Rattle.chain.specs.inner.Loops.{noView}
 
 pub record HeldBlocks : Type 0 where
   pub sections : List ℕ
@@ -57,6 +57,11 @@ pub record BlockFilled (l : List ℕ) (received mask : ℕ) (left new costs pick
 -- nothing is left to pay in a state where a path may end, and there is no path from any other
 pub record EndsAs (C : Chain) (left : List ℕ) : Type 0 where
   pub at : (s : ℕ) → s < mostStates → getD left s 0 ≡ atEnd unreached (C .ends) s
+
+-- the same where a path ends in one state
+pub record EndRow (end : ℕ) (left : List ℕ) : Type 0 where
+  pub long : length left ≡ mostStates
+  pub at : (s : ℕ) → s < mostStates → getD left s 0 ≡ atEnd unreached (endsIn end) s
 
 module _ (H : HeldBlocks) where
   -- the section of block b, with what follows it, and its view

@@ -1,6 +1,6 @@
--- What finding the sections leaves, over raw lists and numbers.
+-- What looking for the sections leaves, over raw lists and numbers.
 use mathlib.Core.Path.{_≡_}
-use mathlib.Core.Bool.{true}
+use mathlib.Core.Bool.{Bool, true, false}
 use mathlib.Core.List.{List}
 use Prim.Native.Nat.{ℕ, suc, _≤_, _<_}
 use lib.ListN.{length, getD}
@@ -10,7 +10,7 @@ use Rattle.section_file.specs.inner.View.{viewOf}
 use Rattle.section_file.specs.declared.View.{View}
 use Rattle.section_file.specs.declared.Part.{Part}
 use Rattle.section_file.specs.declared.Part.the-variants.{Usable, Unusable}
-use Rattle.chain.specs.Sections.{sectionStart, sectionAt}
+use Rattle.sections.specs.Sections.{sectionStart, sectionAt, sectionsBad, badSectionOf}
 
 -- the view of no section: its length is 0
 abbrev pub noView : View
@@ -34,3 +34,15 @@ pub record FirstUnusable (sections starts : List ℕ) (views : List View) (k r :
   pub r-le : r ≤ k
   pub found : SectionsFound sections starts views r
   pub unusable-at : r < k → usable (sectionAt sections r) ≡ true → ⊥
+
+-- 1 ≤ K ≤ 16, and all K sections are usable
+pub record AllFound (sections starts : List ℕ) (views : List View) (k : ℕ) : Type 0 where
+  pub some : 0 < k
+  pub few : k ≤ mostSections
+  pub found : SectionsFound sections starts views k
+
+-- whether there is a fault 8, and what it returns, or that all is found
+pub record Looked (sections : List ℕ) (k : ℕ) (bad : Bool) (index : ℕ) (starts : List ℕ) (views : List View) : Type 0 where
+  pub badIs : sectionsBad sections k ≡ bad
+  pub indexIs : badSectionOf sections k ≡ index
+  pub found : bad ≡ false → AllFound sections starts views k

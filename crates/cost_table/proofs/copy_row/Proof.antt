@@ -1,12 +1,12 @@
--- `chain::filling::copy_row` copies number by number. The loop's invariant: those passed are copied. The measure is how many are left.
+-- `cost_table::copy_row` copies number by number. The loop's invariant: those passed are copied. The measure is how many are left.
 use borrow.Author.Needs.{needs}
 use mathlib.Core.Path.{sym, _∙_}
 use Prim.Native.Nat.{_-_, _≤_}
 use Rattle.trellis.specs.Bounds.{mostStates}
-use Rattle.chain.specs.inner.Filled.{RowCopied}
-use Rattle.chain.proofs.Rows.{copy-start, copy-more, copy-end}
-use Rattle.chain.proofs.filling.copy_row.Statement.{statement}
-use Rattle.chain.proofs.filling.copy_row.Tie as tie
+use Rattle.cost_table.specs.inner.Filled.{RowCopied}
+use Rattle.cost_table.proofs.Rows.{copy-start, copy-more, copy-end}
+use Rattle.cost_table.proofs.copy_row.Statement.{statement}
+use Rattle.cost_table.proofs.copy_row.Tie as tie
 
 abbrev Inv-loop : tie.InvT-loop
 Inv-loop row place₀ s₀ place s = RowCopied row place s × (s ≤ mostStates)

@@ -1,7 +1,7 @@
--- `chain::is_within` is the two tests of the definition.
-use Rattle.chain.proofs.Bounds.{within-under, within-from}
-use Rattle.chain.proofs.is_within.Statement.{statement}
-use Rattle.chain.proofs.is_within.Tie as tie
+-- `numbers::is_within` is the two tests of the definition.
+use Rattle.numbers.proofs.Bounds.{within-under, within-from}
+use Rattle.numbers.proofs.is_within.Statement.{statement}
+use Rattle.numbers.proofs.is_within.Tie as tie
 
 returns : tie.Need-returns
 returns c = within-under _ _ _ (c .if1 .taken)

@@ -1,8 +1,8 @@
--- `chain::finding::view_at` takes the view out of the answer.
+-- `sections::view_at` takes the view out of the answer.
 use borrow.Author.Needs.{needs}
-use Rattle.chain.proofs.Sections.{view-read}
-use Rattle.chain.proofs.finding.view_at.Statement.{statement}
-use Rattle.chain.proofs.finding.view_at.Tie as tie
+use Rattle.sections.proofs.Sections.{view-read}
+use Rattle.sections.proofs.view_at.Statement.{statement}
+use Rattle.sections.proofs.view_at.Tie as tie
 
 usable-at-requires : tie.Need-usable-at-requires
 usable-at-requires c κs = search needs

@@ -1,5 +1,5 @@
--- Sections one behind another: a usable section's length is not 0 and it is there whole, so
--- the next one begins within the list or at its end.
+-- Sections one behind another: a usable section's length is not 0 and it is there whole, so the next one begins within the list or at its
+-- end. Fault 8 is decided by the tests of the definition in their order.
 use mathlib.Core.Path.{_≡_, refl, sym, ap, subst, _∙_}
 use mathlib.Core.Bool.{Bool, true, false, cond, not, _||_}
 use mathlib.Core.List.{List}
@@ -11,12 +11,13 @@ use native.Mathlib.Omega.{arith}
 use lib.Dec.{eqb, ltb}
 use lib.ListN.{length, getD, drop, set, length-set, length-drop, replicate, length-replicate, getD-replicate}
 use lib.Seq.{getD-set-same, getD-set-other}
-use borrow.Author.Tests.{lt-ltb, le-ltb, eq-eqb, ne-eqb, not-true, not-false, ltb-false}
+use borrow.Author.Tests.{lt-ltb, le-ltb, not-true, not-false, ltb-false}
 use Rattle.trellis.specs.Bounds.{mostSections}
 use Rattle.trellis.specs.Lists.{first, within}
 use Rattle.trellis.specs.Layout.{rootsPlace, goalsPlace, pairsPlace, symbolsPlace, sectionLength}
-use Rattle.trellis.proofs.Bools.{holds, fails, is-true, is-false, neither}
+use Rattle.trellis.proofs.Bools.{holds, fails, clash, is-true, is-false, neither}
 use Rattle.trellis.proofs.Lists.{first-is, first-ok}
+use Rattle.numbers.proofs.Bounds.{within-of}
 use Rattle.section_file.specs.Usable.{usable}
 use Rattle.section_file.specs.declared.Part.{Part}
 use Rattle.section_file.specs.declared.Part.the-variants.{Usable, Unusable}
@@ -24,10 +25,8 @@ use Rattle.section_file.specs.inner.View.{viewOf}
 use Rattle.section_file.specs.declared.View.{View}
 use Rattle.section_file.specs.inner.Answer.{partOf}
 use Rattle.section_file.proofs.Usable.{usable-sound}
-use Rattle.chain.specs.Sections.{sectionStart, sectionAt, unusable, sectionsBad, badSectionOf}
-use Rattle.chain.specs.inner.Loops.{SectionsFound, FirstUnusable, noView, viewIn}
-use Rattle.chain.specs.inner.Checked.{AllFound}
-use Rattle.chain.proofs.Bounds.{within-of}
+use Rattle.sections.specs.Sections.{sectionStart, sectionAt, unusable, sectionsBad, badSectionOf}
+use Rattle.sections.specs.inner.Found.{SectionsFound, FirstUnusable, noView, viewIn, Looked}
 
 -- ---- the view that was read
 
@@ -166,56 +165,43 @@ first-unusable {sections} {k = k} {r} F = first-is (unusable sections) k r (reco
   miss = λ j h t. fails (ap not (F .found .usable-before j h)) t;
 })
 
--- fault 8 is answered with i
-pub record SectionFault (sections : List ℕ) (k i : ℕ) : Type 0 where
-  pub bad : sectionsBad sections k ≡ true
-  pub at : badSectionOf sections k ≡ i
-
--- there is no fault 8
-pub record SectionsGood (sections starts : List ℕ) (views : List View) (k : ℕ) : Type 0 where
-  pub good : sectionsBad sections k ≡ false
-  pub found : AllFound sections starts views k
-
-pub many-sections : {sections : List ℕ} {k : ℕ} {w : Bool} → w ≡ within 1 mostSections k → not w ≡ true → SectionFault sections k k
+pub looked-many : {sections starts : List ℕ} {views : List View} {k : ℕ} {w : Bool} → w ≡ within 1 mostSections k → not w ≡ true
+    → Looked sections k true k starts views
 unfolding sectionsBad badSectionOf
-many-sections {w = w} e h = record { bad = simp (sym e, not-true w h); at = simp (sym e, not-true w h) }
+looked-many {w = w} e h = record {
+  badIs = simp (sym e, not-true w h);
+  indexIs = simp (sym e, not-true w h);
+  found = λ f. absurd (clash f);
+}
 
 module _ {sections starts : List ℕ} {views : List View} {k r : ℕ} {w : Bool} (e : w ≡ within 1 mostSections k) (h : not w ≡ false)
     (F : FirstUnusable sections starts views k r) where
-  pub unusable-section : r < k → SectionFault sections k r
-  unfolding sectionsBad badSectionOf
-  unusable-section l = record {
-    bad = simp (sym e, not-false w h, first-unusable F, lt-ltb r k l);
-    at = simp (sym e, not-false w h, first-unusable F);
+  index-is : badSectionOf sections k ≡ r
+  unfolding badSectionOf
+  index-is = simp (sym e, not-false w h, first-unusable F)
+
+  pub looked-short : r < k → Looked sections k true r starts views
+  unfolding sectionsBad
+  looked-short l = record {
+    badIs = simp (sym e, not-false w h, first-unusable F, lt-ltb r k l);
+    indexIs = index-is;
+    found = λ f. absurd (clash f);
   }
 
-  module _ (l : k ≤ r) where
-    r-is : r ≡ k
-    r-is = omega (arith, F .r-le)
+  -- numbers are left over, or not
+  pub looked-all : k ≤ r → Looked sections k (not (eqb (getD starts k 0) (length sections))) r starts views
+  unfolding sectionsBad
+  looked-all l = record {
+    badIs = simp (sym e, not-false w h, first-unusable F, le-ltb r k l) (ap (λ x. not (eqb x (length sections))) (sym (F .found .at k l)));
+    indexIs = index-is;
+    found = λ f. record { some = b .0; few = b .1; found = subst (SectionsFound sections starts views) r-is (F .found) };
+  }
+    where
+      r-is : r ≡ k
+      r-is = omega (arith, F .r-le)
 
-    first-is-k : first (unusable sections) k ≡ k
-    first-is-k = first-unusable F ∙ r-is
-
-    pub left-over : (getD starts k 0 ≡ length sections → ⊥) → SectionFault sections k k
-    unfolding sectionsBad badSectionOf
-    left-over n =
-        let z : eqb (sectionStart sections k) (length sections) ≡ false
-        = ne-eqb (sectionStart sections k) (length sections) (λ x. n (F .found .at k l ∙ x)) in
-        record {
-          bad = simp (sym e, not-false w h, first-is-k, le-ltb k k (omega arith), z);
-          at = simp (sym e, not-false w h, first-is-k);
-        }
-
-    pub sections-good : getD starts k 0 ≡ length sections → SectionsGood sections starts views k
-    unfolding sectionsBad
-    sections-good n =
-        let z : eqb (sectionStart sections k) (length sections) ≡ true
-        = eq-eqb (sectionStart sections k) (length sections) (sym (F .found .at k l) ∙ n) in
-        let b = within-of 1 mostSections k (sym e ∙ not-false w h) in
-        record {
-          good = simp (sym e, not-false w h, first-is-k, le-ltb k k (omega arith), z);
-          found = record { some = b .0; few = b .1; found = subst (SectionsFound sections starts views) r-is (F .found) };
-        }
+      b : (1 ≤ k) × (k ≤ mostSections)
+      b = within-of 1 mostSections k (sym e ∙ not-false w h)
 
 -- where there is none, all sections are usable
 pub sections-usable : (sections : List ℕ) (k : ℕ) → sectionsBad sections k ≡ false → (i : ℕ) → i < k → usable (sectionAt sections i) ≡ true

@@ -18,8 +18,8 @@ use Rattle.block.specs.inner.Prices.{Prices}
 use Rattle.passes.specs.inner.Blocks.{BlockPassed}
 use Rattle.passes.specs.inner.Chains.{Chain, LeftAt, CostsFrom, Picked, RowWritten}
 use Rattle.passes.proofs.Chains.{Uses, left-last, left-more, pick-more, costs-more, picks-more}
-use Rattle.chain.specs.inner.Loops.{noView}
-use Rattle.chain.specs.inner.Filled.{RowCopied, Working, BlockFilled, EndsAs, HeldBlocks, blockPart, Ready, ChainOf, Filled}
+use Rattle.sections.specs.inner.Found.{noView}
+use Rattle.cost_table.specs.inner.Filled.{RowCopied, Working, BlockFilled, EndsAs, HeldBlocks, blockPart, Ready, ChainOf, Filled}
 
 pub record InFill (H : HeldBlocks) (ends old new oldPicks picks left prices even odd : List ℕ) (b : ℕ) : Type 0 where
   pub b-le : b ≤ length (H .indices)

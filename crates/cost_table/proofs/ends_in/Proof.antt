@@ -1,8 +1,8 @@
--- `chain::ends_in` has 0 in the end state, and elsewhere the number for no path.
+-- `cost_table::ends_in` has 0 in the end state, and elsewhere the number for no path.
 use borrow.Author.Needs.{needs}
-use Rattle.chain.proofs.Rows.{ends-put}
-use Rattle.chain.proofs.ends_in.Statement.{statement}
-use Rattle.chain.proofs.ends_in.Tie as tie
+use Rattle.cost_table.proofs.Rows.{ends-put}
+use Rattle.cost_table.proofs.ends_in.Statement.{statement}
+use Rattle.cost_table.proofs.ends_in.Tie as tie
 
 mul-ends : tie.Need-mul-ends
 mul-ends c = search needs

@@ -1,4 +1,5 @@
-// The sections of a frame: where each begins in the list that they share, and its view.
+// Sections one behind another in one list of numbers. `find` answers for all arguments whether there is a fault 8, and where there is none
+// has the place where each section begins, and its view.
 ghost use mathlib.Core.Path.{_≡_};
 ghost use mathlib.Core.Bool.{cond};
 ghost use Prim.Native.Nat.{_≤_};
@@ -6,14 +7,17 @@ ghost use lib.ListN.{drop};
 ghost use Rattle.trellis.specs.Bounds.{mostSections};
 ghost use Rattle.section_file.specs.Usable.{usable};
 ghost use Rattle.section_file.specs.inner.View.{viewOf};
-ghost use Rattle.chain.specs.inner.Loops.{FirstUnusable, noView, viewIn};
+ghost use Rattle.sections.specs.inner.Found.{FirstUnusable, Looked, noView, viewIn};
+use numbers::is_within;
 use section_file::Part;
 use section_file::View;
 use trellis::MOST_SECTIONS;
 
-// The first unusable section, or how many there are; the places where the sections before it and the next one begin, and their views.
+// Whether there is a fault 8, with the number that document 01 returns; if there is none, the places where the K sections and what is
+// behind them begin, and their views.
 pub struct Found {
-    pub first: usize,
+    pub bad: bool,
+    pub index: usize,
     pub starts: [usize; MOST_SECTIONS + 1],
     pub views: [View; MOST_SECTIONS],
 }
@@ -49,7 +53,14 @@ fn view_at(sections: &[u16], at: usize) -> View
     view_in(section_file::usable_at(sections, at))
 }
 
-pub fn find_sections(sections: &[u16], k: usize) -> Found
+// The first unusable section, or how many there are; the places where the sections before it and the next one begin, and their views.
+struct Run {
+    first: usize,
+    starts: [usize; MOST_SECTIONS + 1],
+    views: [View; MOST_SECTIONS],
+}
+
+fn usable_run(sections: &[u16], k: usize) -> Run
     requires { ⌜ k ≤ mostSections ⌝ }
     ensures { λ r. ⌜ FirstUnusable (now (sections .entry)) (r .starts) (r .views) k (r .first) ⌝ }
 {
@@ -61,7 +72,7 @@ pub fn find_sections(sections: &[u16], k: usize) -> Found
     while i < k {
         let view = view_at(sections, at);
         if view.end == 0 {
-            return Found {
+            return Run {
                 first: i,
                 starts,
                 views,
@@ -72,8 +83,40 @@ pub fn find_sections(sections: &[u16], k: usize) -> Found
         i += 1;
         starts[i] = at;
     }
-    Found {
+    Run {
         first: i,
+        starts,
+        views,
+    }
+}
+
+// Looks for K usable sections with nothing behind the last.
+pub fn find(sections: &[u16], k: usize) -> Found
+    ensures { λ r. ⌜ Looked (now (sections .entry)) k (r .bad) (r .index) (r .starts) (r .views) ⌝ }
+{
+    if !is_within(1, MOST_SECTIONS, k) {
+        let none = no_view();
+        let views = [none; MOST_SECTIONS];
+        let starts = [0usize; MOST_SECTIONS + 1];
+        return Found {
+            bad: true,
+            index: k,
+            starts,
+            views,
+        };
+    }
+    let run = usable_run(sections, k);
+    let index = run.first;
+    let starts = run.starts;
+    let views = run.views;
+    let bad = if index < k {
+        true
+    } else {
+        starts[k] != sections.len()
+    };
+    Found {
+        bad,
+        index,
         starts,
         views,
     }

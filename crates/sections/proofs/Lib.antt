@@ -1,0 +1,2 @@
+-- Why the sections that are found are those of the list.
+pub mod Sections
