@@ -9,7 +9,8 @@ use Rattle.trellis.specs.Layout.{vertexCountOf, edgeCountOf, edgesBefore, roots
 use Rattle.trellis.specs.Layout.{goalState, edgeNumber, stepEdges, sectionWords, joinedUp, sectionOf, sectionLength}
 use Rattle.trellis.specs.Selections.{allVertices, additions, selections}
 use Rattle.trellis.specs.Witness.{refutes, firstOf, overK, overJ, witnessAt, witness}
-use Rattle.table.specs.File.{wordCount, fileWord, fileWords, lengthBad, outside, sizeOutside, wordOutside, wordBad, orderBad, tableFile}
+use Rattle.reader.specs.Fields.{wordCount, fileWord, fileWords, lengthBad}
+use Rattle.table.specs.File.{outside, sizeOutside, wordOutside, wordBad, orderBad, tableFile}
 use Rattle.merge.specs.Merging.{mapOf, written, merged, mergedTable, mergedFile, merging}
 use Rattle.section_file.specs.Usable.{stepEdge, whole, sizesRight, edgesInside, countsRight, rising, statesRight, edgesAscend}
 use Rattle.section_file.specs.Usable.{onward, inward, noTwinsReached, noTwinsLeading, usable}

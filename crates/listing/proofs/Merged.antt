@@ -20,7 +20,8 @@ use Rattle.trellis.specs.Layout.{rootsPlace, goalsPlace, pairsPlace, symbolsPla
 use Rattle.trellis.proofs.Lists.{sum-eq}
 use Rattle.trellis.proofs.Buffers.{over-front}
 use Rattle.trellis.proofs.OwnLaid.{own-n, own-length}
-use Rattle.table.specs.File.{TableFile, refused, accepted, tableFile, wordCount}
+use Rattle.reader.specs.Fields.{wordCount}
+use Rattle.table.specs.File.{TableFile, refused, accepted, tableFile}
 use Rattle.table.proofs.Accepted.{accepted-good}
 use Rattle.merge.specs.Merging.{mapLength, written, merged, mergedTable, mergedFile, merging}
 use Rattle.merge.specs.inner.Sizes.{sectionSizes, sizedBy, sizedTable, sizedFile, sizing}

@@ -13,7 +13,8 @@ use borrow.Author.Tests.{lt-ltb, le-ltb}
 use Rattle.trellis.specs.Lists.{over}
 use Rattle.trellis.specs.Outcome.{badLength, success, shortBuffer}
 use Rattle.trellis.specs.Bounds.{mostBytes}
-use Rattle.table.specs.File.{wordCount, tableFile}
+use Rattle.reader.specs.Fields.{wordCount}
+use Rattle.table.specs.File.{tableFile}
 use Rattle.merge.specs.Answer.{outcomeOf}
 use Rattle.merge.specs.Merging.{merging}
 use Rattle.merge.specs.inner.Sizes.{sizing, Measured}

@@ -16,7 +16,8 @@ use Rattle.trellis.specs.Witness.{witness, found}
 use Rattle.trellis.proofs.Bools.{neither}
 use Rattle.trellis.proofs.Lists.{first-ok}
 use Rattle.trellis.proofs.Witness.{witness-first}
-use Rattle.table.specs.File.{wordCount, lengthBad, sizeOutside, wordBad, orderBad, firstSize, firstBad, firstNotAbove}
+use Rattle.reader.specs.Fields.{wordCount, lengthBad}
+use Rattle.table.specs.File.{sizeOutside, wordBad, orderBad, firstSize, firstBad, firstNotAbove}
 use Rattle.table.specs.File.{refused, accepted, tableFile, fileOutcome}
 
 -- a number of at most five digits

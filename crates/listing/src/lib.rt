@@ -141,7 +141,7 @@ fn put_text(file: &[u8], text: &mut [u8]) -> usize
     let mut map = [0u16; ANY_MAP];
     let mut sizes = [0u16; ANY_SIZES];
     let answer = merge::measure(file, &mut map, &mut sizes);
-    put_answer(answer, wide(table::word_count(file)), &sizes, text)
+    put_answer(answer, wide(reader::word_count(file)), &sizes, text)
 }
 
 // Writes the listing of the table in `file`, or the line of its refusal, to the front of `text`.

@@ -5,7 +5,8 @@ use mathlib.Core.List.{List}
 use Prim.Native.Nat.{ℕ}
 use lib.ListN.{length}
 use Rattle.trellis.specs.Outcome.{Outcome}
-use Rattle.table.specs.File.{accepted, refused, tableFile, fileWords, fileOutcome}
+use Rattle.reader.specs.Fields.{fileWords}
+use Rattle.table.specs.File.{accepted, refused, tableFile, fileOutcome}
 use Rattle.table.specs.inner.Answer.{checkedOutcome, isTable}
 use Rattle.table.specs.declared.Checked.{Checked}
 use Rattle.table.specs.declared.Checked.the-variants.{Table}

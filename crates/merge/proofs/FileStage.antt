@@ -13,7 +13,8 @@ use Rattle.trellis.specs.Word.{Word, word, wordAt, Table}
 use Rattle.trellis.specs.Outcome.{shortMap}
 use Rattle.trellis.specs.Witness.{witness}
 use Rattle.trellis.proofs.Words.{word-in, word-eq}
-use Rattle.table.specs.File.{accepted, tableFile, fileWords}
+use Rattle.reader.specs.Fields.{fileWords}
+use Rattle.table.specs.File.{accepted, tableFile}
 use Rattle.table.specs.inner.Good.{GoodFile}
 use Rattle.table.proofs.Accepted.{accepted-good, good-at}
 use Rattle.depths.specs.inner.Words.{words}

@@ -8,7 +8,8 @@ ghost use Rattle.trellis.specs.Bounds.{mostWords};
 ghost use Rattle.trellis.specs.Lists.{over};
 ghost use Rattle.trellis.specs.Witness.{witness};
 ghost use Rattle.outcomes.specs.inner.Holds.{Holds};
-ghost use Rattle.table.specs.File.{accepted, tableFile, fileWords};
+ghost use Rattle.reader.specs.Fields.{fileWords};
+ghost use Rattle.table.specs.File.{accepted, tableFile};
 ghost use Rattle.depths.specs.inner.Words.{words};
 ghost use Rattle.merge.specs.Answer.{outcomeOf, Ends};
 ghost use Rattle.merge.specs.Merging.{refusalOf, merging, mergedTable, merged, written};
@@ -169,7 +170,7 @@ fn copy_words(file: &[u8], count: u16) -> Lists
     let mut i: u16 = 0;
     while i < count {
         let at = wide(i);
-        let word = table::reader::word_through(file, i);
+        let word = reader::word_through(file, i);
         roots[at] = word.root;
         labels[at] = word.label;
         goals[at] = word.goal;

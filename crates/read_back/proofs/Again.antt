@@ -19,7 +19,8 @@ use Rattle.trellis.specs.Layout.{sectionLength, sectionOf}
 use Rattle.trellis.proofs.Lists.{length-run, run-at}
 use Rattle.trellis.proofs.OwnLaid.{own-q, own-n, own-states, own-length}
 use Rattle.label.proofs.Packing.{label-packed}
-use Rattle.table.specs.File.{byteAt, twoBytes, wordCount, fileWord, fileWords, accepted, tableFile}
+use Rattle.reader.specs.Fields.{byteAt, twoBytes, wordCount, fileWord, fileWords}
+use Rattle.table.specs.File.{accepted, tableFile}
 use Rattle.table.specs.inner.Good.{GoodFile}
 use Rattle.table.proofs.Accepted.{accepted-good}
 use Rattle.section_file.proofs.Own.{Fitting, own-usable}

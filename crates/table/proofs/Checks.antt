@@ -1,5 +1,6 @@
 -- The checks as the code makes them: each law takes what the calls on the way ensure, over plain variables, and gives the definition that
--- is promised. Check 3 goes word by word; check 4 goes word by word with the word before in hand; `check` tries them one after the other.
+-- is promised. Check 2 looks at four sizes, each with its bounds; check 3 goes word by word; check 4 goes word by word with the word
+-- before in hand; `check` tries them one after the other.
 use mathlib.Core.Path.{_≡_, refl, sym, _∙_}
 use mathlib.Core.Bool.{Bool, true, false, not}
 use mathlib.Core.List.{List}
@@ -7,15 +8,37 @@ use Prim.Native.Nat.{ℕ, zero, suc, _+_, _-_, _≤_, _<_}
 use native.Mathlib.Omega.{arith}
 use lib.ListN.{length}
 use borrow.Author.Tests.{lt-ltb, le-ltb}
+use Rattle.trellis.specs.Bounds.{mostStates, mostWords, leastQ, mostQ}
 use Rattle.trellis.specs.Label.{isLabel}
 use Rattle.trellis.specs.Word as trellis
 use Rattle.trellis.proofs.Lists.{length-run}
-use Rattle.table.specs.File.{byteAt, wordCount, fileWord, fileWords, lengthBad, wordOutside, wordBad, isBefore, orderBad}
+use Rattle.reader.specs.Fields.{byteAt, wordCount, fileWord, fileWords, lengthBad}
+use Rattle.reader.specs.inner.Answer.{heldWord, meantWord}
+use Rattle.reader.specs.declared.Word.{Word}
+use Rattle.table.specs.File.{outside, sizeOutside, wordOutside, wordBad, isBefore, orderBad}
 use Rattle.table.specs.File.{firstSize, firstBad, firstNotAbove, tableFile, fileOutcome}
-use Rattle.table.specs.inner.Answer.{checkedOutcome, heldWord, meantWord}
-use Rattle.table.specs.declared.Word.{Word}
+use Rattle.table.specs.inner.Answer.{checkedOutcome}
 use Rattle.table.specs.declared.Checked.the-variants.{Table, Length, Size, Word as BadWord, Order}
 use Rattle.table.proofs.Search.{Clear, clear-start, clear-next, clear-found, clear-all}
+
+-- ---- check 2
+
+module _ (file : List ℕ) where
+  pub q-outside : {b : Bool} → b ≡ outside (byteAt file 0) leastQ mostQ → b ≡ sizeOutside file 0
+  unfolding sizeOutside
+  q-outside e = e
+
+  pub n-outside : {b : Bool} → b ≡ outside (byteAt file 1) 1 8 → b ≡ sizeOutside file 1
+  unfolding sizeOutside
+  n-outside e = e
+
+  pub states-outside : {b : Bool} → b ≡ outside (byteAt file 2) 1 mostStates → b ≡ sizeOutside file 2
+  unfolding sizeOutside
+  states-outside e = e
+
+  pub count-outside : {w : ℕ} {b : Bool} → w ≡ wordCount file → b ≡ outside w 1 mostWords → b ≡ sizeOutside file 3
+  unfolding sizeOutside
+  count-outside a e = e ∙ simp a
 
 -- ---- check 3
 

@@ -1,6 +1,4 @@
 -- Laws that the proofs of this crate cite, and what later crates need to know of an accepted file.
-pub mod Reading
-pub mod ReadOn
 pub mod Search
 pub mod Order
 pub mod Checks

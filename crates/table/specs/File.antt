@@ -1,45 +1,18 @@
--- The table file of document 01 as a list of bytes: what stands at which place, and document 01's checks 1 to 4 in their order.
+-- Document 01's checks 1 to 4 of a table file, in their order; check 1 is `lengthBad`, which stands beside the layout.
 -- `tableFile` takes the bytes to a refusal or to q, n, S and the words. Everything here computes.
 use mathlib.Core.Bool.{Bool, false, cond, _||_, not}
 use mathlib.Core.List.{List, [], _∷_}
-use Prim.Native.Nat.{ℕ, zero, suc, _+_, _*_}
+use Prim.Native.Nat.{ℕ, zero, suc}
 use lib.ListN.{length, getD}
-use lib.Dec.{ltb, eqb}
+use lib.Dec.{ltb}
 use Rattle.trellis.specs.Bounds.{mostStates, mostWords}
-use Rattle.trellis.specs.Lists.{each, first, lower}
+use Rattle.trellis.specs.Lists.{first, lower}
 use Rattle.trellis.specs.Label.{isLabel}
-use Rattle.trellis.specs.Word.{Word, word}
+use Rattle.trellis.specs.Word.{Word}
 use Rattle.trellis.specs.Outcome.{Outcome, outcome, badLength, badSize, badWord, notAbove}
-
--- ---- the layout: q, n, S, W in two bytes, W pairs (root, goal), W labels of two bytes
-
--- byte i of the file, counted from 0, and 0 past its end
-abbrev pub byteAt : List ℕ → ℕ → ℕ
-byteAt file i = getD file i 0
-
--- the number in two bytes, low byte first
-abbrev pub twoBytes : ℕ → ℕ → ℕ
-twoBytes low high = low + 256 * high
-
--- W as the file states it
-unfoldable pub wordCount : List ℕ → ℕ
-wordCount file = twoBytes (byteAt file 3) (byteAt file 4)
-
--- word i: its pair stands 2i behind the sizes, its label 2i behind the W pairs
-unfoldable pub fileWord : List ℕ → ℕ → Word
-fileWord file i =
-    let pair = 5 + 2 * i in
-    let label = 5 + 2 * wordCount file + 2 * i in
-    word (byteAt file pair) (twoBytes (byteAt file label) (byteAt file (label + 1))) (byteAt file (pair + 1))
-
-unfoldable pub fileWords : List ℕ → List Word
-fileWords file = each (fileWord file) (wordCount file)
+use Rattle.reader.specs.Fields.{byteAt, wordCount, fileWord, fileWords, lengthBad}
 
 -- ---- the checks
-
--- 1: under 5 bytes, or not 5 + 4W
-unfoldable pub lengthBad : List ℕ → Bool
-lengthBad file = ltb (length file) 5 || not (eqb (length file) (5 + 4 * wordCount file))
 
 -- x is below low or above high
 unfoldable pub outside : ℕ → ℕ → ℕ → Bool

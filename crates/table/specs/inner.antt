@@ -1,4 +1,3 @@
 -- What only the contracts of inner functions cite.
 pub mod Good
 pub mod Answer
-pub mod ReadOn

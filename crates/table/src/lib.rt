@@ -1,14 +1,16 @@
-// The table file of document 01, read in place from lent bytes: its words one at a time, and checks 1 to 4 in their order.
+// Checks 1 to 4 of document 01's table file, in their order, over the lent bytes and with no copy of the table.
 // Every function answers for all arguments, by an equation with a definition of specs/.
 ghost use mathlib.Core.Path.{_≡_};
-ghost use Rattle.table.specs.File.{byteAt, twoBytes, wordCount, fileWord, lengthBad, outside, wordOutside, isBefore};
-ghost use Rattle.table.specs.File.{firstSize, firstBad, firstNotAbove, tableFile, fileOutcome};
-ghost use Rattle.table.specs.inner.Answer.{checkedOutcome, heldWord, meantWord, foundAt};
+ghost use Rattle.reader.specs.Fields.{byteAt};
+ghost use Rattle.reader.specs.inner.Answer.{meantWord};
+ghost use Rattle.table.specs.File.{outside, wordOutside, isBefore, firstSize, firstBad, firstNotAbove, tableFile, fileOutcome};
+ghost use Rattle.table.specs.inner.Answer.{checkedOutcome};
 use label::is_label;
 use label::precedes;
-
-pub mod reader;
-
+use reader::Word;
+use reader::byte_at;
+use reader::length_bad;
+use reader::word_count;
 use reader::word_through;
 
 // Document 01's bounds as numbers of the width that they are compared in.
@@ -34,95 +36,6 @@ pub enum Checked {
     Size(usize),
     Word(usize),
     Order(usize),
-}
-
-// A word as the file has it.
-pub struct Word {
-    pub root: u8,
-    pub label: u16,
-    pub goal: u8,
-}
-
-// What a reader finds: a word, or nothing past the last one.
-pub enum Found {
-    Word(Word),
-    Nothing,
-}
-
-// A byte past the end reads as 0, so that reading a word needs no condition.
-fn byte_at(file: &[u8], at: usize) -> u8
-    ensures { λ r. ⌜ r ≡ byteAt (now (file .entry)) at ⌝ }
-{
-    if at < file.len() { file[at] } else { 0 }
-}
-
-fn two_bytes(low: u8, high: u8) -> u16
-    ensures { λ r. ⌜ r ≡ twoBytes low high ⌝ }
-{
-    (low as u16) + 256 * (high as u16)
-}
-
-// W as the file states it.
-pub fn word_count(file: &[u8]) -> u16
-    ensures { λ r. ⌜ r ≡ wordCount (now (file .entry)) ⌝ }
-{
-    two_bytes(byte_at(file, 3), byte_at(file, 4))
-}
-
-// The fields of a word, for loops that want one of them. An index of 16 bits keeps every place far below the largest usize.
-fn root_at(file: &[u8], i: u16) -> u8
-    ensures { λ r. ⌜ r ≡ fileWord (now (file .entry)) i .root ⌝ }
-{
-    byte_at(file, 5 + 2 * (i as usize))
-}
-
-fn goal_at(file: &[u8], i: u16) -> u8
-    ensures { λ r. ⌜ r ≡ fileWord (now (file .entry)) i .goal ⌝ }
-{
-    byte_at(file, 5 + 2 * (i as usize) + 1)
-}
-
-fn label_at(file: &[u8], i: u16) -> u16
-    ensures { λ r. ⌜ r ≡ fileWord (now (file .entry)) i .label ⌝ }
-{
-    let at = 5 + 2 * (word_count(file) as usize) + 2 * (i as usize);
-    let low = byte_at(file, at);
-    let high = byte_at(file, at + 1);
-    two_bytes(low, high)
-}
-
-// The word decoder that a reader calls.
-fn word_of(file: &[u8], i: u16) -> Word
-    ensures { λ r. ⌜ r ≡ heldWord (fileWord (now (file .entry)) i) ⌝ }
-{
-    Word {
-        root: root_at(file, i),
-        label: label_at(file, i),
-        goal: goal_at(file, i),
-    }
-}
-
-// Check 1.
-fn length_bad(file: &[u8]) -> bool
-    ensures { λ r. ⌜ r ≡ lengthBad (now (file .entry)) ⌝ }
-{
-    if file.len() < 5 {
-        return true;
-    }
-    file.len() != 5 + 4 * (word_count(file) as usize)
-}
-
-// The word at an index, for readers: there is none where the file's length is not what its word count asks for.
-pub fn word_at(file: &[u8], i: usize) -> Found
-    ensures { λ r. ⌜ r ≡ foundAt (now (file .entry)) i ⌝ }
-{
-    if length_bad(file) {
-        return Found::Nothing;
-    }
-    if i >= word_count(file) as usize {
-        return Found::Nothing;
-    }
-    Found::Word(word_of(file, i as u16))
 }
 
 fn is_outside(x: u16, low: u16, high: u16) -> bool

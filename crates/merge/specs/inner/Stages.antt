@@ -4,7 +4,7 @@ use mathlib.Core.List.{List}
 use Prim.Native.Nat.{ℕ, suc, _*_, _<_, _≤_}
 use lib.ListN.{length, getD, replicate}
 use Rattle.trellis.specs.Bounds.{mostWords}
-use Rattle.table.specs.File.{fileWord}
+use Rattle.reader.specs.Fields.{fileWord}
 use Rattle.depths.specs.inner.Words.{words, Held}
 use Rattle.depths.specs.inner.Merge.{InnerMerged, FirstRefused}
 use Rattle.layout.specs.inner.States.{Few}

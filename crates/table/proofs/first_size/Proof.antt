@@ -1,7 +1,7 @@
 -- `table::first_size` meets its contract: a search for the first bad place of four, written out. Behind each test one place more is clear.
 use mathlib.Core.Path.{_≡_, sym, _∙_}
 use Rattle.table.specs.File.{sizeOutside}
-use Rattle.table.proofs.Reading.{q-outside, n-outside, states-outside, count-outside}
+use Rattle.table.proofs.Checks.{q-outside, n-outside, states-outside, count-outside}
 use Rattle.table.proofs.Search.{Clear, clear-start, clear-next, clear-found, clear-all}
 use borrow.Author.Needs.{needs}
 use Rattle.table.proofs.first_size.Statement.{statement}
