@@ -26,7 +26,7 @@ use Rattle.section_file.specs.declared.View.{View}
 use Rattle.section_file.specs.inner.Answer.{partOf}
 use Rattle.section_file.proofs.Usable.{usable-sound}
 use Rattle.sections.specs.Sections.{sectionStart, sectionAt, unusable, sectionsBad, badSectionOf}
-use Rattle.sections.specs.inner.Found.{SectionsFound, FirstUnusable, noView, viewIn, Looked}
+use Rattle.sections.specs.inner.Found.{SectionsFound, noView, viewIn, Looked}
 
 -- ---- the view that was read
 
@@ -67,6 +67,12 @@ none-sized l {at} e h u =
     omega arith
 
 -- ---- the loop
+
+-- section r is the first unusable one, or r is k
+pub record FirstUnusable (sections starts : List ℕ) (views : List View) (k r : ℕ) : Type 0 where
+  pub r-le : r ≤ k
+  pub found : SectionsFound sections starts views r
+  pub unusable-at : r < k → usable (sectionAt sections r) ≡ true → ⊥
 
 pub record InSections (sections starts : List ℕ) (views : List View) (k i at : ℕ) : Type 0 where
   pub i-le : i ≤ k
@@ -150,10 +156,6 @@ module _ {sections starts : List ℕ} {views : List View} {k i at : ℕ} {view :
             (getD-set-same views i view noView (omega (arith, I .found .viewsLong)) ∙ S .view)
         seen j l (no q) = getD-set-other views i j view noView q ∙ I .found .view j (omega arith)
 
-pub sections-end : {sections starts : List ℕ} {views : List View} {k i at : ℕ} → InSections sections starts views k i at → k ≤ i
-    → FirstUnusable sections starts views k i
-sections-end I h = record { r-le = I .i-le; found = I .found; unusable-at = λ l. absurd (omega arith) }
-
 -- ---- fault 8
 
 first-unusable : {sections starts : List ℕ} {views : List View} {k r : ℕ} → FirstUnusable sections starts views k r
@@ -188,20 +190,27 @@ module _ {sections starts : List ℕ} {views : List View} {k r : ℕ} {w : Bool}
     found = λ f. absurd (clash f);
   }
 
-  -- numbers are left over, or not
-  pub looked-all : k ≤ r → Looked sections k (not (eqb (getD starts k 0) (length sections))) r starts views
-  unfolding sectionsBad
-  looked-all l = record {
-    badIs = simp (sym e, not-false w h, first-unusable F, le-ltb r k l) (ap (λ x. not (eqb x (length sections))) (sym (F .found .at k l)));
-    indexIs = index-is;
-    found = λ f. record { some = b .0; few = b .1; found = subst (SectionsFound sections starts views) r-is (F .found) };
-  }
-    where
-      r-is : r ≡ k
-      r-is = omega (arith, F .r-le)
+-- numbers are left over, or not
+pub looked-all : {sections starts : List ℕ} {views : List View} {k i at : ℕ} {w : Bool} → w ≡ within 1 mostSections k → not w ≡ false
+    → InSections sections starts views k i at → k ≤ i → Looked sections k (not (eqb at (length sections))) i starts views
+unfolding sectionsBad
+looked-all {sections} {starts} {views} {k} {i} {at} {w} e h I l = record {
+  badIs = simp (sym e, not-false w h, first-unusable F, le-ltb i k l) (ap (λ x. not (eqb x (length sections))) (sym at-is));
+  indexIs = index-is e h F;
+  found = λ f. record { some = b .0; few = b .1; found = subst (SectionsFound sections starts views) i-is (I .found) };
+}
+  where
+    F : FirstUnusable sections starts views k i
+    F = record { r-le = I .i-le; found = I .found; unusable-at = λ m. absurd (omega arith) }
 
-      b : (1 ≤ k) × (k ≤ mostSections)
-      b = within-of 1 mostSections k (sym e ∙ not-false w h)
+    i-is : i ≡ k
+    i-is = omega (arith, I .i-le)
+
+    at-is : at ≡ sectionStart sections k
+    at-is = I .at-is ∙ ap (sectionStart sections) i-is
+
+    b : (1 ≤ k) × (k ≤ mostSections)
+    b = within-of 1 mostSections k (sym e ∙ not-false w h)
 
 -- where there is none, all sections are usable
 pub sections-usable : (sections : List ℕ) (k : ℕ) → sectionsBad sections k ≡ false → (i : ℕ) → i < k → usable (sectionAt sections i) ≡ true

@@ -2,12 +2,10 @@
 // has the place where each section begins, and its view.
 ghost use mathlib.Core.Path.{_≡_};
 ghost use mathlib.Core.Bool.{cond};
-ghost use Prim.Native.Nat.{_≤_};
 ghost use lib.ListN.{drop};
-ghost use Rattle.trellis.specs.Bounds.{mostSections};
 ghost use Rattle.section_file.specs.Usable.{usable};
 ghost use Rattle.section_file.specs.inner.View.{viewOf};
-ghost use Rattle.sections.specs.inner.Found.{FirstUnusable, Looked, noView, viewIn};
+ghost use Rattle.sections.specs.inner.Found.{Looked, noView, viewIn};
 use numbers::is_within;
 use section_file::Part;
 use section_file::View;
@@ -53,27 +51,29 @@ fn view_at(sections: &[u16], at: usize) -> View
     view_in(section_file::usable_at(sections, at))
 }
 
-// The first unusable section, or how many there are; the places where the sections before it and the next one begin, and their views.
-struct Run {
-    first: usize,
-    starts: [usize; MOST_SECTIONS + 1],
-    views: [View; MOST_SECTIONS],
-}
-
-fn usable_run(sections: &[u16], k: usize) -> Run
-    requires { ⌜ k ≤ mostSections ⌝ }
-    ensures { λ r. ⌜ FirstUnusable (now (sections .entry)) (r .starts) (r .views) k (r .first) ⌝ }
+// Looks for K usable sections with nothing behind the last.
+pub fn find(sections: &[u16], k: usize) -> Found
+    ensures { λ r. ⌜ Looked (now (sections .entry)) k (r .bad) (r .index) (r .starts) (r .views) ⌝ }
 {
     let none = no_view();
     let mut views = [none; MOST_SECTIONS];
     let mut starts = [0usize; MOST_SECTIONS + 1];
+    if !is_within(1, MOST_SECTIONS, k) {
+        return Found {
+            bad: true,
+            index: k,
+            starts,
+            views,
+        };
+    }
     let mut at: usize = 0;
     let mut i: usize = 0;
     while i < k {
         let view = view_at(sections, at);
         if view.end == 0 {
-            return Run {
-                first: i,
+            return Found {
+                bad: true,
+                index: i,
                 starts,
                 views,
             };
@@ -83,40 +83,9 @@ fn usable_run(sections: &[u16], k: usize) -> Run
         i += 1;
         starts[i] = at;
     }
-    Run {
-        first: i,
-        starts,
-        views,
-    }
-}
-
-// Looks for K usable sections with nothing behind the last.
-pub fn find(sections: &[u16], k: usize) -> Found
-    ensures { λ r. ⌜ Looked (now (sections .entry)) k (r .bad) (r .index) (r .starts) (r .views) ⌝ }
-{
-    if !is_within(1, MOST_SECTIONS, k) {
-        let none = no_view();
-        let views = [none; MOST_SECTIONS];
-        let starts = [0usize; MOST_SECTIONS + 1];
-        return Found {
-            bad: true,
-            index: k,
-            starts,
-            views,
-        };
-    }
-    let run = usable_run(sections, k);
-    let index = run.first;
-    let starts = run.starts;
-    let views = run.views;
-    let bad = if index < k {
-        true
-    } else {
-        starts[k] != sections.len()
-    };
     Found {
-        bad,
-        index,
+        bad: at != sections.len(),
+        index: i,
         starts,
         views,
     }

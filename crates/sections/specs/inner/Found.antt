@@ -29,12 +29,6 @@ pub record SectionsFound (sections starts : List ℕ) (views : List View) (i : �
   pub view : (j : ℕ) → j < i → getD views j noView ≡ viewOf (sectionAt sections j)
   pub inside : sectionStart sections i ≤ length sections
 
--- section r is the first unusable one, or r is k
-pub record FirstUnusable (sections starts : List ℕ) (views : List View) (k r : ℕ) : Type 0 where
-  pub r-le : r ≤ k
-  pub found : SectionsFound sections starts views r
-  pub unusable-at : r < k → usable (sectionAt sections r) ≡ true → ⊥
-
 -- 1 ≤ K ≤ 16, and all K sections are usable
 pub record AllFound (sections starts : List ℕ) (views : List View) (k : ℕ) : Type 0 where
   pub some : 0 < k
