@@ -6,8 +6,8 @@ use mathlib.Core.List.{List}
 use Prim.Native.Nat.{ℕ, zero, suc, _+_, _-_, _*_, _≤_, _<_}
 use native.Mathlib.Omega.{arith}
 use lib.ListN.{length, getD, take, drop}
-use lib.Dec.{leb, ltb}
-use borrow.Author.Tests.{ltb-true, lt-ltb, le-ltb, lt-leb, le-leb, eq-eqb, ne-eqb, not-true, not-false}
+use lib.Dec.{ltb}
+use borrow.Author.Tests.{ltb-true, lt-ltb, le-ltb, eq-eqb, ne-eqb, not-true, not-false}
 use Rattle.trellis.specs.Bounds.{mostStates, mostWords, mostSymbols, leastQ, mostQ}
 use Rattle.trellis.specs.Lists.{sum, lower, all, within}
 use Rattle.trellis.specs.Own as own
@@ -24,17 +24,6 @@ use Rattle.section_file.proofs.Tests.{all-both, all-next}
 use Rattle.section_file.proofs.Seen.{Viewed, viewed, near-of, from-length, numbers-from}
 use Rattle.trellis.proofs.Bools.{holds, is-true, clash}
 use Rattle.trellis.proofs.ThreeNumbers.{lower-yes, lower-of, lower-chain}
-
--- ---- bounds
-
-module _ (low high : ℕ) {x : ℕ} where
-  pub below-low : x < low → false ≡ within low high x
-  unfolding within
-  below-low h = simp (lt-leb _ _ h)
-
-  pub from-low-on : low ≤ x → leb x high ≡ within low high x
-  unfolding within
-  from-low-on h = simp (le-leb _ _ h)
 
 -- ---- q, n and S
 
