@@ -12,13 +12,14 @@ use lib.Dec.{eqb}
 use lib.Arith.{lt-of-le-ne}
 use borrow.Author.Tests.{eqb-true, eqb-false}
 use Rattle.trellis.specs.Bounds.{mostStates}
+use Rattle.trellis.specs.Lists.{over}
 use Rattle.trellis.specs.Layout.{joinedUp}
 use Rattle.trellis.specs.inner.Write.{Wrote}
 use Rattle.trellis.proofs.Lists.{length-run}
-use Rattle.trellis.proofs.Write.{wrote-then, wrote-length}
+use Rattle.trellis.proofs.Write.{wrote-then, wrote-length, wrote-front}
 use Rattle.layout.specs.inner.States.{marksBelow, markedBelow, Bits}
 use Rattle.layout.specs.inner.Pieces.{stepTakers, stepPairs, stepSymbols}
-use Rattle.layout.proofs.AllPieces.{pairs-size}
+use Rattle.layout.proofs.AllPieces.{pairs-size, symbols-size}
 use Rattle.assemble.specs.inner.Numbers.{firstNumbers, sizeNumbers, SizesAsked, numbersOf, Parts}
 
 regroup : (a b c d e : List ℕ) → (((a ++ b) ++ c) ++ d) ++ e ≡ a ++ (b ++ (c ++ (d ++ e)))
@@ -80,6 +81,9 @@ module _ {n : ℕ} {sizes edgeCounts rootMarks goalMarks m labels words b0 : Lis
   pairs-long : length (joinedUp (stepPairs m labels n) n) ≡ 2 * total
   pairs-long = joined-size (stepPairs m labels n) (stepTakers m labels n) 2 n (pairs-size m labels n)
 
+  symbols-long : length (joinedUp (stepSymbols m labels n) n) ≡ 1 * total
+  symbols-long = joined-size (stepSymbols m labels n) (stepTakers m labels n) 1 n (symbols-size m labels n)
+
   roots-long : length (markedBelow rootMarks mostStates) ≡ marksBelow rootMarks mostStates
   roots-long = marked-length rootMarks (P .rootBits) mostStates (omega arith)
 
@@ -121,9 +125,12 @@ module _ {n : ℕ} {sizes edgeCounts rootMarks goalMarks m labels words b0 : Lis
           room-symbols = omega (arith, at-pairs, D .end-is, pairs-long, wrote-length D, len3, P .room)
 
           module _ {b5 : List ℕ} {a5 : ℕ} (E : Wrote b4 a4 (joinedUp (stepSymbols m labels n) n) b5 a5) where
-            pub all-parts : Wrote b0 0 (numbersOf n sizes rootMarks goalMarks m labels) b5 a5
+            all : Wrote b0 0 (numbersOf n sizes rootMarks goalMarks m labels) b5 a5
             unfolding numbersOf
-            all-parts = subst (λ vs. Wrote b0 0 vs b5 a5)
+            all = subst (λ vs. Wrote b0 0 vs b5 a5)
                 (regroup (firstNumbers sizes (4 + 2 * n)) (markedBelow rootMarks mostStates) (markedBelow goalMarks mostStates)
                 (joinedUp (stepPairs m labels n) n) (joinedUp (stepSymbols m labels n) n))
                 (wrote-then (wrote-then (wrote-then (wrote-then A B) C) D) E)
+
+            pub all-parts : b5 ≡ over (numbersOf n sizes rootMarks goalMarks m labels) b0
+            all-parts = wrote-front all (omega (arith, all .end-is, at-pairs, D .end-is, pairs-long, E .end-is, symbols-long, P .room))

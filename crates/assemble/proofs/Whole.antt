@@ -111,17 +111,6 @@ module _ {n : ℕ} {roots labels goals old new inner rootMarks goalMarks counts 
     H .few,
   )
 
-  pub few-counts : (t : ℕ) → t ≤ n → getD counts t 0 ≤ mostWords
-  unfolding vertexCount keys
-  few-counts t h = omega (
-    arith,
-    counted t h,
-    ascending-length ltb numbers (each (key n table t) (length table)),
-    length-run (key n table t) 0 (length table),
-    size,
-    H .few,
-  )
-
   -- every place of the n + 1 rows is of some word at some depth
   pub small : suc n * length roots ≤ length new → SmallMap new labels n
   small room = record {

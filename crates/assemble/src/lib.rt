@@ -1,13 +1,18 @@
 // Our section of a table whose inner depths are in the map: the rows of the two outer depths, the edges of all steps, and the section's
 // numbers.
+ghost use mathlib.Core.Path.{_≡_};
 ghost use mathlib.Core.List.{[], _∷_};
 ghost use Prim.Native.Nat.{_+_, _*_, _<_, _≤_};
 ghost use lib.ListN.{length};
+ghost use Rattle.trellis.specs.Bounds.{mostSymbols};
+ghost use Rattle.trellis.specs.Lists.{over};
 ghost use Rattle.trellis.specs.inner.Write.{Wrote};
 ghost use Rattle.layout.specs.inner.States.{Few};
 ghost use Rattle.assemble.specs.inner.Outer.{OuterAsked, RowPut, OuterPut};
-ghost use Rattle.assemble.specs.inner.Numbers.{firstNumbers, sizeNumbers, SizesAsked, numbersOf, Parts};
+ghost use Rattle.assemble.specs.inner.Numbers.{firstNumbers, sizeNumbers, SizesAsked, lengthBy, LengthAsked, numbersOf, Parts};
+use layout::Edges;
 use layout::states;
+use numbers::wide;
 use trellis::MOST_STATES;
 use trellis::MOST_SYMBOLS;
 
@@ -77,49 +82,61 @@ fn put_numbers(source: &[u16], count: usize, section: &mut [u16], at: usize) -> 
 }
 
 // q, n and S.
-fn put_header(q: u16, n: u16, states: u16, sizes: &mut [u16]) -> usize
-    requires { ⌜ 3 ≤ length (now sizes) ⌝ }
+fn put_header(q: u8, n: usize, states: u8, sizes: &mut [u16]) -> usize
+    requires { ⌜ (n ≤ mostSymbols) × (3 ≤ length (now sizes)) ⌝ }
     ensures { λ r. ⌜ Wrote (now (sizes .entry)) 0 (q ∷ n ∷ states ∷ []) (now (sizes .exit)) r ⌝ }
 {
-    sizes[0] = q;
-    sizes[1] = n;
-    sizes[2] = states;
+    sizes[0] = q as u16;
+    sizes[1] = n as u16;
+    sizes[2] = states as u16;
     3
 }
 
 // The sizes that a section begins with: q, n and S, how many vertices each depth has, and how many edges each step.
-pub fn put_sizes(q: u16, n: usize, states: u16, vertices: &[u16], edges: &[u16], sizes: &mut [u16])
-    requires { ⌜ SizesAsked n (now vertices) (now edges) (now sizes) ⌝ }
-    ensures { λ _. ⌜ Wrote (now (sizes .entry)) 0 (sizeNumbers q n states (now (vertices .entry)) (now (edges .entry))) (now (sizes .exit))
+pub fn put_sizes(q: u8, n: usize, states: u8, outer: Outer, edges: Edges, sizes: &mut [u16])
+    requires { ⌜ SizesAsked n (outer .counts) (edges .counts) (now sizes) ⌝ }
+    ensures { λ _. ⌜ Wrote (now (sizes .entry)) 0 (sizeNumbers q n states (outer .counts) (edges .counts)) (now (sizes .exit))
         (4 + 2 * n) ⌝ }
 {
-    let mut at = put_header(q, n as u16, states, sizes);
-    at = put_numbers(vertices, n + 1, sizes, at);
-    put_numbers(edges, n, sizes, at);
+    let vertices = outer.counts;
+    let steps = edges.counts;
+    let mut at = put_header(q, n, states, sizes);
+    at = put_numbers(&vertices, n + 1, sizes, at);
+    put_numbers(&steps, n, sizes, at);
 }
 
-// The section's numbers in document 01's layout, from the front of the buffer on; gives the section's length. `sizes` is what put_sizes
-// left, `words` what layout::take_edges left for the finished map, and `edges` how many it counted at each step.
+// The section's length, from the counts.
+pub fn section_length(n: usize, outer: Outer, edges: Edges) -> usize
+    requires { ⌜ LengthAsked n (outer .counts) (edges .total) ⌝ }
+    ensures { λ r. ⌜ r ≡ lengthBy n (outer .counts) (edges .total) ⌝ }
+{
+    let vertices = outer.counts;
+    4 + 2 * n + (wide(vertices[0]) + wide(vertices[n])) + 3 * edges.total
+}
+
+// The section's numbers in document 01's layout, from the front of the buffer on. `sizes` is what put_sizes left, `words` and `edges` what
+// layout::take_edges left for the finished map.
 pub fn put_section(
     sizes: &[u16],
     n: usize,
     outer: Outer,
-    edges: &[u16; MOST_SYMBOLS],
+    edges: Edges,
     words: &[u16],
     labels: &[u16],
     map: &[u16],
     section: &mut [u16],
-) -> usize
-    requires { ⌜ Parts n (now sizes) (now edges) (outer .roots) (outer .goals) (now map) (now labels) (now words) (now section) ⌝ }
-    ensures { λ r. ⌜ Wrote (now (section .entry)) 0
-        (numbersOf n (now (sizes .entry)) (outer .roots) (outer .goals) (now (map .entry)) (now (labels .entry)))
-        (now (section .exit)) r ⌝ }
+)
+    requires { ⌜ Parts n (now sizes) (edges .counts) (outer .roots) (outer .goals) (now map) (now labels) (now words) (now section) ⌝ }
+    ensures { λ _. ⌜ now (section .exit)
+        ≡ over (numbersOf n (now (sizes .entry)) (outer .roots) (outer .goals) (now (map .entry)) (now (labels .entry)))
+        (now (section .entry)) ⌝ }
 {
     let roots = outer.roots;
     let goals = outer.goals;
+    let steps = edges.counts;
     let mut at = put_numbers(sizes, 4 + 2 * n, section, 0);
     at = states::put_states(&roots, section, at);
     at = states::put_states(&goals, section, at);
-    at = layout::put_all_pairs(words, edges, n, labels, map, section, at);
-    layout::put_all_symbols(words, edges, n, labels, map, section, at)
+    at = layout::put_all_pairs(words, &steps, n, labels, map, section, at);
+    layout::put_all_symbols(words, &steps, n, labels, map, section, at);
 }

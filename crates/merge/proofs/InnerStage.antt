@@ -11,7 +11,7 @@ use Rattle.trellis.specs.Word.{Word}
 use Rattle.trellis.specs.Witness.{Witness, found, nothing, witness}
 use Rattle.trellis.proofs.Witness.{witness-none}
 use Rattle.depths.specs.inner.Words.{words}
-use Rattle.depths.specs.inner.Merge.{FirstRefused, InnerOutcome, InnerDone}
+use Rattle.depths.specs.inner.Merge.{Inner, FirstRefused, InnerOutcome, InnerDone}
 use Rattle.depths.proofs.Words.{held-length}
 use Rattle.merge.specs.Answer.{outcomeOf, Ends}
 use Rattle.merge.specs.Merging.{mapOf, mapLength, refusalOf, written, merged}
@@ -22,6 +22,11 @@ use Rattle.merge.specs.declared.Merged.{Merged}
 use Rattle.merge.proofs.MapRows.{map-length}
 use Rattle.trellis.proofs.Buffers.{over-same}
 use Rattle.merge.proofs.LastStage.{ends-by}
+
+pub inner-asked : {n : ℕ} {roots labels goals map counts : List ℕ} → WordsHeld n roots labels goals map → length counts ≡ 9
+    → Inner n roots labels goals map counts
+inner-asked {n} {roots} {labels} {goals} {map} {counts} A nine =
+    record { held = A .held; room = omega (arith, A .room, suc-mul n (length roots)); nine = nine }
 
 module _ {n r : ℕ} {roots labels goals map0 map1 counts0 counts : List ℕ} (A : WordsHeld n roots labels goals map0)
     (D : InnerDone n (words roots labels goals) map0 map1 counts0 counts r) where

@@ -1,6 +1,6 @@
 -- The last stage of merging: the sizes are the section's first numbers, the parts fit, the length is the section's, and the buffers end as
 -- the definition says.
-use mathlib.Core.Path.{_≡_, refl, sym, ap, ap₂, subst, _∙_}
+use mathlib.Core.Path.{_≡_, refl, sym, ap, subst, _∙_}
 use mathlib.Core.Bool.{Bool, true, false, cond}
 use mathlib.Core.List.{List, [], _∷_, _++_}
 use Prim.Native.Nat.{ℕ, zero, suc, _+_, _*_, _<_, _≤_}
@@ -19,9 +19,9 @@ use Rattle.depths.proofs.Words.{held-length}
 use Rattle.layout.specs.inner.Pieces.{SmallMap, mapEdge, stepTakers, AllTaken, Taken}
 use Rattle.layout.proofs.AllPieces.{taken-all, joined-rise}
 use Rattle.layout.proofs.Marks.{bits-of, all-marks}
-use Rattle.assemble.specs.inner.Outer.{OuterPut}
-use Rattle.assemble.specs.inner.Numbers.{sizeNumbers, SizesAsked, numbersOf, Parts}
-use Rattle.assemble.proofs.Whole.{complete, few-counts, small, sizes-are, numbers-are, section-length}
+use Rattle.assemble.specs.inner.Outer.{OuterAsked, OuterPut}
+use Rattle.assemble.specs.inner.Numbers.{sizeNumbers, SizesAsked, lengthBy, LengthAsked, numbersOf, Parts}
+use Rattle.assemble.proofs.Whole.{complete, small, sizes-are, numbers-are, section-length}
 use Rattle.merge.specs.Merging.{Merging, left, mapOf, written}
 use Rattle.trellis.specs.Lists.{over}
 use Rattle.trellis.specs.Outcome.{Outcome, success, shortSection}
@@ -72,6 +72,18 @@ ends-by {m} {r} {o} {map} {section} {map′} {section′} e p q s = record {
   sectionIs = s ∙ sym (ap (λ (x : Merging). x .section) e);
 }
 
+pub outer-asked : {n : ℕ} {roots labels goals map inner : List ℕ} → Inside n roots labels goals map inner
+    → OuterAsked roots goals n map inner
+outer-asked I = record {
+  fewRoots = I .asked .fewRoots;
+  fewGoals = I .asked .fewGoals;
+  aimed = I .asked .held .aimed;
+  some = I .asked .held .table .some;
+  short = I .asked .held .short;
+  room = I .asked .room;
+  nine = I .nine;
+}
+
 module _ {n : ℕ} {roots labels goals map0 map1 inner rootMarks goalMarks counts : List ℕ} (I : Inside n roots labels goals map0 inner)
     (P : OuterPut roots goals n map0 map1 inner rootMarks goalMarks counts) where
   abbrev table : List Word
@@ -89,18 +101,12 @@ module _ {n : ℕ} {roots labels goals map0 map1 inner rootMarks goalMarks count
   pub map-small : SmallMap map1 labels n
   map-small = small H (I .sound) P (omega (arith, I .asked .room, P .placed .len))
 
-  pub root-few : getD counts 0 0 ≤ mostWords
-  root-few = few-counts H (I .sound) P 0 (omega arith)
-
-  pub goal-few : getD counts n 0 ≤ mostWords
-  goal-few = few-counts H (I .sound) P n (omega arith)
-
   module _ {firsts edgeCounts : List ℕ} {total : ℕ} (A : AllTaken map1 labels n (replicate 8192 0) firsts total edgeCounts) where
     room8 : n * length labels ≤ 8192
     room8 = let p : n * length labels ≤ mostSymbols * mostWords = mul-le-mul (H .short) (map-small .words) in omega arith
 
-    pub total-few : total ≤ 8192
-    total-few = omega (arith, A .few, room8)
+    pub length-asked : LengthAsked n counts total
+    length-asked = record { steps = H .short; vertexPlaces = omega (arith, H .short, P .nine); fewEdges = omega (arith, A .few, room8) }
 
     K : Taken map1 labels n firsts edgeCounts
     K = taken-all A (omega (arith, room8, length-replicate {A = ℕ} 8192 0))
@@ -137,24 +143,22 @@ module _ {n : ℕ} {roots labels goals map0 map1 inner rootMarks goalMarks count
         sizes-left = subst (λ vs. sizes1 ≡ over vs sizes0) (sizes-are H (I .sound) P rectangular q states K W)
             (wrote-front W (omega (arith, W .end-is, sizes-asked .room)))
 
-        module _ {c0 cn : ℕ} (e0 : c0 ≡ getD counts 0 0) (en : cn ≡ getD counts n 0) where
-          needed-is : 4 + 2 * n + (c0 + cn) + 3 * total ≡ length (sectionOf q n states table)
-          needed-is = ap₂ (λ x y. 4 + 2 * n + (x + y) + 3 * total) e0 en
-              ∙ sym (section-length H (I .sound) P rectangular q states total total-is)
+        module _ {needed : ℕ} (N : needed ≡ lengthBy n counts total) where
+          needed-is : needed ≡ length (sectionOf q n states table)
+          needed-is = N ∙ sym (section-length H (I .sound) P rectangular q states total total-is)
 
-          module _ {section : List ℕ} where
+          module _ (section : List ℕ) where
             -- 7: the map is finished, the section is as it was
-            pub ends-short : length section < 4 + 2 * n + (c0 + cn) + 3 * total
+            pub ends-short : length section < needed
                 → EndsSized (written q n states table map0 section) (over (sectionSizes q n states table) sizes0)
-                (ShortSection (4 + 2 * n + (c0 + cn) + 3 * total)) map1 section sizes1
+                (ShortSection needed) map1 section sizes1
             ends-short h = record {
               ends = ends-by (written-short q n states table map0 section (omega (arith, needed-is))) (ap shortSection needed-is)
                   map-whole refl;
               sizesAre = sizes-left;
             }
 
-            pub parts : 4 + 2 * n + (c0 + cn) + 3 * total ≤ length section
-                → Parts n sizes1 edgeCounts rootMarks goalMarks map1 labels firsts section
+            pub parts : needed ≤ length section → Parts n sizes1 edgeCounts rootMarks goalMarks map1 labels firsts section
             parts h = record {
               small = map-small;
               taken = K;
@@ -166,8 +170,7 @@ module _ {n : ℕ} {roots labels goals map0 map1 inner rootMarks goalMarks count
               some = some-edges;
               room = omega (
                 arith,
-                e0,
-                en,
+                N,
                 all-marks (I .asked .fewRoots) (P .rootsMarked),
                 all-marks (I .asked .fewGoals) (P .goalsMarked),
                 P .rootCount,
@@ -177,16 +180,15 @@ module _ {n : ℕ} {roots labels goals map0 map1 inner rootMarks goalMarks count
             }
 
             -- success: the section's numbers stand in front
-            pub ends-done : {new : List ℕ} {end : ℕ} → 4 + 2 * n + (c0 + cn) + 3 * total ≤ length section
-                → Wrote section 0 (numbersOf n sizes1 rootMarks goalMarks map1 labels) new end
-                → EndsSized (written q n states table map0 section) (over (sectionSizes q n states table) sizes0)
-                (Section (4 + 2 * n + (c0 + cn) + 3 * total)) map1 new sizes1
-            ends-done {new} {end} h Z =
+            pub ends-done : {new : List ℕ} → needed ≤ length section
+                → new ≡ over (numbersOf n sizes1 rootMarks goalMarks map1 labels) section
+                → EndsSized (written q n states table map0 section) (over (sectionSizes q n states table) sizes0) (Section needed) map1 new
+                sizes1
+            ends-done {new} h Z =
                 let same = numbers-are H (I .sound) P rectangular q states K W (sizes-asked .room) (I .asked .fewRoots)
                 (I .asked .fewGoals) in
-                let Z′ : Wrote section 0 (sectionOf q n states table) new end = subst (λ vs. Wrote section 0 vs new end) same Z in
                 record {
                   ends = ends-by (written-done q n states table map0 section (omega (arith, needed-is))) (ap success needed-is) map-whole
-                      (wrote-front Z′ (omega (arith, needed-is)));
+                      (Z ∙ ap (λ vs. over vs section) same);
                   sizesAre = sizes-left;
                 }

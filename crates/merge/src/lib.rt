@@ -67,9 +67,9 @@ fn clear(map: &mut [u16], count: usize)
 
 // The outer depths, the edges, the sizes and the section, where the inner depths are in the map: success, or refusal 7.
 fn finish(
-    q: u16,
+    q: u8,
     n: usize,
-    states: u16,
+    states: u8,
     roots: &[u8],
     labels: &[u16],
     goals: &[u8],
@@ -88,14 +88,12 @@ fn finish(
     let outer = assemble::put_outer(roots, goals, n, map, inner);
     let mut firsts = [0u16; MOST_SYMBOLS * MOST_WORDS];
     let edges = layout::take_edges(labels, n, map, &mut firsts);
-    let counts = outer.counts;
-    let needed = 4 + 2 * n + (wide(counts[0]) + wide(counts[n])) + 3 * edges.total;
-    let steps = edges.counts;
-    assemble::put_sizes(q, n, states, &counts, &steps, sizes);
+    assemble::put_sizes(q, n, states, outer, edges, sizes);
+    let needed = assemble::section_length(n, outer, edges);
     if section.len() < needed {
         return Merged::ShortSection(needed);
     }
-    assemble::put_section(sizes, n, outer, &steps, &firsts, labels, map, section);
+    assemble::put_section(sizes, n, outer, edges, &firsts, labels, map, section);
     Merged::Section(needed)
 }
 
@@ -116,9 +114,9 @@ fn refuse(n: usize, t: usize, roots: &[u8], labels: &[u16], goals: &[u8], map: &
 
 // The words of a table in three slices: refusal 6, or what finish says.
 fn merge_words(
-    q: u16,
+    q: u8,
     n: usize,
-    states: u16,
+    states: u8,
     roots: &[u8],
     labels: &[u16],
     goals: &[u8],
@@ -211,9 +209,9 @@ fn merge_table(
     let labels = lists.labels;
     let goals = lists.goals;
     merge_words(
-        q as u16,
+        q,
         steps,
-        states as u16,
+        states,
         &roots[..w],
         &labels[..w],
         &goals[..w],

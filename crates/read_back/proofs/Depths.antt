@@ -6,18 +6,19 @@ use Prim.Native.Nat.{ℕ, zero, suc, _+_, _-_, _*_, _≤_, _<_}
 use native.Mathlib.Omega.{arith}
 use native.Mathlib.Nat.{zero-add, le-of-lt}
 use native.Mathlib.Numerals.{add-one}
-use lib.ListN.{length, getD, take, drop, length-map}
+use lib.ListN.{length, getD, take, length-map}
 use Rattle.trellis.specs.Bounds.{mostWords}
 use Rattle.trellis.specs.Lists.{run, each}
+use Rattle.trellis.specs.Own.{Edge}
 use Rattle.trellis.specs.Layout.{nOf, vertexCountOf, edgeCountOf, edgesBefore, pairsPlace, symbolsPlace, rootState}
 use Rattle.trellis.proofs.Lists.{length-run}
 use Rattle.trellis.proofs.Laid.{before-none, before-more}
 use Rattle.section_file.specs.inner.View.{Seen}
 use Rattle.section_file.specs.inner.Answer.{edgeIn}
 use Rattle.section_file.specs.declared.View.{View}
-use Rattle.section_file.proofs.Seen.{Viewed, viewed, Near, near-of, laid-of, before-in, from-length, numbers-from}
+use Rattle.section_file.proofs.Seen.{Viewed, viewed, Near, near-of, laid-of, before-in}
 use Rattle.read_back.specs.inner.Levels.{begun, level, code, coded, grownCodes}
-use Rattle.read_back.specs.inner.Growing.{PutBehind, StepEdges, Gathered, FirstLevel, RootCodes}
+use Rattle.read_back.specs.inner.Growing.{PutBehind, partFrom, StepAt, Gathered, FirstLevel, RootCodes}
 use Rattle.read_back.proofs.Levels.{levels-rise, level-coded}
 use Rattle.read_back.proofs.Sections.{step-edges, step-in}
 
@@ -26,14 +27,21 @@ unfolding run
 map-run f g at zero = refl
 map-run f g at (suc count) = ap (λ l. f (g at) ∷ l) (map-run f g (suc at) count)
 
--- the beginnings up to depth t stand in the array
-pub record Depth (s : List ℕ) (codes : List ℕ) (have before t : ℕ) : Type 0 where
+pub twice-near : (count : ℕ) → count < 65536 → 2 * count < 200000
+twice-near count h = omega arith
+
+pub next-less : (n t : ℕ) → t < n → n - (t + 1) < n - t
+next-less n t h = omega arith
+
+-- the beginnings up to depth t stand in the array; the pairs and symbols of the edges that go on from there begin at two places
+pub record Depth (s : List ℕ) (codes : List ℕ) (have pairs symbols t : ℕ) : Type 0 where
   pub inside : t ≤ nOf s
   pub room : have ≤ mostWords
   pub long : length codes ≡ mostWords
   pub filled : take have codes ≡ map coded (level s t)
   pub count : have ≡ length (level s t)
-  pub beforeIs : before ≡ edgesBefore s t
+  pub pairsAt : pairs ≡ pairsPlace s + 2 * edgesBefore s t
+  pub symbolsAt : symbols ≡ symbolsPlace s + edgesBefore s t
 
 module _ {s : List ℕ} {at : View} (S : Seen s at) where
   at-is : Viewed s at
@@ -42,86 +50,105 @@ module _ {s : List ℕ} {at : View} (S : Seen s at) where
   pub near : Near s at
   near = near-of (laid-of S)
 
+  pub roots-first : at .roots ≤ at .goals
+  roots-first = omega (arith, near .roots-to)
+
   roots-count : at .goals - at .roots ≡ vertexCountOf s 0
-  roots-count = let N = near in omega arith
+  roots-count = omega (arith, near .roots-to)
 
-  root-is : (v : ℕ) → getD (take (length s - at .roots) (drop (at .roots) s)) v 0 ≡ rootState s v
+  root-is : (v : ℕ) → getD s (at .roots + v) 0 ≡ rootState s v
   unfolding rootState
-  root-is v = λ i. numbers-from s (at-is .roots-is) i v
+  root-is v = ap (λ k. getD s (k + v) 0) (at-is .roots-is)
 
-  pub roots-level : FirstLevel (take (length s - at .roots) (drop (at .roots) s)) (at .goals - at .roots)
+  pub roots-level : FirstLevel s (at .roots) (at .goals - at .roots)
   roots-level = let N = near in let c = roots-count in record {
-    there = omega (arith, from-length s (at .roots));
+    there = omega arith;
     few = omega (arith, S .sound .verticesTo 0 (omega arith));
     small = λ v h. omega (arith, root-is v, S .sound .rootsBelow v (omega arith), S .sound .statesTo);
   }
 
-  pub depth-start : {codes : List ℕ} → RootCodes (take (length s - at .roots) (drop (at .roots) s)) (at .goals - at .roots) codes
-      → Depth s codes (at .goals - at .roots) 0 0
+  pub depth-start : {codes : List ℕ} → RootCodes s (at .roots) (at .goals - at .roots) codes
+      → Depth s codes (at .goals - at .roots) (at .pairs) (at .symbols) 0
   unfolding level rootState
   depth-start {codes} r = record {
     inside = omega arith;
     room = roots-level .few;
     long = r .long;
     filled =
-        let f = numbers-from s (at-is .roots-is) in
-        let c = roots-count in
-        let a : each (λ v. code (getD (take (length s - at .roots) (drop (at .roots) s)) v 0) v 0) (at .goals - at .roots)
+        let a : each (λ v. code (getD s (at .roots + v) 0) v 0) (at .goals - at .roots)
         ≡ each (λ v. code (rootState s v) v 0) (vertexCountOf s 0) =
-        ap₂ (λ (g : ℕ → ℕ) m. each (λ v. code (g v) v 0) m) f c in
+        ap₂ (λ k m. each (λ v. code (getD s (k + v) 0) v 0) m) (at-is .roots-is) roots-count in
         r .filled ∙ a ∙ sym (map-map coded (λ v. begun (rootState s v) 0 v) (each (λ v. v) (vertexCountOf s 0))
         ∙ map-run (λ v. code (rootState s v) v 0) (λ v. v) 0 (vertexCountOf s 0));
     count = roots-count ∙ sym
         (length-map (each (λ v. v) (vertexCountOf s 0)) (λ v. begun (rootState s v) 0 v) ∙ length-run (λ v. v) 0 (vertexCountOf s 0));
-    beforeIs = sym (before-none s);
+    pairsAt = omega (arith, at-is .pairs-is, before-none s);
+    symbolsAt = omega (arith, at-is .symbols-is, before-none s);
   }
 
-  module _ {codes : List ℕ} {have before t : ℕ} (d : Depth s codes have before t) (h : t < at .n) where
+  -- ---- sums that the code makes are small
+
+  pub counts-near : 4 + at .n < 13
+  counts-near = omega (arith, near .steps-few)
+
+  module _ {codes : List ℕ} {have pairs symbols t : ℕ} (d : Depth s codes have pairs symbols t) (h : t < at .n) where
     deep : t < nOf s
     deep = omega (arith, at-is .n-is)
 
-    pub before-among : before ≤ at .edges
-    before-among = before-in (laid-of S) (le-of-lt h) (d .beforeIs)
+    pub count-near : 4 + at .n + t < 21
+    count-near = omega (arith, near .steps-few)
+
+    pub next-near : t + 1 < 21
+    next-near = omega (arith, near .steps-few)
+
+    before-among : edgesBefore s t ≤ at .edges
+    before-among = before-in (laid-of S) (le-of-lt h) refl
+
+    pairs-first : pairs ≤ at .symbols
+    pairs-first = omega (arith, near .pairs-to, d .pairsAt, at-is .pairs-is, before-among)
+
+    symbols-first : symbols ≤ at .end
+    symbols-first = omega (arith, near .symbols-to, d .symbolsAt, at-is .symbols-is, before-among)
 
     module _ {y count : ℕ} (y-is : y ≡ getD s (4 + at .n + t) 0) (count-is : (count ≡ y) × (count < 65536)) where
+      pub pairs-near : pairs + 2 * count < 200000
+      pairs-near = omega (arith, pairs-first, near .symbols-to, near .end-near, count-is .1)
+
+      pub symbols-near : symbols + count < 200000
+      symbols-near = omega (arith, symbols-first, near .end-near, count-is .1)
+
       edges-count : count ≡ edgeCountOf s t
       unfolding edgeCountOf
       edges-count = count-is .0 ∙ y-is ∙ ap (λ m. getD s (4 + m + t) 0) (at-is .n-is)
 
-      pairs-are : at .pairs + 2 * before ≡ pairsPlace s + 2 * edgesBefore s t
-      pairs-are = omega (arith, at-is .pairs-is, d .beforeIs)
+      pub depth-step : StepAt s pairs symbols count
+      depth-step = record {
+        pairsIn = omega (arith, pairs-first, near .symbols-to, near .end-in);
+        symbolsIn = omega (arith, symbols-first, near .end-in);
+        edges = step-in (S .sound) t deep (d .pairsAt) (d .symbolsAt) edges-count;
+      }
 
-      symbols-are : at .symbols + before ≡ symbolsPlace s + edgesBefore s t
-      symbols-are = omega (arith, at-is .symbols-is, d .beforeIs)
+      abbrev edges : List Edge
+      edges = run (edgeIn (partFrom pairs s) (partFrom symbols s)) 0 count
 
-      -- where the edges of the step begin
-      abbrev pairs : List ℕ
-      pairs = take (length s - (at .pairs + 2 * before)) (drop (at .pairs + 2 * before) s)
-
-      abbrev symbols : List ℕ
-      symbols = take (length s - (at .symbols + before)) (drop (at .symbols + before) s)
-
-      pub depth-step : StepEdges pairs symbols count
-      depth-step = step-in (S .sound) t deep pairs-are symbols-are edges-count
-
-      next-codes : flatMap (grownCodes (run (edgeIn pairs symbols) 0 count)) (take have codes) ≡ map coded (level s (suc t))
+      next-codes : flatMap (grownCodes edges) (take have codes) ≡ map coded (level s (suc t))
       next-codes =
-          ap₂ (λ es cs. flatMap (grownCodes es) cs) (step-edges (S .sound) t deep pairs-are symbols-are edges-count) (d .filled)
+          ap₂ (λ es cs. flatMap (grownCodes es) cs) (step-edges (S .sound) t deep (d .pairsAt) (d .symbolsAt) edges-count) (d .filled)
           ∙ level-coded (S .sound) t deep
 
-      next-count : length (flatMap (grownCodes (run (edgeIn pairs symbols) 0 count)) (take have codes)) ≡ length (level s (suc t))
+      next-count : length (flatMap (grownCodes edges) (take have codes)) ≡ length (level s (suc t))
       next-count = ap length next-codes ∙ length-map (level s (suc t)) coded
 
-      module _ {start new : List ℕ} {r : ℕ}
-          (m : PutBehind (flatMap (grownCodes (run (edgeIn pairs symbols) 0 count)) (take have codes)) start 0 new r) where
-        pub depth-next : r ≤ mostWords → Depth s new r (before + count) (t + 1)
+      module _ {new : List ℕ} {r : ℕ} (m : PutBehind (flatMap (grownCodes edges) (take have codes)) codes 0 new r) where
+        pub depth-next : r ≤ mostWords → Depth s new r (pairs + 2 * count) (symbols + count) (t + 1)
         depth-next b = record {
           inside = omega (arith, deep);
           room = b;
           long = m .long;
           filled = m .filled b ∙ next-codes ∙ ap (λ u. map coded (level s u)) (sym (add-one t));
           count = m .count b ∙ zero-add _ ∙ next-count ∙ ap (λ u. length (level s u)) (sym (add-one t));
-          beforeIs = rw (add-one t) (omega (arith, d .beforeIs, edges-count, before-more s t));
+          pairsAt = rw (add-one t) (omega (arith, d .pairsAt, edges-count, before-more s t));
+          symbolsAt = rw (add-one t) (omega (arith, d .symbolsAt, edges-count, before-more s t));
         }
 
         pub depth-over : mostWords < r → Gathered s new r
@@ -132,8 +159,8 @@ module _ {s : List ℕ} {at : View} (S : Seen s at) where
           over = λ c. omega (arith, m .over b, next-count, levels-rise (S .sound) (nOf s - suc t) (suc t) (omega (arith, deep)));
         }
 
-  pub depth-all : {codes : List ℕ} {have before t : ℕ} → Depth s codes have before t → at .n ≤ t → Gathered s codes have
-  depth-all {codes} {have} {before} {t} d h =
+  pub depth-all : {codes : List ℕ} {have pairs symbols t : ℕ} → Depth s codes have pairs symbols t → at .n ≤ t → Gathered s codes have
+  depth-all {codes} {have} {pairs} {symbols} {t} d h =
       let e : t ≡ nOf s = omega (arith, d .inside, at-is .n-is) in
       record {
         long = d .long;

@@ -257,31 +257,31 @@ module _ {f : ℕ → List ℕ} {old : List ℕ} {have : ℕ} where
 
 -- ---- the first depth
 
-pub record Rooted (roots : List ℕ) (count : ℕ) (codes : List ℕ) (v : ℕ) : Type 0 where
+pub record Rooted (s : List ℕ) (at count : ℕ) (codes : List ℕ) (v : ℕ) : Type 0 where
   pub inside : v ≤ count
   pub long : length codes ≡ mostWords
-  pub filled : take v codes ≡ each (λ u. code (getD roots u 0) u 0) v
+  pub filled : take v codes ≡ each (λ u. code (getD s (at + u) 0) u 0) v
 
-pub rooted-start : (roots : List ℕ) (count : ℕ) {codes : List ℕ} → length codes ≡ mostWords → Rooted roots count codes 0
+pub rooted-start : (s : List ℕ) (at count : ℕ) {codes : List ℕ} → length codes ≡ mostWords → Rooted s at count codes 0
 unfolding run
-rooted-start roots count l = record { inside = omega arith; long = l; filled = refl }
+rooted-start s at count l = record { inside = omega arith; long = l; filled = refl }
 
-pub rooted-next : {roots : List ℕ} {count : ℕ} {codes : List ℕ} {v r : ℕ} → Rooted roots count codes v → FirstLevel roots count
-    → v < count → (r ≡ getD roots v 0) × (r < 65536) → Rooted roots count (set codes v ((r * 1024 + v) * 65536)) (v + 1)
-rooted-next {roots} {count} {codes} {v} {r} g F h w = record {
+pub rooted-next : {s : List ℕ} {at count : ℕ} {codes : List ℕ} {v r : ℕ} → Rooted s at count codes v → FirstLevel s at count
+    → v < count → (r ≡ getD s (at + v) 0) × (r < 65536) → Rooted s at count (set codes v ((r * 1024 + v) * 65536)) (v + 1)
+rooted-next {s} {at} {count} {codes} {v} {r} g F h w = record {
   inside = omega arith;
   long = length-set codes v ((r * 1024 + v) * 65536) ∙ g .long;
   filled =
-      let q : (r * 1024 + v) * 65536 ≡ code (getD roots v 0) v 0 = omega (arith, w .0) in
+      let q : (r * 1024 + v) * 65536 ≡ code (getD s (at + v) 0) v 0 = omega (arith, w .0) in
       let t : take (v + 1) (set codes v ((r * 1024 + v) * 65536)) ≡ take v codes ++ ((r * 1024 + v) * 65536 ∷ []) =
       rw (add-one v) (take-suc-set codes v _ (omega (arith, F .few, g .long))) in
-      let u : each (λ u. code (getD roots u 0) u 0) (v + 1) ≡ each (λ u. code (getD roots u 0) u 0) v ++ (code (getD roots v 0) v 0 ∷ []) =
-      rw (add-one v) (run-snoc (λ u. code (getD roots u 0) u 0) 0 v ∙ rw (zero-add v)) in
+      let u : each (λ u. code (getD s (at + u) 0) u 0) (v + 1)
+      ≡ each (λ u. code (getD s (at + u) 0) u 0) v ++ (code (getD s (at + v) 0) v 0 ∷ []) =
+      rw (add-one v) (run-snoc (λ u. code (getD s (at + u) 0) u 0) 0 v ∙ rw (zero-add v)) in
       t ∙ ap₂ (λ xs y. xs ++ (y ∷ [])) (g .filled) q ∙ sym u;
 }
 
-pub rooted-all : {roots : List ℕ} {count : ℕ} {codes : List ℕ} {v : ℕ} → Rooted roots count codes v → count ≤ v
-    → RootCodes roots count codes
-rooted-all {roots} {count} {codes} {v} g h =
+pub rooted-all : {s : List ℕ} {at count : ℕ} {codes : List ℕ} {v : ℕ} → Rooted s at count codes v → count ≤ v → RootCodes s at count codes
+rooted-all {s} {at} {count} {codes} {v} g h =
     let e : v ≡ count = omega (arith, g .inside) in
-    record { long = g .long; filled = subst (λ k. take k codes ≡ each (λ u. code (getD roots u 0) u 0) k) e (g .filled) }
+    record { long = g .long; filled = subst (λ k. take k codes ≡ each (λ u. code (getD s (at + u) 0) u 0) k) e (g .filled) }

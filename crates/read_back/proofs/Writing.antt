@@ -52,11 +52,9 @@ module _ {f : ℕ → List ℕ} {old : List ℕ} {start : ℕ} {codes : List ℕ
   pieces-all {new} {at} {i} p h = let e : i ≡ count = omega (arith, p .inside) in
       subst (λ k. Wrote old start (flatMap f (take k codes)) new at) e (p .so-far)
 
-pub pair-is : (goals : List ℕ) (c : ℕ) {r a v x w b : ℕ} → r ≡ codeRoot c → a ≡ byteOf r → v ≡ codeVertex c → x ≡ getD goals v 0
-    → (w ≡ x) × (w < 65536) → b ≡ byteOf w
+pub pair-is : (goals : List ℕ) (c : ℕ) {r a v b : ℕ} → r ≡ codeRoot c → a ≡ byteOf r → v ≡ codeVertex c → b ≡ byteOf (getD goals v 0)
     → pairOfCode goals c ≡ a ∷ b ∷ []
-pair-is goals c p q r t u d =
-    sym (ap₂ (λ a b. a ∷ b ∷ []) (q ∙ ap byteOf p) (d ∙ ap byteOf (u .0 ∙ t ∙ ap (λ v. getD goals v 0) r)))
+pair-is goals c p q r d = sym (ap₂ (λ a b. a ∷ b ∷ []) (q ∙ ap byteOf p) (d ∙ ap (λ v. byteOf (getD goals v 0)) r))
 
 pub label-is : (c : ℕ) {x w a b : ℕ} → x ≡ codeLabel c → (w ≡ x) × (w < 65536) → a ≡ byteOf w → b ≡ byteOf (w / 256)
     → labelOfCode c ≡ a ∷ b ∷ []
@@ -65,15 +63,11 @@ label-is c {x} {w} p u q d =
     let small : byteOf (w / 256) ≡ w / 256 = mod-eq-of-lt (omega (arith, u .1)) in
     sym (ap₂ (λ a b. a ∷ b ∷ []) (q ∙ ap byteOf e) (d ∙ small ∙ ap (λ y. y / 256) e))
 
-pub sizes-put : (l : List ℕ) (s : List ℕ) (count : ℕ) {x y z u v w a b d e f : ℕ} → x ≡ getD s 0 0 → (u ≡ x) × (u < 65536) → a ≡ byteOf u
-    → y ≡ getD s 1 0 → (v ≡ y) × (v < 65536) → b ≡ byteOf v
-    → z ≡ getD s 2 0 → (w ≡ z) × (w < 65536) → d ≡ byteOf w → e ≡ byteOf count → f ≡ byteOf (count / 256)
+pub sizes-put : (l : List ℕ) (s : List ℕ) (count : ℕ) {a b c d e : ℕ} → a ≡ byteOf (getD s 0 0) → b ≡ byteOf (getD s 1 0)
+    → c ≡ byteOf (getD s 2 0) → d ≡ byteOf count → e ≡ byteOf (count / 256)
     → Wrote l 0 (byteOf (getD s 0 0) ∷ byteOf (getD s 1 0) ∷ byteOf (getD s 2 0) ∷ byteOf count ∷ byteOf (count / 256) ∷ [])
-    (set (set (set (set (set l 0 a) 1 b) 2 d) 3 e) 4 f) 5
-sizes-put l s count p1 p2 p3 q1 q2 q3 r1 r2 r3 t1 t2 = record {
-  new-is = rw (p3 ∙ ap byteOf (p2 .0 ∙ p1), q3 ∙ ap byteOf (q2 .0 ∙ q1), r3 ∙ ap byteOf (r2 .0 ∙ r1), t1, t2);
-  end-is = refl;
-}
+    (set (set (set (set (set l 0 a) 1 b) 2 c) 3 d) 4 e) 5
+sizes-put l s count p q r t u = record { new-is = rw (p, q, r, t, u); end-is = refl }
 
 -- ---- the whole file
 

@@ -15,8 +15,8 @@ ghost use Rattle.section_file.specs.inner.View.{Seen};
 ghost use Rattle.read_back.specs.ReadingBack.{readBackOutcome, left, isSection, readingBack};
 ghost use Rattle.read_back.specs.inner.Whole.{wholePart};
 ghost use Rattle.read_back.specs.inner.Levels.{codeRoot, codeVertex, codeLabel, furtherCode, grownCodes};
-ghost use Rattle.read_back.specs.inner.Growing.{PutBehind, StepEdges, BeginsAt, Starts, Gathered, FirstLevel, RootCodes};
-ghost use Rattle.read_back.specs.inner.Growing.{byteOf, pairOfCode, labelOfCode, fileOfCodes};
+ghost use Rattle.read_back.specs.inner.Growing.{PutBehind, StepEdges, partFrom, StepAt, BeginsAt, Starts, Gathered, FirstLevel};
+ghost use Rattle.read_back.specs.inner.Growing.{RootCodes, byteOf, pairOfCode, labelOfCode, fileOfCodes};
 use label::append;
 use numbers::number;
 use numbers::wide;
@@ -63,6 +63,13 @@ fn byte(x: usize) -> u8
     ensures { λ r. ⌜ r ≡ byteOf x ⌝ }
 {
     (x % 256) as u8
+}
+
+// The number at place i as a byte.
+fn byte_at(l: &[u16], i: usize) -> u8
+    ensures { λ r. ⌜ r ≡ byteOf (getD (now (l .entry)) i 0) ⌝ }
+{
+    byte(wide(number(l, i)))
 }
 
 fn root_of(c: u32) -> usize
@@ -170,14 +177,31 @@ fn grow(
     made
 }
 
-// The vertices of depth 0, each with its root.
-fn first_level(roots: &[u16], count: usize, codes: &mut [u32; MOST_WORDS])
-    requires { ⌜ FirstLevel (now roots) count × (length (now codes) ≡ mostWords) ⌝ }
-    ensures { λ _. ⌜ RootCodes (now (roots .entry)) count (now (codes .exit)) ⌝ }
+// Puts the first `have` beginnings one step further, along the `count` edges whose pairs and symbols begin at these places.
+fn grow_step(
+    s: &[u16],
+    pairs: usize,
+    symbols: usize,
+    count: usize,
+    have: usize,
+    codes: &mut [u32; MOST_WORDS],
+) -> usize
+    requires { ⌜ StepAt (now s) pairs symbols count × (have ≤ mostWords) × (length (now codes) ≡ mostWords) ⌝ }
+    ensures { λ r. ⌜ PutBehind (flatMap (grownCodes (run (edgeIn (partFrom pairs (now (s .entry))) (partFrom symbols (now (s .entry)))) 0
+        count)) (take have (now (codes .entry)))) (now (codes .entry)) 0 (now (codes .exit)) r ⌝ }
+{
+    let old = *codes;
+    grow(&s[pairs..], &s[symbols..], count, &old, have, codes)
+}
+
+// The vertices of depth 0, each with its root; the roots begin at place `at`.
+fn first_level(s: &[u16], at: usize, count: usize, codes: &mut [u32; MOST_WORDS])
+    requires { ⌜ FirstLevel (now s) at count × (length (now codes) ≡ mostWords) ⌝ }
+    ensures { λ _. ⌜ RootCodes (now (s .entry)) at count (now (codes .exit)) ⌝ }
 {
     let mut v: usize = 0;
     while v < count {
-        codes[v] = (wider(roots[v]) * 1024 + (v as u32)) * 65536;
+        codes[v] = (wider(s[at + v]) * 1024 + (v as u32)) * 65536;
         v += 1;
     }
 }
@@ -190,19 +214,18 @@ fn gather(s: &[u16], at: View, codes: &mut [u32; MOST_WORDS]) -> usize
     let n = at.n;
     let roots = at.roots;
     let mut have = at.goals - roots;
-    first_level(&s[roots..], have, codes);
-    let mut before: usize = 0;
+    first_level(s, roots, have, codes);
+    let mut pairs = at.pairs;
+    let mut symbols = at.symbols;
     let mut t: usize = 0;
     while t < n {
-        let old = *codes;
         let count = wide(number(s, 4 + n + t));
-        let pairs = at.pairs + 2 * before;
-        let symbols = at.symbols + before;
-        have = grow(&s[pairs..], &s[symbols..], count, &old, have, codes);
+        have = grow_step(s, pairs, symbols, count, have, codes);
         if have > MOST_WORDS {
             return have;
         }
-        before += count;
+        pairs += 2 * count;
+        symbols += count;
         t += 1;
     }
     have
@@ -213,9 +236,9 @@ fn put_sizes(s: &[u16], count: usize, file: &mut [u8])
     ensures { λ _. ⌜ Wrote (now (file .entry)) 0 (byteOf (getD (now (s .entry)) 0 0) ∷ byteOf (getD (now (s .entry)) 1 0) ∷ byteOf (getD
         (now (s .entry)) 2 0) ∷ byteOf count ∷ byteOf (count / 256) ∷ []) (now (file .exit)) 5 ⌝ }
 {
-    file[0] = byte(wide(number(s, 0)));
-    file[1] = byte(wide(number(s, 1)));
-    file[2] = byte(wide(number(s, 2)));
+    file[0] = byte_at(s, 0);
+    file[1] = byte_at(s, 1);
+    file[2] = byte_at(s, 2);
     file[3] = byte(count);
     file[4] = byte(count / 256);
 }
@@ -230,7 +253,7 @@ fn put_pairs(goals: &[u16], codes: &[u32; MOST_WORDS], count: usize, file: &mut 
     while i < count {
         let c = codes[i];
         file[at] = byte(root_of(c));
-        file[at + 1] = byte(wide(number(goals, vertex_of(c))));
+        file[at + 1] = byte_at(goals, vertex_of(c));
         at += 2;
         i += 1;
     }

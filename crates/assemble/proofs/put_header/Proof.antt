@@ -8,6 +8,9 @@ use Rattle.assemble.proofs.put_header.Tie as tie
 slice-write-sizes : tie.Need-slice-write-sizes
 slice-write-sizes c = search needs
 
+cast-sizes : tie.Need-cast-sizes
+cast-sizes c = search needs
+
 slice-write-sizes-2 : tie.Need-slice-write-sizes-2
 slice-write-sizes-2 c = simp length-set (omega arith)
 
@@ -23,4 +26,4 @@ returns c = search needs
 pub put-header-spec : {M : Type 1} → statement M
 put-header-spec =
     tie.close
-    (tie.spec slice-write-sizes slice-write-sizes-2 slice-write-sizes-3 same-length returns)
+    (tie.spec slice-write-sizes cast-sizes slice-write-sizes-2 slice-write-sizes-3 same-length returns)

@@ -3,7 +3,7 @@ use mathlib.Core.Path.{_≡_}
 use mathlib.Core.List.{List, _∷_, _++_}
 use Prim.Native.Nat.{ℕ, suc, _+_, _*_, _<_, _≤_}
 use lib.ListN.{length, getD}
-use Rattle.trellis.specs.Bounds.{mostSymbols, mostStates}
+use Rattle.trellis.specs.Bounds.{mostSymbols, mostStates, mostWords}
 use Rattle.trellis.specs.Lists.{each}
 use Rattle.trellis.specs.Layout.{joinedUp}
 use Rattle.layout.specs.inner.States.{marksBelow, markedBelow, Bits}
@@ -23,6 +23,15 @@ pub record SizesAsked (n : ℕ) (counts edgeCounts buffer : List ℕ) : Type 0 w
   pub vertexPlaces : suc n ≤ length counts
   pub edgePlaces : n ≤ length edgeCounts
   pub room : 4 + 2 * n ≤ length buffer
+
+-- the section's length, from the vertex counts and the number of all steps' edges
+abbrev pub lengthBy : ℕ → List ℕ → ℕ → ℕ
+lengthBy n counts edges = 4 + 2 * n + (getD counts 0 0 + getD counts n 0) + 3 * edges
+
+pub record LengthAsked (n : ℕ) (counts : List ℕ) (edges : ℕ) : Type 0 where
+  pub steps : n ≤ mostSymbols
+  pub vertexPlaces : suc n ≤ length counts
+  pub fewEdges : edges ≤ mostSymbols * mostWords
 
 -- document 01's layout of the parts
 unfoldable pub numbersOf : ℕ → List ℕ → List ℕ → List ℕ → List ℕ → List ℕ → List ℕ

@@ -31,13 +31,13 @@ enum-known-index-2 : tie.Need-enum-known-index-2
 enum-known-index-2 c = search needs
 
 same-length : tie.Need-same-length
-same-length c = search needs
+same-length c = let at-merge = c .before .before .before .before .before .before in at-merge .merge-table .kept .1 .1 .1 .1 .1 .0
 
 same-length-2 : tie.Need-same-length-2
-same-length-2 c = search needs
+same-length-2 c = let at-merge = c .before .before .before .before .before .before in at-merge .merge-table .kept .1 .1 .1 .1 .1 .1 .0
 
 same-length-3 : tie.Need-same-length-3
-same-length-3 c = search needs
+same-length-3 c = let at-merge = c .before .before .before .before .before .before in at-merge .merge-table .kept .1 .1 .1 .1 .1 .1 .1 .0
 
 returns : tie.Need-returns
 returns c =

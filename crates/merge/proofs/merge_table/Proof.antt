@@ -78,13 +78,13 @@ merge-words-requires c κs =
     (words-asked _ (entry .pre .0) (at-copy .copy-words .ensures) (at-wide .wide .ensures .0) _ (at-copy .before .if1 .left), entry .pre .1)
 
 same-length : tie.Need-same-length
-same-length c = search needs
+same-length c = let at-words = c .before .before .before .before .before .before in at-words .merge-words .kept .1 .1 .1 .1 .1 .1 .0
 
 same-length-2 : tie.Need-same-length-2
-same-length-2 c = search needs
+same-length-2 c = let at-words = c .before .before .before .before .before .before in at-words .merge-words .kept .1 .1 .1 .1 .1 .1 .1 .0
 
 same-length-3 : tie.Need-same-length-3
-same-length-3 c = search needs
+same-length-3 c = let at-words = c .before .before .before .before .before .before in at-words .merge-words .kept .1 .1 .1 .1 .1 .1 .1 .1 .0
 
 returns-2 : tie.Need-returns-2
 returns-2 c =

@@ -1,11 +1,13 @@
 -- `merge::merge_words` fills the inner rows, and then refuses at the first depth that is not rectangular, or finishes.
-use Rattle.merge.proofs.InnerStage.{inside, ends-written, refused, ends-refused}
-use borrow.Author.Needs.{needs}
+use mathlib.Core.Path.{refl, _∙_}
+use Rattle.merge.proofs.InnerStage.{inner-asked, inside, ends-written, refused, ends-refused}
 use Rattle.merge.proofs.merge_words.Statement.{statement}
 use Rattle.merge.proofs.merge_words.Tie as tie
 
 merge-inner-requires : tie.Need-merge-inner-requires
-merge-inner-requires c κs = search needs
+merge-inner-requires c κs =
+    let entry = c .before .before .before .before .before .before .before .before in
+    inner-asked (entry .pre .0) refl
 
 refuse-requires : tie.Need-refuse-requires
 refuse-requires c κs =
@@ -14,7 +16,10 @@ refuse-requires c κs =
     refused (entry .pre .0) (at-inner .merge-inner .ensures) (c .before .if1 .taken)
 
 same-length : tie.Need-same-length
-same-length c = search needs
+same-length c =
+    let at-refuse = c .before .before in
+    let at-inner = at-refuse .before .before .before .before .before in
+    at-refuse .refuse .kept .1 .1 .1 .1 .1 .0 ∙ at-inner .merge-inner .ensures .len
 
 returns : tie.Need-returns
 returns c =
@@ -32,13 +37,16 @@ finish-requires c κs =
     (inside (entry .pre .0) (at-inner .merge-inner .ensures) (at-else .if1 .left), entry .pre .1)
 
 same-length-2 : tie.Need-same-length-2
-same-length-2 c = search needs
+same-length-2 c =
+    let at-finish = c .before .before .before .before .before .before in
+    let at-inner = at-finish .before .before .before .before .before .before .before in
+    at-finish .finish .kept .1 .1 .1 .1 .1 .1 .1 .0 ∙ at-inner .merge-inner .ensures .len
 
 same-length-3 : tie.Need-same-length-3
-same-length-3 c = search needs
+same-length-3 c = let at-finish = c .before .before .before .before .before .before in at-finish .finish .kept .1 .1 .1 .1 .1 .1 .1 .1 .0
 
 same-length-4 : tie.Need-same-length-4
-same-length-4 c = search needs
+same-length-4 c = let at-finish = c .before .before .before .before .before .before in at-finish .finish .kept .1 .1 .1 .1 .1 .1 .1 .1 .1 .0
 
 returns-2 : tie.Need-returns-2
 returns-2 c =

@@ -23,7 +23,7 @@ enum-told : tie.Need-enum-told
 enum-told c = search needs
 
 same-length : tie.Need-same-length
-same-length c = search needs
+same-length c = let at-clear = c .before .before .before .before .before .before in at-clear .clear .kept .0
 
 returns : tie.Need-returns
 returns c =
@@ -33,7 +33,7 @@ returns c =
     (refusal-at (entry .pre .first) (at-find .find-witness .ensures) (c .before .i .given .1), at-clear .clear .ensures)
 
 same-length-2 : tie.Need-same-length-2
-same-length-2 c = search needs
+same-length-2 c = let at-clear = c .before .before .before .before .before in at-clear .clear .kept .0
 
 returns-2 : tie.Need-returns-2
 returns-2 c =

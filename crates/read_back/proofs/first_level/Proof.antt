@@ -7,13 +7,16 @@ use Rattle.read_back.proofs.first_level.Statement.{statement}
 use Rattle.read_back.proofs.first_level.Tie as tie
 
 abbrev Inv-loop : tie.InvT-loop
-Inv-loop roots count codes₀ v₀ codes v = Rooted roots count codes v
+Inv-loop s at count codes₀ v₀ codes v = Rooted s at count codes v
 
 abbrev μ-loop : tie.MeasureT-loop
-μ-loop roots count codes₀ v₀ codes v = count - v
+μ-loop s at count codes₀ v₀ codes v = count - v
 
 loop-holds : tie.Need-loop-holds Inv-loop μ-loop
-loop-holds c = rooted-start _ _ (c .before .pre .1)
+loop-holds c = rooted-start _ _ _ (c .before .pre .1)
+
+add-wider : tie.Need-add-wider Inv-loop μ-loop
+add-wider c = search needs
 
 mul-wider : tie.Need-mul-wider Inv-loop μ-loop
 mul-wider c = search needs
@@ -63,6 +66,7 @@ first-level-spec =
     Inv-loop
     μ-loop
     loop-holds
+    add-wider
     mul-wider
     shared-slice-read-wider
     wider-requires

@@ -35,14 +35,8 @@ slice-write-file c = search needs
 vertex-of-requires : tie.Need-vertex-of-requires Inv-loop μ-loop
 vertex-of-requires c κs = search needs
 
-number-requires : tie.Need-number-requires Inv-loop μ-loop
-number-requires c κs = search needs
-
-wide-requires : tie.Need-wide-requires Inv-loop μ-loop
-wide-requires c κs = search needs
-
-byte-requires-2 : tie.Need-byte-requires-2 Inv-loop μ-loop
-byte-requires-2 c κs = search needs
+byte-at-requires : tie.Need-byte-at-requires Inv-loop μ-loop
+byte-at-requires c κs = search needs
 
 add-file : tie.Need-add-file Inv-loop μ-loop
 add-file c = search needs
@@ -60,11 +54,10 @@ loop-less : tie.Need-loop-less Inv-loop μ-loop
 loop-less c = search needs
 
 loop-again : tie.Need-loop-again Inv-loop μ-loop
-loop-again c = let w = c .before in let n = w .before in let v = n .before in let b = v .before in let r = b .before in let h =
-    r .before .before in let a = h .before .before .before .before .args in
+loop-again c = let v = c .before in let b = v .before in let r = b .before in let h = r .before .before in
+    let a = h .before .before .before .before .args in
     pieces-next (h .before .loop .inv) (h .loop-test .taken) (search needs)
-    (pair-is (a .goals .now) _ (r .root-of .ensures) (b .byte .ensures) (v .vertex-of .ensures) (n .number .ensures)
-    (w .wide .ensures) (c .byte2 .ensures))
+    (pair-is (a .goals .now) _ (r .root-of .ensures) (b .byte .ensures) (v .vertex-of .ensures) (c .byte-at .ensures))
 
 same-length : tie.Need-same-length Inv-loop μ-loop
 same-length c = c .before .loop .inv .len
@@ -85,9 +78,7 @@ put-pairs-spec =
     byte-requires
     slice-write-file
     vertex-of-requires
-    number-requires
-    wide-requires
-    byte-requires-2
+    byte-at-requires
     add-file
     slice-write-file-2
     add-at

@@ -3,7 +3,7 @@
 use mathlib.Core.Path.{_≡_}
 use mathlib.Core.List.{List, [], _∷_, _++_, map, flatMap}
 use Prim.Native.Nat.{ℕ, _+_, _-_, _%_, _≤_, _<_}
-use lib.ListN.{length, getD, take}
+use lib.ListN.{length, getD, take, drop}
 use Rattle.trellis.specs.Bounds.{mostStates, mostWords}
 use Rattle.trellis.specs.Lists.{run, each}
 use Rattle.trellis.specs.Own.{Edge}
@@ -26,6 +26,16 @@ pub record StepEdges (pairs symbols : List ℕ) (count : ℕ) : Type 0 where
   pub small : EdgesSmall pairs symbols count
   pub fromsRise : (j k : ℕ) → j ≤ k → k < count → edgeIn pairs symbols j .from ≤ edgeIn pairs symbols k .from
 
+-- a list from a place on
+abbrev pub partFrom : ℕ → List ℕ → List ℕ
+partFrom at l = take (length l - at) (drop at l)
+
+-- the same where the edges' pairs and symbols begin at two places of a list
+pub record StepAt (s : List ℕ) (pairs symbols count : ℕ) : Type 0 where
+  pub pairsIn : pairs ≤ length s
+  pub symbolsIn : symbols ≤ length s
+  pub edges : StepEdges (partFrom pairs s) (partFrom symbols s) count
+
 -- the edges of vertex v among the first count are those from place a on, and a is the first of them where there is any
 pub record BeginsAt (e : ℕ → Edge) (count v a : ℕ) : Type 0 where
   pub inside : a ≤ count
@@ -44,15 +54,15 @@ pub record Gathered (s : List ℕ) (codes : List ℕ) (count : ℕ) : Type 0 whe
   pub count-is : count ≤ mostWords → count ≡ length (level s (nOf s))
   pub over : mostWords < count → mostWords < length (level s (nOf s))
 
--- the states of the vertices of depth 0, each of six bits
-pub record FirstLevel (roots : List ℕ) (count : ℕ) : Type 0 where
-  pub there : count ≤ length roots
+-- from place at on the states of the vertices of depth 0, each of six bits
+pub record FirstLevel (s : List ℕ) (at count : ℕ) : Type 0 where
+  pub there : at + count ≤ length s
   pub few : count ≤ mostWords
-  pub small : (v : ℕ) → v < count → getD roots v 0 < mostStates
+  pub small : (v : ℕ) → v < count → getD s (at + v) 0 < mostStates
 
-pub record RootCodes (roots : List ℕ) (count : ℕ) (codes : List ℕ) : Type 0 where
+pub record RootCodes (s : List ℕ) (at count : ℕ) (codes : List ℕ) : Type 0 where
   pub long : length codes ≡ mostWords
-  pub filled : take count codes ≡ each (λ v. code (getD roots v 0) v 0) count
+  pub filled : take count codes ≡ each (λ v. code (getD s (at + v) 0) v 0) count
 
 -- ---- written as bytes
 
