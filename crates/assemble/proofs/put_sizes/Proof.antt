@@ -24,7 +24,7 @@ put-numbers-requires-2 c κs =
     let s2 = c .before .before .before .before in
     let s1 = s2 .before .before .before .before .before in
     let entry = s1 .before .before .before .before .before in
-    (entry .pre .edgePlaces, room-edges (entry .pre) (s1 .put-header .ensures) (s2 .put-numbers .ensures))
+    (search needs, room-edges (entry .pre) (s1 .put-header .ensures) (s2 .put-numbers .ensures))
 
 same-length : tie.Need-same-length
 same-length c = search needs
