@@ -1,5 +1,4 @@
--- Laws about the printed lines: what the calls put, one behind another, is the text; and buffers of fixed lengths are long enough for it.
-pub mod Lines
+-- Laws about the printed text: it follows from the answer of measuring, and buffers of fixed lengths are long enough for it.
 pub mod Answering
 pub mod Room
 pub mod Refusals

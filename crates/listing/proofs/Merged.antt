@@ -26,8 +26,8 @@ use Rattle.table.proofs.Accepted.{accepted-good}
 use Rattle.merge.specs.Merging.{mapLength, written, merged, mergedTable, mergedFile, merging}
 use Rattle.merge.specs.inner.Sizes.{sectionSizes, sizedBy, sizedTable, sizedFile, sizing}
 use Rattle.text.specs.Line.{line}
-use Rattle.listing.specs.Text.{sectionWord, depthWord, additionsWord, selectionsWord}
-use Rattle.listing.specs.Text.{entering, depthLine, sums, sizesOf, refusalLine, tableText, fileText}
+use Rattle.lines.specs.Text.{sectionWord, depthWord, additionsWord, selectionsWord}
+use Rattle.lines.specs.Text.{entering, depthLine, sums, sizesOf, refusalLine, tableText, fileText}
 use Rattle.listing.specs.inner.Made.{textFrom}
 use Rattle.listing.proofs.Room.{anyMap, long-enough}
 use Rattle.listing.proofs.Refusals.{Refusal, file-refusal}

@@ -21,7 +21,7 @@ use Rattle.merge.specs.inner.Sizes.{sizing, Measured}
 use Rattle.merge.specs.declared.Merged.{Merged}
 use Rattle.text.specs.inner.Put.{Put}
 use Rattle.text.proofs.Putting.{front-holds, front-end, front-put}
-use Rattle.listing.specs.Text.{refusalLine, fileText, textOf}
+use Rattle.lines.specs.Text.{refusalLine, fileText, textOf}
 use Rattle.listing.specs.Listing.{Listing, listedOutcome, left, listing}
 use Rattle.listing.specs.inner.Made.{textFrom, anyText, TextMade}
 use Rattle.listing.specs.declared.Listed.{Listed}

@@ -20,8 +20,8 @@ use Rattle.table.specs.inner.Good.{GoodFile}
 use Rattle.table.proofs.Accepted.{accepted-good}
 use Rattle.text.specs.Line.{spaced, line}
 use Rattle.text.proofs.Decimal.{decimal-few}
-use Rattle.listing.specs.Text.{sectionWord, depthWord, additionsWord, selectionsWord, refusedWord}
-use Rattle.listing.specs.Text.{entering, depthLine, sums, sizesOf, refusalLine, tableText, fileText, textOf}
+use Rattle.lines.specs.Text.{sectionWord, depthWord, additionsWord, selectionsWord, refusedWord}
+use Rattle.lines.specs.Text.{entering, depthLine, sums, sizesOf, refusalLine, tableText, fileText, textOf}
 use Rattle.listing.specs.inner.Made.{anyText}
 use Rattle.listing.proofs.Room.{vertices-at, edges-at, edges-all}
 use Rattle.listing.proofs.Refusals.{Small, AllSmall, Refusal, too-long, witness-refusal, file-refusal}

@@ -1,4 +1,3 @@
--- The printed sizes of a table: their bytes, and what a call leaves.
-pub mod Text
+-- The printed sizes of a table: what a call leaves.
 pub mod Listing
 pub mod inner

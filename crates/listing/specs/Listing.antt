@@ -6,7 +6,7 @@ use lib.ListN.{length}
 use lib.Dec.{ltb}
 use Rattle.trellis.specs.Lists.{over}
 use Rattle.trellis.specs.Outcome.{Outcome, success, shortBuffer}
-use Rattle.listing.specs.Text.{textOf}
+use Rattle.lines.specs.Text.{textOf}
 use Rattle.listing.specs.declared.Listed.{Listed}
 use Rattle.listing.specs.declared.Listed.the-variants.{Text, Short}
 

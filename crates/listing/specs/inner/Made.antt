@@ -6,7 +6,7 @@ use lib.ListN.{length}
 use lib.Dec.{eqb}
 use Rattle.trellis.specs.Outcome.{Outcome}
 use Rattle.text.specs.inner.Put.{Put}
-use Rattle.listing.specs.Text.{sizesOf, refusalLine, textOf}
+use Rattle.lines.specs.Text.{sizesOf, refusalLine, textOf}
 
 -- the sizes where measuring comes to a section, which it answers by 7, else the refusal
 unfoldable pub textFrom : ℕ → Outcome → List ℕ → List ℕ

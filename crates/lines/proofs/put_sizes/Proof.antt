@@ -1,8 +1,8 @@
--- `listing::put_sizes` puts the sizes, the depths and the sums one behind another.
-use Rattle.listing.proofs.Lines.{sizes-put}
+-- `lines::put_sizes` puts the sizes, the depths and the sums one behind another.
+use Rattle.lines.proofs.Lines.{sizes-put}
 use borrow.Author.Needs.{needs}
-use Rattle.listing.proofs.put_sizes.Statement.{statement}
-use Rattle.listing.proofs.put_sizes.Tie as tie
+use Rattle.lines.proofs.put_sizes.Statement.{statement}
+use Rattle.lines.proofs.put_sizes.Tie as tie
 
 number-requires : tie.Need-number-requires
 number-requires c κs = search needs

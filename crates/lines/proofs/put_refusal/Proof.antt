@@ -1,10 +1,10 @@
--- `listing::put_refusal` puts the number and the first values, which are those returned with it.
+-- `lines::put_refusal` puts the number and the first values, which are those returned with it.
 use mathlib.Core.Path.{sym}
 use lib.Seq.{length-take-le}
-use Rattle.listing.proofs.Answering.{refusal-put}
+use Rattle.lines.proofs.Refusal.{refusal-put}
 use borrow.Author.Needs.{needs}
-use Rattle.listing.proofs.put_refusal.Statement.{statement}
-use Rattle.listing.proofs.put_refusal.Tie as tie
+use Rattle.lines.proofs.put_refusal.Statement.{statement}
+use Rattle.lines.proofs.put_refusal.Tie as tie
 
 cast-numbers : tie.Need-cast-numbers
 cast-numbers c = search needs

@@ -1,10 +1,10 @@
--- `listing::put_depths` puts a line for each depth. The loop's invariant: the lines of the depths passed are put. The measure is how many
+-- `lines::put_depths` puts a line for each depth. The loop's invariant: the lines of the depths passed are put. The measure is how many
 -- are left.
 use Prim.Native.Nat.{suc, _-_}
-use Rattle.listing.proofs.Lines.{Depths, depths-start, depths-next, depths-all}
+use Rattle.lines.proofs.Lines.{Depths, depths-start, depths-next, depths-all}
 use borrow.Author.Needs.{needs}
-use Rattle.listing.proofs.put_depths.Statement.{statement}
-use Rattle.listing.proofs.put_depths.Tie as tie
+use Rattle.lines.proofs.put_depths.Statement.{statement}
+use Rattle.lines.proofs.put_depths.Tie as tie
 
 abbrev Inv-loop : tie.InvT-loop
 Inv-loop sizes n text₀ at end₀ t₀ t8 text end t = Depths sizes n text₀ at text end t

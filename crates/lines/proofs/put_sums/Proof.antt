@@ -1,8 +1,8 @@
--- `listing::put_sums` puts the lines of the sums of the section's counts.
-use Rattle.listing.proofs.Lines.{sums-put}
+-- `lines::put_sums` puts the lines of the sums of the section's counts.
+use Rattle.lines.proofs.Lines.{sums-put}
 use borrow.Author.Needs.{needs}
-use Rattle.listing.proofs.put_sums.Statement.{statement}
-use Rattle.listing.proofs.put_sums.Tie as tie
+use Rattle.lines.proofs.put_sums.Statement.{statement}
+use Rattle.lines.proofs.put_sums.Tie as tie
 
 add-total : tie.Need-add-total
 add-total c = search needs

@@ -1,8 +1,8 @@
--- `listing::edges_entering` reads how many edges the step before depth t has; no edge enters depth 0.
-use Rattle.listing.proofs.Lines.{entering-none, entering-some}
+-- `lines::edges_entering` reads how many edges the step before depth t has; no edge enters depth 0.
+use Rattle.lines.proofs.Lines.{entering-none, entering-some}
 use borrow.Author.Needs.{needs}
-use Rattle.listing.proofs.edges_entering.Statement.{statement}
-use Rattle.listing.proofs.edges_entering.Tie as tie
+use Rattle.lines.proofs.edges_entering.Statement.{statement}
+use Rattle.lines.proofs.edges_entering.Tie as tie
 
 returns : tie.Need-returns
 returns c = entering-none (c .before .before .args .sizes .now) (c .before .before .args .t) (c .if1 .taken)

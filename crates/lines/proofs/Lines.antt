@@ -10,7 +10,7 @@ use Rattle.trellis.specs.Layout.{qOf, nOf, statesOf, vertexCountOf, edgeCountOf
 use Rattle.text.specs.Line.{line}
 use Rattle.text.specs.inner.Put.{Put}
 use Rattle.text.proofs.Putting.{put-none, put-then}
-use Rattle.listing.specs.Text.{sectionWord, depthWord, additionsWord, selectionsWord, entering, depthLine, sums, sizesOf}
+use Rattle.lines.specs.Text.{sectionWord, depthWord, additionsWord, selectionsWord, entering, depthLine, sums, sizesOf}
 
 -- ---- depths
 

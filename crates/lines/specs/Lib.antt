@@ -1,0 +1,2 @@
+-- What document 01 prints for a table file, as bytes.
+pub mod Text
