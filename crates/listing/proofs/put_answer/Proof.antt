@@ -1,4 +1,4 @@
--- `listing::put_answer` puts the sizes where the answer's number is 0, and else the line of the refusal.
+-- `listing::put_answer` puts the sizes where the answer's number is 7, and else the line of the refusal.
 use Rattle.listing.proofs.Answering.{sizes-answered, refusal-answered}
 use borrow.Author.Needs.{needs}
 use Rattle.listing.proofs.put_answer.Statement.{statement}
