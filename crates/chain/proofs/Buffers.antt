@@ -5,9 +5,9 @@ use mathlib.Core.List.{List}
 use Prim.Native.Nat.{ℕ, _*_, _≤_, _<_}
 use native.Mathlib.Decide.{decLt}
 use native.Mathlib.Omega.{arith}
-use lib.ListN.{length, replicate, length-replicate}
+use lib.ListN.{length}
 use borrow.Author.Tests.{lt-ltb, le-ltb}
-use Rattle.trellis.specs.Bounds.{mostBlocks, costsABlock}
+use Rattle.trellis.specs.Bounds.{costsABlock}
 use Rattle.chain.specs.Decoding.{neededOf}
 use Rattle.chain.specs.inner.Checked.{Room}
 
@@ -40,7 +40,3 @@ room-of {indices} {costs} {labels} {goals} {n} pos e h =
     go (no a) (yes b) c = let z = e ∙ sym (needed-labels _ _ _ _ (omega arith) b) in absurd (omega arith)
     go (no a) (no b) (yes c) = let z = e ∙ sym (needed-goals _ _ _ _ (omega arith) (omega arith) c) in absurd (omega arith)
     go (no a) (no b) (no c) = record { none-short = omega arith; forCosts = omega arith; forLabels = omega arith; forGoals = omega arith }
-
--- so many picks are enough for every frame
-pub picks-enough : {blocks : ℕ} → blocks ≤ mostBlocks → costsABlock * blocks ≤ length (replicate {A = ℕ} (costsABlock * mostBlocks) 0)
-picks-enough h = omega (arith, length-replicate {A = ℕ} (costsABlock * mostBlocks) 0)

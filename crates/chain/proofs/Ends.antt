@@ -1,6 +1,7 @@
 -- Behind all checks. The blocks as the code holds them are the frame's: the places that were found are the places where the sections begin.
--- So the table that is filled is the frame's cost table, as no distance reaches its mark for no path. Where the start state's place has
--- that mark there is no path; elsewhere the path that is followed is the first of least distance.
+-- So the notes are the frame's, and as a block adds 8 at most, the costs made of them are the frame's cost table, in which no distance
+-- reaches the mark for no path. Where the start state has that mark there is no path; elsewhere the path that is followed is the first of
+-- least distance.
 use mathlib.Core.Path.{_≡_, refl, sym, ap, subst, _∙_}
 use mathlib.Core.List.{List, map}
 use Prim.Native.Nat.{ℕ, _+_, _-_, _*_, _/_, _%_, _≤_, _<_}
@@ -27,8 +28,9 @@ use Rattle.sections.specs.Sections.{sectionStart, sectionAt}
 use Rattle.sections.proofs.Sections.{long-enough}
 use Rattle.block.specs.Received.{blockDistance}
 use Rattle.block.proofs.Costs.{block-at-most}
-use Rattle.passes.specs.inner.Chains.{Chain, leastFrom, pathFrom, CostsFrom, Written, Followed, FollowedTo}
+use Rattle.passes.specs.inner.Chains.{Chain, leastFrom, pathFrom, NotesFrom, Written, Followed, FollowedTo}
 use Rattle.cost_table.specs.inner.Filled.{EndRow, EndsAs, HeldBlocks, heldBlocks, blockPart, viewAt, Ready, ChainOf, Filled}
+use Rattle.cost_table.specs.inner.Settled.{Cheap, Settling, Settled}
 use Rattle.chain.specs.Frame.{Frame, frame, blockCount, blockSection, blockWords, wordDistance}
 use Rattle.chain.specs.Decoding.{left, bestOf, tableOf, found, fitted}
 use Rattle.chain.specs.inner.Checked.{FrameChecked, Checked, Room}
@@ -115,17 +117,42 @@ module _ {f : Frame} {starts : List ℕ} {views : List View} (K : FrameChecked f
   abbrev path : List Word
   path = pathFrom (chainOf f) 0 (f .start)
 
-  module _ {ends costs new oldPicks picks labels goals : List ℕ} (E : EndRow (f .end) ends) (R : Room (f .indices) costs labels goals)
-      (F : Filled heldOf ends costs new oldPicks picks) where
+  -- so what a block adds is told by its remainder
+  cheap : Cheap (chainOf f)
+  cheap = record { below = λ b h w. omega (arith, distance-to b w) }
+
+  module _ {ends toPay costs notes labels goals : List ℕ} (E : EndRow (f .end) ends) (R : Room (f .indices) costs labels goals)
+      (F : Filled heldOf ends toPay costs notes) where
     ends-as : EndsAs (chainOf f) ends
     ends-as = record { at = E .at }
 
-    filled : CostsFrom (chainOf f) 0 new
-    filled = F .costs (chainOf f) chain-of ends-as
+    noted : NotesFrom (chainOf f) 0 notes
+    noted = F .noted (chainOf f) chain-of ends-as
 
-    table-over : new ≡ over (tableOf f) costs
+    pub settling : Settling (f .sections) starts views (f .indices) ends notes
+    settling = record {
+      received = f .received;
+      erased = f .erased;
+      ready = ready;
+      unrooted = F .unrooted;
+      chain = chainOf f;
+      blocksIs = refl;
+      cheap = cheap;
+      endsAs = ends-as;
+      noted = noted;
+      endsLong = E .long;
+      long = omega (arith, F .long, R .forCosts);
+    }
+
+    -- what is left to pay in the start state
+    start-at : getD toPay (f .start) 0 ≡ leastFrom (chainOf f) 0 (f .start)
+    start-at = F .leftIs (chainOf f) chain-of ends-as .at (f .start) (K .framed .startBelow)
+
+    table-over : {new : List ℕ} → Settled (blockCount f) ends notes new → new ≡ over (tableOf f) costs
     unfolding tableOf
-    table-over = over-is (tableOf f) costs new (omega (arith, long, R .forCosts)) (F .long) at (λ i h. F .kept i (omega (arith, long)))
+    table-over {new} S =
+        over-is (tableOf f) costs new (omega (arith, long, R .forCosts)) (S .long ∙ F .long) at
+        (λ i h. S .kept i (omega (arith, long)) ∙ F .kept i (omega (arith, long)))
       where
         long : length (tableOf f) ≡ costsABlock * blockCount f
         long = length-run _ 0 (costsABlock * blockCount f)
@@ -135,19 +162,15 @@ module _ {f : Frame} {starts : List ℕ} {views : List View} (K : FrameChecked f
             let l = long in
             let e : costsABlock * (i / costsABlock) + i % costsABlock ≡ i = omega arith in
             ap (λ j. getD new j 0) (sym e)
-            ∙ filled .at (i / costsABlock) (i % costsABlock) (omega arith) (omega arith) (omega arith)
+            ∙ S .costs (chainOf f) refl cheap ends-as noted
+            .at (i / costsABlock) (i % costsABlock) (omega arith) (omega arith) (omega arith)
             ∙ least-is (i / costsABlock) (i % costsABlock)
             ∙ sym (each-at (λ j. tableFrom (j / costsABlock) (j % costsABlock)) (costsABlock * blockCount f) i 0 (omega arith))
 
-    -- the start state's place
-    start-at : getD new (f .start) 0 ≡ leastFrom (chainOf f) 0 (f .start)
-    start-at =
-        let a : costsABlock * 0 + f .start ≡ f .start = omega arith in
-        ap (λ j. getD new j 0) (sym a) ∙ filled .at 0 (f .start) (omega arith) (K .framed .some) (K .framed .startBelow)
-
-    pub ends-none : getD new (f .start) 0 ≡ unreached → left noPath new labels goals ≡ fitted f costs labels goals
+    pub ends-none : getD toPay (f .start) 0 ≡ unreached → {new : List ℕ} → Settled (blockCount f) ends notes new
+        → left noPath new labels goals ≡ fitted f costs labels goals
     unfolding found bestOf
-    ends-none e =
+    ends-none e S =
         let z = sub-zero (blockCount f) in
         let t : costTable (blockWords f) (endsIn (f .end)) (wordDistance f) (blockCount f) 0 (f .start) ≡ unreached
         = ap (λ j. costTable (blockWords f) (endsIn (f .end)) (wordDistance f) j 0 (f .start)) (sym z) ∙ sym (least-is 0 (f .start))
@@ -156,32 +179,32 @@ module _ {f : Frame} {starts : List ℕ} {views : List View} (K : FrameChecked f
         let n : best ≡ none
         = no-path (blockWords f) (endsIn (f .end)) (wordDistance f) mostSymbols distance-to (blockCount f) 0 (f .start) (omega arith) t in
         past-room f costs labels goals (R .none-short)
-        (ap (λ c. left noPath c labels goals) table-over ∙ sym (ap (found f costs labels goals) n))
+        (ap (λ c. left noPath c labels goals) (table-over S) ∙ sym (ap (found f costs labels goals) n))
 
-    module _ (n : getD new (f .start) 0 ≡ unreached → ⊥) where
+    module _ (n : getD toPay (f .start) 0 ≡ unreached → ⊥) where
       opened : leastFrom (chainOf f) 0 (f .start) < unreached
       unfolding leastFrom
       opened = go (decLt (leastFrom (chainOf f) 0 (f .start)) unreached) start-at
           (least-le (blockWords f) (endsIn (f .end)) (wordDistance f) unreached (blockCount f - 0) 0 (f .start))
         where
-          go : {a : ℕ} → Dec (a < unreached) → getD new (f .start) 0 ≡ a → a ≤ unreached → a < unreached
+          go : {a : ℕ} → Dec (a < unreached) → getD toPay (f .start) 0 ≡ a → a ≤ unreached → a < unreached
           go (yes i) c l = i
           go (no i) c l = absurd (n (omega arith))
 
-      pub followed : costsABlock * blockCount f ≤ length oldPicks → Followed (blockCount f) (f .start) picks labels goals
-      followed p = record {
+      pub followed : Followed (blockCount f) (f .start) notes labels goals
+      followed = record {
         chain = chainOf f;
         blocksIs = refl;
-        picked = F .picked (chainOf f) chain-of ends-as;
+        noted = noted;
         start-lt = K .framed .startBelow;
         some = opened;
-        long = omega (arith, F .picksLong);
+        long = omega (arith, F .long, R .forCosts);
         few = K .framed .many;
         labelsLong = R .forLabels;
         goalsLong = R .forGoals;
       }
 
-      best-some : best ≡ some (getD new (f .start) 0) path
+      best-some : best ≡ some (getD toPay (f .start) 0) path
       unfolding leastFrom pathFrom
       best-some =
           ap (λ j. bestPath (blockWords f) (endsIn (f .end)) (wordDistance f) j 0 (f .start)) (sym (sub-zero (blockCount f)))
@@ -203,22 +226,23 @@ module _ {f : Frame} {starts : List ℕ} {views : List View} (K : FrameChecked f
           (λ i h. front i (omega arith) ∙ sym (ap (getD (map g path) i) (sym blank) ∙ List·getD-map g path i (word 0 0 0)))
           (λ i h. back i (omega arith))
 
-      pub ends-path : {newLabels newGoals : List ℕ} → FollowedTo (blockCount f) (f .start) picks labels newLabels goals newGoals
-          → left (success (getD new (f .start) 0)) new newLabels newGoals ≡ fitted f costs labels goals
+      pub ends-path : {new newLabels newGoals : List ℕ} → FollowedTo (blockCount f) (f .start) notes labels newLabels goals newGoals
+          → Settled (blockCount f) ends notes new
+          → left (success (getD toPay (f .start) 0)) new newLabels newGoals ≡ fitted f costs labels goals
       unfolding found bestOf
-      ends-path {newLabels} {newGoals} T =
+      ends-path {new} {newLabels} {newGoals} T S =
           past-room f costs labels goals (R .none-short)
-          (whole table-over
+          (whole (table-over S)
           (put (λ w. w .label) labels newLabels (R .forLabels) (T .labelsLong) (Z .labelAt) (Z .labelsKept) refl)
           (put (λ w. w .goal) goals newGoals (R .forGoals) (T .goalsLong) (Z .goalAt) (Z .goalsKept) refl)
           ∙ sym (ap (found f costs labels goals) best-some))
         where
           Z : Written (chainOf f) (f .start) (blockCount f) labels newLabels goals newGoals
-          Z = T .written (chainOf f) refl (F .picked (chainOf f) chain-of ends-as) opened
+          Z = T .written (chainOf f) refl noted opened
 
           whole : {a b c : List ℕ} → new ≡ a → newLabels ≡ b → newGoals ≡ c
-              → left (success (getD new (f .start) 0)) new newLabels newGoals ≡ left (success (getD new (f .start) 0)) a b c
-          whole p q r = λ i. left (success (getD new (f .start) 0)) (p i) (q i) (r i)
+              → left (success (getD toPay (f .start) 0)) new newLabels newGoals ≡ left (success (getD toPay (f .start) 0)) a b c
+          whole p q r = λ i. left (success (getD toPay (f .start) 0)) (p i) (q i) (r i)
 
 -- behind fault 9 K plays no part
 pub any-k : (sections indices received erased : List ℕ) (start end i j : ℕ) (costs labels goals : List ℕ)
@@ -230,29 +254,33 @@ any-k sections indices received erased start end i j costs labels goals = refl
 -- ---- as the code has it: the states are widened, and K is any
 
 module _ {sections starts : List ℕ} {views : List View} {indices received erased : List ℕ} {start end from to : ℕ}
-    {ends costs new oldPicks picks labels goals : List ℕ} (C : Checked sections starts views indices received erased start end)
+    {ends toPay costs notes labels goals : List ℕ} (C : Checked sections starts views indices received erased start end)
     (p : from ≡ start) (q : to ≡ end) (E : EndRow to ends) (R : Room indices costs labels goals)
-    (F : Filled (heldBlocks sections starts views indices received erased) ends costs new oldPicks picks) where
+    (F : Filled (heldBlocks sections starts views indices received erased) ends toPay costs notes) where
   E-end : EndRow end ends
   E-end = subst (λ x. EndRow x ends) q E
 
-  pub with-none : getD new from 0 ≡ unreached
+  pub with-notes : Settling sections starts views indices ends notes
+  with-notes = settling (C .checks) E-end R F
+
+  pub with-none : getD toPay from 0 ≡ unreached → {new : List ℕ} → Settled (length indices) ends notes new
       → (k : ℕ) → left noPath new labels goals ≡ fitted (frame sections k indices received erased start end) costs labels goals
-  with-none e k =
-      ends-none (C .checks) E-end R F (ap (λ x. getD new x 0) (sym p) ∙ e)
+  with-none e S k =
+      ends-none (C .checks) E-end R F (ap (λ x. getD toPay x 0) (sym p) ∙ e) S
       ∙ any-k sections indices received erased start end (C .k) k costs labels goals
 
-  module _ (n : getD new from 0 ≡ unreached → ⊥) where
-    n-start : getD new start 0 ≡ unreached → ⊥
-    n-start e = n (ap (λ x. getD new x 0) p ∙ e)
+  module _ (n : getD toPay from 0 ≡ unreached → ⊥) where
+    n-start : getD toPay start 0 ≡ unreached → ⊥
+    n-start e = n (ap (λ x. getD toPay x 0) p ∙ e)
 
-    pub with-picks : costsABlock * length indices ≤ length oldPicks → Followed (length indices) from picks labels goals
-    with-picks l = subst (λ x. Followed (length indices) x picks labels goals) (sym p) (followed (C .checks) E-end R F n-start l)
+    pub with-way : Followed (length indices) from notes labels goals
+    with-way = subst (λ x. Followed (length indices) x notes labels goals) (sym p) (followed (C .checks) E-end R F n-start)
 
-    pub with-path : {newLabels newGoals : List ℕ} → FollowedTo (length indices) from picks labels newLabels goals newGoals
-        → (k : ℕ) → left (success (getD new from 0)) new newLabels newGoals
+    pub with-path : {new newLabels newGoals : List ℕ} → FollowedTo (length indices) from notes labels newLabels goals newGoals
+        → Settled (length indices) ends notes new
+        → (k : ℕ) → left (success (getD toPay from 0)) new newLabels newGoals
         ≡ fitted (frame sections k indices received erased start end) costs labels goals
-    with-path {newLabels} {newGoals} T k =
-        ap (λ x. left (success (getD new x 0)) new newLabels newGoals) p
-        ∙ ends-path (C .checks) E-end R F n-start (subst (λ x. FollowedTo (length indices) x picks labels newLabels goals newGoals) p T)
+    with-path {new} {newLabels} {newGoals} T S k =
+        ap (λ x. left (success (getD toPay x 0)) new newLabels newGoals) p
+        ∙ ends-path (C .checks) E-end R F n-start (subst (λ x. FollowedTo (length indices) x notes labels newLabels goals newGoals) p T) S
         ∙ any-k sections indices received erased start end (C .k) k costs labels goals

@@ -3,15 +3,18 @@
 // the three buffers.
 ghost use mathlib.Core.Path.{_≡_};
 ghost use mathlib.Core.List.{List};
-ghost use Prim.Native.Nat.{ℕ, _*_, _≤_};
+ghost use Prim.Native.Nat.{ℕ, _≤_};
 ghost use lib.ListN.{length};
-ghost use Rattle.trellis.specs.Bounds.{mostBlocks, costsABlock};
+ghost use Rattle.trellis.specs.Bounds.{mostBlocks};
 ghost use Rattle.trellis.specs.Lists.{first};
 ghost use Rattle.outcomes.specs.inner.Holds.{Holds};
 ghost use Rattle.sections.specs.inner.Found.{SectionsFound, AllFound};
 ghost use Rattle.chain.specs.Frame.{frame, frameBad, blockBad};
 ghost use Rattle.chain.specs.Decoding.{left, neededOf, fitted, framed, decoding, decodedOutcome};
 ghost use Rattle.chain.specs.inner.Checked.{Views, Checked, Room};
+use cost_table::ends_in;
+use cost_table::fill;
+use cost_table::settle;
 use numbers::is_within;
 use numbers::widened;
 use outcomes::Returned;
@@ -23,9 +26,6 @@ use section_file::View;
 use trellis::COSTS_A_BLOCK;
 use trellis::MOST_BLOCKS;
 use trellis::MOST_SECTIONS;
-
-// Frames of so many blocks have a small array for their picks.
-const FEW_BLOCKS: usize = 16;
 
 // The bound on states in the width of a state.
 const MOST_STATES: u8 = trellis::MOST_STATES as u8;
@@ -113,8 +113,8 @@ fn needed(blocks: usize, costs: usize, labels: usize, goals: usize) -> usize
     if goals < blocks { blocks } else { 0 }
 }
 
-// The two passes: the cost table, and where it has a path from the start state, the words of the first best one. K plays no part here, so
-// the promise is for any.
+// Backward over the blocks to the distance, with notes in the cost table; where there is a path from the start state, forward along the notes
+// to its words; and the notes turned into costs. K plays no part here, so the promise is for any.
 fn decode_with(
     sections: &[u16],
     starts: &[usize; MOST_SECTIONS + 1],
@@ -124,39 +124,32 @@ fn decode_with(
     erased: &[u8],
     start: u8,
     end: u8,
-    picks: &mut [u32],
     costs: &mut [u32],
     labels: &mut [u16],
     goals: &mut [u8],
 ) -> Decoded
     requires { ⌜ Checked (now sections) (now starts) views (now indices) (now received) (now erased) start end
-        × Room (now indices) (now costs) (now labels) (now goals) × (costsABlock * length (now indices) ≤ length (now picks)) ⌝ }
+        × Room (now indices) (now costs) (now labels) (now goals) ⌝ }
     ensures { λ r. ⌜ ((k : ℕ) → left (decodedOutcome r) (now (costs .exit)) (now (labels .exit)) (now (goals .exit))
         ≡ fitted (frame (now (sections .entry)) k (now (indices .entry)) (now (received .entry)) (now (erased .entry)) start end)
         (now (costs .entry)) (now (labels .entry)) (now (goals .entry))) ⌝ }
 {
     let from = widened(start);
-    let ends = cost_table::ends_in(widened(end));
-    cost_table::fill(
-        sections,
-        starts,
-        views,
-        indices,
-        received,
-        erased,
-        ends,
-        costs,
-        picks,
+    let ends = ends_in(widened(end));
+    let to_pay = fill(
+        sections, starts, views, indices, received, erased, ends, costs,
     );
-    let distance = costs[from];
+    let distance = to_pay[from];
     if distance == NO_PATH {
+        settle(sections, starts, views, indices, ends, costs);
         return Decoded::NoPath;
     }
-    follow(indices.len(), from, picks, labels, goals);
+    follow(indices.len(), from, costs, labels, goals);
+    settle(sections, starts, views, indices, ends, costs);
     Decoded::Distance(distance)
 }
 
-// Fault 10, and then the passes. A frame of few blocks has a smaller array for its picks, since an array has to be cleared.
+// Fault 10, and then what follows where there is none.
 fn decode_blocks(
     sections: &[u16],
     starts: &[usize; MOST_SECTIONS + 1],
@@ -179,24 +172,6 @@ fn decode_blocks(
     if short > 0 {
         return Decoded::Short(short);
     }
-    if indices.len() <= FEW_BLOCKS {
-        let mut picks = [0u32; COSTS_A_BLOCK * FEW_BLOCKS];
-        return decode_with(
-            sections,
-            starts,
-            views,
-            indices,
-            received,
-            erased,
-            start,
-            end,
-            &mut picks,
-            costs,
-            labels,
-            goals,
-        );
-    }
-    let mut picks = [0u32; COSTS_A_BLOCK * MOST_BLOCKS];
     decode_with(
         sections,
         starts,
@@ -206,7 +181,6 @@ fn decode_blocks(
         erased,
         start,
         end,
-        &mut picks,
         costs,
         labels,
         goals,

@@ -1,3 +1,4 @@
--- Why the cost table and the picks are the chain's.
+-- Why the notes are the chain's, and the costs made of them.
 pub mod Rows
 pub mod Tables
+pub mod Settling

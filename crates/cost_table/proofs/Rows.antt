@@ -1,4 +1,4 @@
--- Rows of numbers, one for each state: copied number by number, lent as a part of a longer list and put back in its place.
+-- Rows of numbers, one for each state: the row behind the last block, and a row lent as a part of a longer list and put back in its place.
 use mathlib.Core.Path.{_≡_, sym, ap, subst, _∙_}
 use mathlib.Core.Bool.{cond}
 use mathlib.Core.Logic.{⊎-elim}
@@ -15,24 +15,7 @@ use Rattle.trellis.specs.Bounds.{mostStates, costsABlock}
 use Rattle.paths.specs.Chain.{unreached, endsIn}
 use Rattle.paths.specs.inner.Chains.{atEnd}
 use Rattle.passes.specs.inner.Chains.{RowWritten}
-use Rattle.cost_table.specs.inner.Filled.{RowCopied, EndRow}
-
--- ---- copied
-
-pub copy-start : {row place : List ℕ} → length place ≡ mostStates → RowCopied row place 0
-copy-start h = record { long = h; at = λ u l. absurd (not-suc-le-zero l) }
-
-pub copy-more : {row place : List ℕ} {s : ℕ} → RowCopied row place s → s < mostStates → RowCopied row (set place s (getD row s 0)) (s + 1)
-copy-more {row} {place} {s} I h = record { long = simp length-set (I .long); at = λ u l. go u l (ℕ-discrete u s) }
-  where
-    go : (u : ℕ) → u < s + 1 → Dec (u ≡ s) → getD (set place s (getD row s 0)) u 0 ≡ getD row u 0
-    go u l (yes e) =
-        subst (λ x. getD (set place s (getD row s 0)) x 0 ≡ getD row x 0) (sym e)
-        (getD-set-same place s (getD row s 0) 0 (omega (arith, I .long)))
-    go u l (no e) = getD-set-other place s u (getD row s 0) 0 e ∙ I .at u (omega arith)
-
-pub copy-end : {row place : List ℕ} {s : ℕ} → RowCopied row place s → mostStates ≤ s → RowCopied row place mostStates
-copy-end I h = record { long = I .long; at = λ u l. I .at u (omega arith) }
+use Rattle.cost_table.specs.inner.Filled.{EndRow}
 
 -- ---- nothing to pay in the end state
 

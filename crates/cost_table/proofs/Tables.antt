@@ -1,35 +1,35 @@
--- The loop over the blocks: what is left to pay, the cost table and the picks are those of whatever chain the blocks are, from block b on.
--- One block more is passed as the laws of a chain say, and its rows are put in their places.
+-- The loop over the blocks: what is left to pay and the notes are those of whatever chain the blocks are, from block b on. One block more is
+-- passed as the laws of a chain say, and its row is put in its place.
 use mathlib.Core.Path.{_≡_, refl, sym, ap, subst, _∙_}
 use mathlib.Core.Logic.{inr}
 use mathlib.Core.List.{List}
 use Prim.Native.Nat.{ℕ, suc, _+_, _-_, _*_, _≤_, _<_}
-use native.Mathlib.Decide.{decLt}
+use native.Mathlib.Decide.{decLt, ℕ-discrete}
 use native.Mathlib.Omega.{arith}
 use lib.ListN.{length, getD, take, drop, replicate, length-replicate, getD-replicate, List·getD-eq-default}
 use Rattle.trellis.specs.Bounds.{mostStates, mostWords, mostSections, costsABlock}
-use Rattle.trellis.specs.Layout.{nOf}
+use Rattle.trellis.specs.Layout.{nOf, vertexCountOf, rootState}
 use Rattle.trellis.proofs.Lists.{rest-of}
+use Rattle.paths.specs.Chain.{unreached}
 use Rattle.paths.specs.inner.OneBlock.{wordPrice}
 use Rattle.paths.specs.inner.Ranked.{topRank, PriceRoom}
 use Rattle.section_file.specs.inner.View.{Seen}
 use Rattle.block.specs.Received.{symbolCost, blockDistance}
 use Rattle.block.specs.inner.Prices.{Prices}
 use Rattle.passes.specs.inner.Blocks.{BlockPassed}
-use Rattle.passes.specs.inner.Chains.{Chain, LeftAt, CostsFrom, Picked, RowWritten}
-use Rattle.passes.proofs.Chains.{Uses, left-last, left-more, pick-more, costs-more, picks-more}
+use Rattle.passes.specs.inner.Chains.{Chain, LeftAt, NotesFrom, RowWritten}
+use Rattle.passes.proofs.Chains.{Uses, left-last, left-more, note-more, notes-more}
 use Rattle.sections.specs.inner.Found.{noView}
-use Rattle.cost_table.specs.inner.Filled.{RowCopied, Working, BlockFilled, EndsAs, HeldBlocks, blockPart, Ready, ChainOf, Filled}
+use Rattle.cost_table.specs.inner.Filled.{Working, BlockFilled, EndsAs, HeldBlocks, blockPart, Ready, ChainOf, Unrooted, Filled}
 
-pub record InFill (H : HeldBlocks) (ends old new oldPicks picks left prices even odd : List ℕ) (b : ℕ) : Type 0 where
+pub record InFill (H : HeldBlocks) (ends old notes left prices even odd : List ℕ) (b : ℕ) : Type 0 where
   pub b-le : b ≤ length (H .indices)
-  pub long : length new ≡ length old
-  pub picksLong : length picks ≡ length oldPicks
+  pub long : length notes ≡ length old
   pub working : Working left prices even odd
-  pub kept : (i : ℕ) → costsABlock * length (H .indices) ≤ i → getD new i 0 ≡ getD old i 0
+  pub kept : (i : ℕ) → costsABlock * length (H .indices) ≤ i → getD notes i 0 ≡ getD old i 0
+  pub unrooted : Unrooted H b notes
   pub leftIs : (C : Chain) → ChainOf H C → EndsAs C ends → LeftAt C b left
-  pub costs : (C : Chain) → ChainOf H C → EndsAs C ends → CostsFrom C b new
-  pub picked : (C : Chain) → ChainOf H C → EndsAs C ends → Picked C b picks
+  pub noted : (C : Chain) → ChainOf H C → EndsAs C ends → NotesFrom C b notes
 
 -- prices that are not there yet
 room-none : PriceRoom (replicate 32 0)
@@ -42,12 +42,11 @@ room-none = record { long = length-replicate {A = ℕ} 32 0; small = λ i. go i 
         let e = List·getD-eq-default {A = ℕ} (replicate 32 0) 0 {n = i} (omega arith) in
         omega arith
 
-pub fill-start : {H : HeldBlocks} {ends costs picks : List ℕ} → length ends ≡ mostStates
-    → InFill H ends costs costs picks picks ends (replicate 32 0) (replicate mostWords 0) (replicate mostWords 0) (length (H .indices))
-fill-start {H} {ends} {costs} {picks} h = record {
+pub fill-start : {H : HeldBlocks} {ends notes : List ℕ} → length ends ≡ mostStates
+    → InFill H ends notes notes ends (replicate 32 0) (replicate mostWords 0) (replicate mostWords 0) (length (H .indices))
+fill-start {H} {ends} {notes} h = record {
   b-le = omega arith;
   long = refl;
-  picksLong = refl;
   working = record {
     leftLong = h;
     room = room-none;
@@ -55,17 +54,17 @@ fill-start {H} {ends} {costs} {picks} h = record {
     oddLong = length-replicate {A = ℕ} mostWords 0;
   };
   kept = λ i k. refl;
+  unrooted = record { at = λ c s k l. absurd (omega arith) };
   leftIs = λ C O E. subst (λ b. LeftAt C b ends) (O .blocksIs) (left-last C ends (E .at));
-  costs = λ C O E. record { at = λ c s k l. absurd (omega (arith, O .blocksIs)) };
-  picked = λ C O E. record { at = λ c s k l. absurd (omega (arith, O .blocksIs)) };
+  noted = λ C O E. record { at = λ c s k l. absurd (omega (arith, O .blocksIs)) };
 }
 
 -- ---- one block, as the code takes it
 
-pub block-filled : {l : List ℕ} {n received mask : ℕ} {prices left new costs picks : List ℕ} → n ≡ nOf l → Prices n received mask prices
-    → BlockPassed l prices left new picks → RowCopied new costs mostStates → BlockFilled l received mask left new costs picks
-block-filled {received = received} {mask} {prices} e P B C =
-    record { prices = prices; priced = subst (λ n. Prices n received mask prices) e P; passed = B; copied = C }
+pub block-filled : {l : List ℕ} {n received mask : ℕ} {prices left new notes : List ℕ} → n ≡ nOf l → Prices n received mask prices
+    → BlockPassed l prices left new notes → BlockFilled l received mask left new notes
+block-filled {received = received} {mask} {prices} e P B =
+    record { prices = prices; priced = subst (λ n. Prices n received mask prices) e P; passed = B }
 
 pub record BlockAt (H : HeldBlocks) (b i : ℕ) : Type 0 where
   pub index-lt : i < mostSections
@@ -88,33 +87,25 @@ block-at {H} {b} {i} R h e =
       few = omega (arith, R .many);
     }
 
-pub filled-part : {H : HeldBlocks} {b i received mask : ℕ} {left new costs picks : List ℕ} → BlockAt H b i
+pub filled-part : {H : HeldBlocks} {b i received mask : ℕ} {left new notes : List ℕ} → BlockAt H b i
     → BlockFilled (take (length (H .sections) - getD (H .starts) i 0) (drop (getD (H .starts) i 0) (H .sections))) received mask left new
-    costs picks
-    → BlockFilled (blockPart H b) received mask left new costs picks
-filled-part {received = received} {mask} {left} {new} {costs} {picks} A B =
-    subst (λ l. BlockFilled l received mask left new costs picks) (A .part-is) B
+    notes
+    → BlockFilled (blockPart H b) received mask left new notes
+filled-part {received = received} {mask} {left} {new} {notes} A B =
+    subst (λ l. BlockFilled l received mask left new notes) (A .part-is) B
 
--- the rows of the block in the two lists
-pub record RowsAt (H : HeldBlocks) (costs picks : List ℕ) (b : ℕ) : Type 0 where
-  pub costs-in : costsABlock * b + costsABlock ≤ length costs
-  pub picks-in : costsABlock * b + costsABlock ≤ length picks
-
-pub fill-below : {H : HeldBlocks} {ends old new oldPicks picks left prices even odd : List ℕ} {b : ℕ}
-    → InFill H ends old new oldPicks picks left prices even odd b → 0 < b → b - 1 < length (H .indices)
+pub fill-below : {H : HeldBlocks} {ends old notes left prices even odd : List ℕ} {b : ℕ} → InFill H ends old notes left prices even odd b
+    → 0 < b → b - 1 < length (H .indices)
 fill-below I h = omega (arith, I .b-le)
 
-pub rows-at : {H : HeldBlocks} {ends old new oldPicks picks left prices even odd : List ℕ} {b : ℕ}
-    → InFill H ends old new oldPicks picks left prices even odd b
-    → costsABlock * length (H .indices) ≤ length old → costsABlock * length (H .indices) ≤ length oldPicks → 0 < b
-    → RowsAt H new picks (b - 1)
-rows-at I c p h = record { costs-in = omega (arith, I .long, I .b-le); picks-in = omega (arith, I .picksLong, I .b-le) }
+pub row-at : {H : HeldBlocks} {ends old notes left prices even odd : List ℕ} {b : ℕ} → InFill H ends old notes left prices even odd b
+    → costsABlock * length (H .indices) ≤ length old → 0 < b → costsABlock * (b - 1) + costsABlock ≤ length notes
+row-at I c h = omega (arith, I .long, I .b-le)
 
-module _ {H : HeldBlocks} {ends old mid new oldPicks midPicks picks left newLeft prices newPrices even newEven odd newOdd : List ℕ} {b : ℕ}
-    {row pickRow : List ℕ} (I : InFill H ends old mid oldPicks midPicks left prices even odd b) (h : 0 < b)
-    (B : BlockFilled (blockPart H (b - 1)) (getD (H .received) (b - 1) 0) (getD (H .erased) (b - 1) 0) left newLeft row pickRow)
-    (W : Working newLeft newPrices newEven newOdd) (P : RowWritten (costsABlock * (b - 1)) row mid new)
-    (Q : RowWritten (costsABlock * (b - 1)) pickRow midPicks picks) where
+module _ {H : HeldBlocks} {ends old mid notes left newLeft prices newPrices even newEven odd newOdd row : List ℕ} {b : ℕ}
+    (I : InFill H ends old mid left prices even odd b) (h : 0 < b)
+    (B : BlockFilled (blockPart H (b - 1)) (getD (H .received) (b - 1) 0) (getD (H .erased) (b - 1) 0) left newLeft row)
+    (W : Working newLeft newPrices newEven newOdd) (P : RowWritten (costsABlock * (b - 1)) row mid notes) where
   below : b - 1 < length (H .indices)
   below = omega (arith, I .b-le)
 
@@ -140,36 +131,42 @@ module _ {H : HeldBlocks} {ends old mid new oldPicks midPicks picks left newLeft
     here : LeftAt C (b - 1) newLeft
     here = left-more C in-chain uses behind (B .passed)
 
-    row-here : LeftAt C (b - 1) row
-    row-here = record { at = λ s k. B .copied .at s k ∙ here .at s k }
+    notes-here : NotesFrom C (b - 1) notes
+    notes-here =
+        notes-more C (subst (λ c. NotesFrom C c mid) next (I .noted C O E)) (note-more C in-chain uses behind (B .passed)) P
 
-    costs-here : CostsFrom C (b - 1) new
-    costs-here = costs-more C (subst (λ c. CostsFrom C c mid) next (I .costs C O E)) row-here P
+  unrooted-here : Unrooted H (b - 1) notes
+  unrooted-here = record { at = λ c s g k e n. go c s g k e n (ℕ-discrete c (b - 1)) }
+    where
+      go : (c s : ℕ) → b - 1 ≤ c → c < length (H .indices) → s < mostStates
+          → ((u : ℕ) → u < vertexCountOf (blockPart H c) 0 → rootState (blockPart H c) u ≡ s → ⊥) → Dec (c ≡ b - 1)
+          → getD notes (costsABlock * c + s) 0 ≡ unreached
+      go c s g k e n (yes z) =
+          ap (λ x. getD notes (costsABlock * x + s) 0) z ∙ P .at s e
+          ∙ B .passed .unrooted s e
+          (subst (λ x. (u : ℕ) → u < vertexCountOf (blockPart H x) 0 → rootState (blockPart H x) u ≡ s → ⊥) z n)
+      go c s g k e n (no z) = P .kept (costsABlock * c + s) (inr (omega arith)) ∙ I .unrooted .at c s (omega arith) k e n
 
-    picks-here : Picked C (b - 1) picks
-    picks-here =
-        picks-more C (subst (λ c. Picked C c midPicks) next (I .picked C O E)) (pick-more C in-chain uses behind (B .passed)) Q
-
-  pub fill-more : InFill H ends old new oldPicks picks newLeft newPrices newEven newOdd (b - 1)
+  pub fill-more : InFill H ends old notes newLeft newPrices newEven newOdd (b - 1)
   fill-more = record {
     b-le = omega (arith, I .b-le);
     long = P .long ∙ I .long;
-    picksLong = Q .long ∙ I .picksLong;
     working = W;
     kept = λ i k. P .kept i (inr (omega (arith, below))) ∙ I .kept i k;
+    unrooted = unrooted-here;
     leftIs = here;
-    costs = costs-here;
-    picked = picks-here;
+    noted = notes-here;
   }
 
-pub fill-end : {H : HeldBlocks} {ends old new oldPicks picks left prices even odd : List ℕ} {b : ℕ}
-    → InFill H ends old new oldPicks picks left prices even odd b → b ≤ 0 → Filled H ends old new oldPicks picks
-fill-end {new = new} {picks = picks} {b = b} I h =
+pub fill-end : {H : HeldBlocks} {ends old notes left prices even odd : List ℕ} {b : ℕ}
+    → InFill H ends old notes left prices even odd b → b ≤ 0 → Filled H ends left old notes
+fill-end {H} {notes = notes} {left} {b = b} I h =
     let e : b ≡ 0 = omega arith in
     record {
       long = I .long;
-      picksLong = I .picksLong;
+      newLong = I .working .leftLong;
       kept = I .kept;
-      costs = λ C O E. subst (λ c. CostsFrom C c new) e (I .costs C O E);
-      picked = λ C O E. subst (λ c. Picked C c picks) e (I .picked C O E);
+      unrooted = subst (λ c. Unrooted H c notes) e (I .unrooted);
+      noted = λ C O E. subst (λ c. NotesFrom C c notes) e (I .noted C O E);
+      leftIs = λ C O E. subst (λ c. LeftAt C c left) e (I .leftIs C O E);
     }

@@ -1,15 +1,22 @@
-// The pass over the blocks of a frame, from the last to the first: it fills the cost table, and keeps the picks. The blocks' sections are
-// found and the frame is checked; where a path may end is the caller's.
+// The pass over the blocks of a frame, from the last to the first. It leaves a note in each place of the cost table, by which the words of
+// the best path are found; then the notes are turned into the costs, again from the last block to the first. The blocks' sections are found
+// and the frame is checked; where a path may end is the caller's.
 ghost use mathlib.Core.Path.{_≡_};
 ghost use Prim.Native.Nat.{_*_, _<_, _≤_};
 ghost use lib.ListN.{length};
 ghost use Rattle.trellis.specs.Bounds.{mostStates, costsABlock};
+ghost use Rattle.trellis.specs.Layout.{vertexCountOf};
 ghost use Rattle.section_file.specs.inner.View.{Seen};
-ghost use Rattle.cost_table.specs.inner.Filled.{EndRow, RowCopied, BlockRows, Working, BlockFilled, heldBlocks, Ready, Filled};
+ghost use Rattle.cost_table.specs.inner.Filled.{EndRow, Working, BlockFilled, heldBlocks, Ready, Filled};
+ghost use Rattle.cost_table.specs.inner.Settled.{settledCost, Owed, RowOwed, RootsSettled, RowCopied, BlockSettled, Settling, Settled};
 use block::put_prices;
+use numbers::wide;
 use numbers::widened;
 use passes::NO_PATH;
+use passes::goal_of;
 use passes::pass_block;
+use paths::DISTANCE_UNIT;
+use paths::NOTE_CYCLE;
 use section_file::View;
 use trellis::COSTS_A_BLOCK;
 use trellis::MOST_Q;
@@ -27,41 +34,29 @@ pub fn ends_in(end: usize) -> [u32; COSTS_A_BLOCK]
     ends
 }
 
-fn copy_row(row: &[u32; COSTS_A_BLOCK], place: &mut [u32])
-    requires { ⌜ (length (now row) ≡ mostStates) × (length (now place) ≡ mostStates) ⌝ }
-    ensures { λ _. ⌜ RowCopied (now (row .entry)) (now (place .exit)) mostStates ⌝ }
-{
-    let mut s: usize = 0;
-    while s < COSTS_A_BLOCK {
-        place[s] = row[s];
-        s += 1;
-    }
-}
-
-// One block: `left` has what is left to pay behind it, and then before it, which goes to the cost table; `picks` gets its picks. The prices
-// and the two rows are working room.
+// One block: `left` has what is left to pay behind it, and then before it; `notes` gets its notes. The prices and the two rows are working
+// room.
 fn fill_block(
     l: &[u16],
     at: View,
     received: u16,
     mask: u8,
     left: &mut [u32; COSTS_A_BLOCK],
-    costs: &mut [u32],
-    picks: &mut [u32],
+    notes: &mut [u32],
     prices: &mut [u64; MOST_Q * MOST_SYMBOLS],
     even: &mut [u64; MOST_WORDS],
     odd: &mut [u64; MOST_WORDS],
 )
-    requires { ⌜ Seen (now l) at × BlockRows (now costs) (now picks) × Working (now left) (now prices) (now even) (now odd) ⌝ }
-    ensures { λ _. ⌜ BlockFilled (now (l .entry)) received mask (now (left .entry)) (now (left .exit)) (now (costs .exit))
-        (now (picks .exit)) × Working (now (left .exit)) (now (prices .exit)) (now (even .exit)) (now (odd .exit)) ⌝ }
+    requires { ⌜ Seen (now l) at × (length (now notes) ≡ mostStates) × Working (now left) (now prices) (now even) (now odd) ⌝ }
+    ensures { λ _. ⌜ BlockFilled (now (l .entry)) received mask (now (left .entry)) (now (left .exit)) (now (notes .exit))
+        × Working (now (left .exit)) (now (prices .exit)) (now (even .exit)) (now (odd .exit)) ⌝ }
 {
     put_prices(at.n, received, mask, prices);
-    pass_block(l, at, prices, left, picks, even, odd);
-    copy_row(left, costs);
+    pass_block(l, at, prices, left, notes, even, odd);
 }
 
-// `ends` has what is left to pay behind the last block: nothing in a state where a path may end.
+// `ends` has what is left to pay behind the last block: nothing in a state where a path may end. The notes go to the cost table, and what is
+// left to pay before the first block is the answer.
 pub fn fill(
     sections: &[u16],
     starts: &[usize; MOST_SECTIONS + 1],
@@ -71,13 +66,11 @@ pub fn fill(
     erased: &[u8],
     ends: [u32; COSTS_A_BLOCK],
     costs: &mut [u32],
-    picks: &mut [u32],
-)
+) -> [u32; COSTS_A_BLOCK]
     requires { ⌜ Ready (heldBlocks (now sections) (now starts) views (now indices) (now received) (now erased))
-        × (length ends ≡ mostStates)
-        × (costsABlock * length (now indices) ≤ length (now costs)) × (costsABlock * length (now indices) ≤ length (now picks)) ⌝ }
-    ensures { λ _. ⌜ Filled (heldBlocks (now (sections .entry)) (now (starts .entry)) views (now (indices .entry)) (now (received .entry))
-        (now (erased .entry))) ends (now (costs .entry)) (now (costs .exit)) (now (picks .entry)) (now (picks .exit)) ⌝ }
+        × (length ends ≡ mostStates) × (costsABlock * length (now indices) ≤ length (now costs)) ⌝ }
+    ensures { λ r. ⌜ Filled (heldBlocks (now (sections .entry)) (now (starts .entry)) views (now (indices .entry)) (now (received .entry))
+        (now (erased .entry))) ends r (now (costs .entry)) (now (costs .exit)) ⌝ }
 {
     let mut left = ends;
     let mut prices = [0u64; MOST_Q * MOST_SYMBOLS];
@@ -100,10 +93,84 @@ pub fn fill(
             mask,
             &mut left,
             &mut costs[first..next],
-            &mut picks[first..next],
             &mut prices,
             &mut even,
             &mut odd,
         );
+    }
+    left
+}
+
+// The cost of which a note has the remainder, from the costs behind the block.
+fn settled(note: u32, behind: &[u32; COSTS_A_BLOCK]) -> u32
+    requires { ⌜ Owed (now behind) note ⌝ }
+    ensures { λ r. ⌜ r ≡ settledCost (now (behind .entry)) note ⌝ }
+{
+    if note >= NO_PATH {
+        return NO_PATH;
+    }
+    let goal = widened(goal_of(note));
+    let cost = behind[goal];
+    cost + (note / (DISTANCE_UNIT as u32) + NOTE_CYCLE - cost % NOTE_CYCLE) % NOTE_CYCLE
+}
+
+// The costs of a block's roots. At every other state the note is that of no path, which is the cost too.
+fn settle_roots(l: &[u16], at: View, behind: &[u32; COSTS_A_BLOCK], row: &mut [u32])
+    requires { ⌜ Seen (now l) at × RowOwed (now behind) (now row) ⌝ }
+    ensures { λ _. ⌜ RootsSettled (now (l .entry)) (now (behind .entry)) (now (row .entry)) (now (row .exit))
+        (vertexCountOf (now (l .entry)) 0) ⌝ }
+{
+    let roots = at.roots;
+    let count = at.goals - roots;
+    let mut v: usize = 0;
+    while v < count {
+        let s = wide(l[roots + v]);
+        row[s] = settled(row[s], behind);
+        v += 1;
+    }
+}
+
+fn copy_row(row: &[u32], place: &mut [u32; COSTS_A_BLOCK])
+    requires { ⌜ (length (now row) ≡ mostStates) × (length (now place) ≡ mostStates) ⌝ }
+    ensures { λ _. ⌜ RowCopied (now (row .entry)) (now (place .exit)) mostStates ⌝ }
+{
+    let mut s: usize = 0;
+    while s < COSTS_A_BLOCK {
+        place[s] = row[s];
+        s += 1;
+    }
+}
+
+// One block: `behind` has the costs behind it, and then before it.
+fn settle_block(l: &[u16], at: View, behind: &mut [u32; COSTS_A_BLOCK], row: &mut [u32])
+    requires { ⌜ Seen (now l) at × (length (now behind) ≡ mostStates) × RowOwed (now behind) (now row) ⌝ }
+    ensures { λ _. ⌜ BlockSettled (now (l .entry)) (now (behind .entry)) (now (row .entry)) (now (row .exit)) (now (behind .exit)) ⌝ }
+{
+    settle_roots(l, at, behind, row);
+    copy_row(row, behind);
+}
+
+// Turns the notes that `fill` left into the costs.
+pub fn settle(
+    sections: &[u16],
+    starts: &[usize; MOST_SECTIONS + 1],
+    views: [View; MOST_SECTIONS],
+    indices: &[u8],
+    ends: [u32; COSTS_A_BLOCK],
+    costs: &mut [u32],
+)
+    requires { ⌜ Settling (now sections) (now starts) views (now indices) ends (now costs) ⌝ }
+    ensures { λ _. ⌜ Settled (length (now (indices .entry))) ends (now (costs .entry)) (now (costs .exit)) ⌝ }
+{
+    let mut behind = ends;
+    let mut b = indices.len();
+    while b > 0 {
+        b -= 1;
+        let i = widened(indices[b]);
+        let at = views[i];
+        let start = starts[i];
+        let first = COSTS_A_BLOCK * b;
+        let next = first + COSTS_A_BLOCK;
+        settle_block(&sections[start..], at, &mut behind, &mut costs[first..next]);
     }
 }

@@ -1,12 +1,12 @@
 -- Block by block. Backward, what is left to pay before a block follows from what is left behind it, since the chain's numbers do so by
--- definition, and the pick is the word that they name. Forward, each turn moves the first word of what is left of the path to what is
+-- definition, and the note has the word that they name. Forward, each turn moves the first word of what is left of the path to what is
 -- written.
 use mathlib.Core.Path.{_≡_, refl, sym, ap, ap₂, subst, _∙_}
 use mathlib.Core.Logic.{inr}
 use mathlib.Core.List.{List, _∷_}
 use Prim.Native.Nat.{ℕ, suc, _+_, _-_, _*_, _/_, _%_, _≤_, _<_}
 use native.Mathlib.Nat.{not-suc-le-zero, add-zero}
-use native.Mathlib.Decide.{ℕ-discrete}
+use native.Mathlib.Decide.{ℕ-discrete, decLt}
 use native.Mathlib.Numerals.{add-one}
 use native.Mathlib.Omega.{arith}
 use lib.ListN.{length, getD, drop, set, length-set}
@@ -18,12 +18,12 @@ use Rattle.paths.specs.Chain.{unreached}
 use Rattle.paths.specs.inner.Costs.{least}
 use Rattle.paths.specs.inner.Chains.{atEnd, chainLeast, chainTrace}
 use Rattle.paths.specs.inner.OneBlock.{leastOver, firstOver, wordPrice}
-use Rattle.paths.specs.inner.Ranked.{labelUnit, distanceUnit, rankedCost}
-use Rattle.paths.proofs.Chain.{least-le, least-drops, least-block, trace-block}
+use Rattle.paths.specs.inner.Ranked.{labelUnit, distanceUnit, rankedCost, noteCycle, noteGoal, noteWord}
+use Rattle.paths.proofs.Chain.{least-le, least-block, trace-block}
 use Rattle.sweep.specs.inner.Rows.{Priced}
 use Rattle.passes.specs.inner.Blocks.{Costs, BlockPassed}
-use Rattle.passes.specs.inner.Chains.{Chain, leastFrom, pathFrom, LeftAt, PickAt, Picked, CostsFrom, Written, RowWritten, Followed}
-use Rattle.passes.specs.inner.Chains.{FollowedTo}
+use Rattle.passes.specs.inner.Chains.{Chain, leastFrom, pathFrom, LeftAt, NoteAt, NotesFrom, CostsFrom, Written, RowWritten}
+use Rattle.passes.specs.inner.Chains.{Followed, FollowedTo}
 
 -- ---- backward
 
@@ -44,8 +44,8 @@ module _ (C : Chain) where
     pub priceIs : (w : Word) → C .price b w ≡ wordPrice (nOf l) cost w
     pub priced : Priced l prices (rankedCost (nOf l) cost)
 
-  module _ {b : ℕ} {l prices left new picks : List ℕ} (h : b < C .blocks) (U : Uses b l prices) (L : LeftAt C (suc b) left)
-      (P : BlockPassed l prices left new picks) where
+  module _ {b : ℕ} {l prices left new notes : List ℕ} (h : b < C .blocks) (U : Uses b l prices) (L : LeftAt C (suc b) left)
+      (P : BlockPassed l prices left new notes) where
     abbrev k : ℕ
     k = C .blocks - suc b
 
@@ -75,22 +75,35 @@ module _ (C : Chain) where
     pub left-more : LeftAt C b new
     left-more = record { at = λ s e. P .least (U .cost) rest costs s e ∙ sym (over s) }
 
-    pub pick-more : (s : ℕ) → s < mostStates → leastFrom C b s < unreached → PickAt C b s (getD picks s 0)
-    unfolding pathFrom
-    pick-more s e o =
-        let K = P .pick (U .cost) rest costs s e (subst (λ x. x < unreached) (over s) o) in
+    pub note-more : (s : ℕ) → s < mostStates → NoteAt C b s (getD notes s 0)
+    unfolding leastFrom pathFrom
+    note-more s e =
+        let K = P .noted (U .cost) rest costs s e in
+        let o = over s in
         record {
-          small = K .small;
+          none = λ i. o ∙ K .none i;
           goal-lt = K .goal-lt;
-          path = ap (λ j. pathTo j s) more
+          remainder = λ i. K .remainder i ∙ sym (ap (λ x. x % noteCycle) o);
+          adds-up = λ i. o ∙ K .adds-up i ∙ ap (λ x. x + rest (noteGoal (getD notes s 0))) (sym (U .priceIs (noteWord s (getD notes s 0))));
+          path = λ i. ap (λ j. pathTo j s) more
               ∙ trace-block (C .words) (C .ends) (C .price) unreached k b s
-              (ap₂ (λ ws p. firstOver ws p unreached rest s) (U .wordsAre) prices-are ∙ K .first);
+              (ap₂ (λ ws p. firstOver ws p unreached rest s) (U .wordsAre) prices-are ∙ K .first (subst (λ x. x < unreached) o i));
         }
       where
         pathTo : ℕ → ℕ → List Word
         pathTo j s = chainTrace (C .words) (C .ends) (C .price) unreached j b s
 
-  -- the cost table and the picks, a row more of each
+  -- the notes, a row more
+  pub notes-more : {b : ℕ} {row old new : List ℕ} → NotesFrom C (suc b) old → ((s : ℕ) → s < mostStates → NoteAt C b s (getD row s 0))
+      → RowWritten (costsABlock * b) row old new → NotesFrom C b new
+  notes-more {b} {row} {old} {new} F K R = record { at = λ c s g h e. go c s g h e (ℕ-discrete c b) }
+    where
+      go : (c s : ℕ) → b ≤ c → c < C .blocks → s < mostStates → Dec (c ≡ b) → NoteAt C c s (getD new (costsABlock * c + s) 0)
+      go c s g h e (yes z) =
+          subst (λ x. NoteAt C x s (getD new (costsABlock * x + s) 0)) (sym z) (subst (NoteAt C b s) (sym (R .at s e)) (K s e))
+      go c s g h e (no z) = subst (NoteAt C c s) (sym (R .kept (costsABlock * c + s) (inr (omega arith)))) (F .at c s (omega arith) h e)
+
+  -- the cost table, a row more
   pub costs-more : {b : ℕ} {row old new : List ℕ} → CostsFrom C (suc b) old → LeftAt C b row → RowWritten (costsABlock * b) row old new
       → CostsFrom C b new
   costs-more {b} {row} {old} {new} F L R = record { at = λ c s g h e. go c s g h e (ℕ-discrete c b) }
@@ -98,18 +111,6 @@ module _ (C : Chain) where
       go : (c s : ℕ) → b ≤ c → c < C .blocks → s < mostStates → Dec (c ≡ b) → getD new (costsABlock * c + s) 0 ≡ leastFrom C c s
       go c s g h e (yes z) = subst (λ x. getD new (costsABlock * x + s) 0 ≡ leastFrom C x s) (sym z) (R .at s e ∙ L .at s e)
       go c s g h e (no z) = R .kept (costsABlock * c + s) (inr (omega arith)) ∙ F .at c s (omega arith) h e
-
-  pub picks-more : {b : ℕ} {row old new : List ℕ} → Picked C (suc b) old
-      → ((s : ℕ) → s < mostStates → leastFrom C b s < unreached → PickAt C b s (getD row s 0)) → RowWritten (costsABlock * b) row old new
-      → Picked C b new
-  picks-more {b} {row} {old} {new} F K R = record { at = λ c s g h e o. go c s g h e o (ℕ-discrete c b) }
-    where
-      go : (c s : ℕ) → b ≤ c → c < C .blocks → s < mostStates → leastFrom C c s < unreached → Dec (c ≡ b)
-          → PickAt C c s (getD new (costsABlock * c + s) 0)
-      go c s g h e o (yes z) =
-          subst (λ x. PickAt C x s (getD new (costsABlock * x + s) 0)) (sym z)
-          (subst (PickAt C b s) (sym (R .at s e)) (K s e (subst (λ x. leastFrom C x s < unreached) z o)))
-      go c s g h e o (no z) = subst (PickAt C c s) (sym (R .kept (costsABlock * c + s) (inr (omega arith)))) (F .at c s (omega arith) h e o)
 
 -- ---- forward
 
@@ -120,17 +121,22 @@ pub record InWords (C : Chain) (start : ℕ) (labels newLabels goals newGoals : 
   pub rest : drop b (pathFrom C 0 start) ≡ pathFrom C b s
   pub onward : leastFrom C b s < unreached
 
--- behind the picked word there is a path onward
-pick-onward : {C : Chain} {b s pick : ℕ} → b < C .blocks → leastFrom C b s < unreached → PickAt C b s pick
-    → leastFrom C (suc b) (pick % labelUnit) < unreached
-unfolding leastFrom pathFrom
-pick-onward {C} {b} {s} {pick} h o K =
-    let k = C .blocks - suc b in
-    let more : C .blocks - b ≡ suc k = omega arith in
-    let here : chainLeft C (suc k) b s < unreached = subst (λ j. chainLeft C j b s < unreached) more o in
-    let d = least-drops (C .words) (C .ends) (C .price) unreached k b s here
-    (ap (λ j. chainTrace (C .words) (C .ends) (C .price) unreached j b s) (sym more) ∙ K .path) in
-    omega arith
+-- where there is a path, the note names a word, and there is a path onward from its goal
+record Onward (C : Chain) (b s note : ℕ) : Type 0 where
+  named : note < unreached
+  goal-lt : noteGoal note < mostStates
+  onward : leastFrom C (suc b) (noteGoal note) < unreached
+
+onward-of : {C : Chain} {b s note : ℕ} → leastFrom C b s < unreached → NoteAt C b s note → Onward C b s note
+onward-of {C} {b} {s} {note} o K =
+    record { named = named; goal-lt = K .goal-lt named; onward = let a = K .adds-up named in omega arith }
+  where
+    named : note < unreached
+    named = go (decLt note unreached)
+      where
+        go : Dec (note < unreached) → note < unreached
+        go (yes i) = i
+        go (no i) = let e = K .none (omega arith) in absurd (omega arith)
 
 module _ {C : Chain} {start : ℕ} where
   pub words-start : {labels goals : List ℕ} → start < mostStates → leastFrom C 0 start < unreached
@@ -147,11 +153,11 @@ module _ {C : Chain} {start : ℕ} where
     onward = k;
   }
 
-  pub words-more : {b s label goal : ℕ} {picks labels newLabels goals newGoals : List ℕ} → Picked C 0 picks
+  pub words-more : {b s label goal : ℕ} {notes labels newLabels goals newGoals : List ℕ} → NotesFrom C 0 notes
       → InWords C start labels newLabels goals newGoals b s → b < C .blocks → b < length newLabels → b < length newGoals
-      → label ≡ getD picks (costsABlock * b + s) 0 / labelUnit → goal ≡ getD picks (costsABlock * b + s) 0 % labelUnit
+      → label ≡ getD notes (costsABlock * b + s) 0 % distanceUnit / labelUnit → goal ≡ noteGoal (getD notes (costsABlock * b + s) 0)
       → InWords C start labels (set newLabels b label) goals (set newGoals b goal) (b + 1) goal
-  words-more {b} {s} {label} {goal} {picks} {labels} {newLabels} {goals} {newGoals} P I h x y l g =
+  words-more {b} {s} {label} {goal} {notes} {labels} {newLabels} {goals} {newGoals} P I h x y l g =
       rw (add-one b)
       (record {
         written = record {
@@ -160,25 +166,28 @@ module _ {C : Chain} {start : ℕ} where
           labelsKept = λ i k. getD-set-other newLabels b i label 0 (λ j. absurd (omega arith)) ∙ Z .labelsKept i (omega arith);
           goalsKept = λ i k. getD-set-other newGoals b i goal 0 (λ j. absurd (omega arith)) ∙ Z .goalsKept i (omega arith);
         };
-        state = subst (λ u. u < mostStates) (sym g) (K .goal-lt);
+        state = subst (λ u. u < mostStates) (sym g) (O .goal-lt);
         rest = rest;
-        onward = subst (λ u. leastFrom C (suc b) u < unreached) (sym g) (pick-onward h (I .onward) K);
+        onward = subst (λ u. leastFrom C (suc b) u < unreached) (sym g) (O .onward);
       })
     where
       Z : Written C start b labels newLabels goals newGoals
       Z = I .written
 
-      pick : ℕ
-      pick = getD picks (costsABlock * b + s) 0
+      note : ℕ
+      note = getD notes (costsABlock * b + s) 0
 
       chosen : Word
-      chosen = word s (pick / labelUnit) (pick % labelUnit)
+      chosen = noteWord s note
 
-      K : PickAt C b s pick
-      K = P .at b s (omega arith) h (I .state) (I .onward)
+      K : NoteAt C b s note
+      K = P .at b s (omega arith) h (I .state)
+
+      O : Onward C b s note
+      O = onward-of (I .onward) K
 
       tail : drop b (pathFrom C 0 start) ≡ chosen ∷ pathFrom C (suc b) goal
-      tail = I .rest ∙ K .path ∙ ap (λ u. chosen ∷ pathFrom C (suc b) u) (sym g)
+      tail = I .rest ∙ K .path (I .onward) ∙ ap (λ u. chosen ∷ pathFrom C (suc b) u) (sym g)
 
       word-is : wordAt (pathFrom C 0 start) b ≡ chosen
       word-is =
@@ -201,16 +210,16 @@ module _ {C : Chain} {start : ℕ} where
               (getD-set-same new b u 0 a ∙ d ∙ ap f (sym word-is))
           go (no j) = getD-set-other new b i u 0 j ∙ before i (omega arith)
 
--- the loop: the lengths, and for whatever chain the picks are of, how far its path is written
-pub record InFollow (blocks start : ℕ) (picks labels newLabels goals newGoals : List ℕ) (b s : ℕ) : Type 0 where
+-- the loop: the lengths, and for whatever chain the notes are of, how far its path is written
+pub record InFollow (blocks start : ℕ) (notes labels newLabels goals newGoals : List ℕ) (b s : ℕ) : Type 0 where
   pub b-le : b ≤ blocks
   pub labelsLong : length newLabels ≡ length labels
   pub goalsLong : length newGoals ≡ length goals
-  pub words : (C : Chain) → C .blocks ≡ blocks → Picked C 0 picks → leastFrom C 0 start < unreached
+  pub words : (C : Chain) → C .blocks ≡ blocks → NotesFrom C 0 notes → leastFrom C 0 start < unreached
       → InWords C start labels newLabels goals newGoals b s
 
-pub follow-start : {blocks start : ℕ} {picks labels goals : List ℕ} → Followed blocks start picks labels goals
-    → InFollow blocks start picks labels labels goals goals 0 start
+pub follow-start : {blocks start : ℕ} {notes labels goals : List ℕ} → Followed blocks start notes labels goals
+    → InFollow blocks start notes labels labels goals goals 0 start
 follow-start F = record {
   b-le = omega arith;
   labelsLong = refl;
@@ -218,39 +227,36 @@ follow-start F = record {
   words = λ C e P o. words-start (F .start-lt) o;
 }
 
--- what is read of the picks
-pub record Here (blocks : ℕ) (picks labels goals : List ℕ) (b s pick : ℕ) : Type 0 where
+-- what is read of the notes
+pub record Here (notes labels goals : List ℕ) (b s note : ℕ) : Type 0 where
   pub s-lt : s < mostStates
-  pub place-lt : costsABlock * b + s < length picks
-  pub small : pick < distanceUnit
-  pub goal-lt : pick % labelUnit < mostStates
+  pub place-lt : costsABlock * b + s < length notes
+  pub goal-lt : noteGoal note < mostStates
   pub labels-lt : b < length labels
   pub goals-lt : b < length goals
   pub few : b < 256
 
-module _ {blocks start : ℕ} {picks labels newLabels goals newGoals : List ℕ} {b s : ℕ} (F : Followed blocks start picks labels goals)
-    (I : InFollow blocks start picks labels newLabels goals newGoals b s) (h : b < blocks) where
-  pub here : Here blocks picks newLabels newGoals b s (getD picks (costsABlock * b + s) 0)
+module _ {blocks start : ℕ} {notes labels newLabels goals newGoals : List ℕ} {b s : ℕ} (F : Followed blocks start notes labels goals)
+    (I : InFollow blocks start notes labels newLabels goals newGoals b s) (h : b < blocks) where
+  pub here : Here notes newLabels newGoals b s (getD notes (costsABlock * b + s) 0)
   here =
-      let C = F .chain in
-      let W = I .words C (F .blocksIs) (F .picked) (F .some) in
-      let K = F .picked .at b s (omega arith) (omega (arith, F .blocksIs)) (W .state) (W .onward) in
+      let W = I .words (F .chain) (F .blocksIs) (F .noted) (F .some) in
+      let O = onward-of (W .onward) (F .noted .at b s (omega arith) (omega (arith, F .blocksIs)) (W .state)) in
       record {
         s-lt = W .state;
         place-lt = omega (arith, F .long, W .state);
-        small = K .small;
-        goal-lt = K .goal-lt;
+        goal-lt = O .goal-lt;
         labels-lt = omega (arith, I .labelsLong, F .labelsLong);
         goals-lt = omega (arith, I .goalsLong, F .goalsLong);
         few = omega (arith, F .few);
       }
 
-  pub follow-more : {label goal t : ℕ} → label ≡ getD picks (costsABlock * b + s) 0 / labelUnit
-      → goal ≡ getD picks (costsABlock * b + s) 0 % labelUnit → t ≡ goal
-      → InFollow blocks start picks labels (set newLabels b label) goals (set newGoals b goal) (b + 1) t
+  pub follow-more : {label goal t : ℕ} → label ≡ getD notes (costsABlock * b + s) 0 % distanceUnit / labelUnit
+      → goal ≡ noteGoal (getD notes (costsABlock * b + s) 0) → t ≡ goal
+      → InFollow blocks start notes labels (set newLabels b label) goals (set newGoals b goal) (b + 1) t
   follow-more {label} {goal} l g e =
       let H = here in
-      subst (InFollow blocks start picks labels (set newLabels b label) goals (set newGoals b goal) (b + 1)) (sym e)
+      subst (InFollow blocks start notes labels (set newLabels b label) goals (set newGoals b goal) (b + 1)) (sym e)
       (record {
         b-le = omega arith;
         labelsLong = simp length-set (I .labelsLong);
@@ -258,9 +264,9 @@ module _ {blocks start : ℕ} {picks labels newLabels goals newGoals : List ℕ}
         words = λ C i P o. words-more P (I .words C i P o) (omega arith) (H .labels-lt) (H .goals-lt) l g;
       })
 
-pub follow-end : {blocks start : ℕ} {picks labels newLabels goals newGoals : List ℕ} {b s : ℕ}
-    → InFollow blocks start picks labels newLabels goals newGoals b s → blocks ≤ b
-    → FollowedTo blocks start picks labels newLabels goals newGoals
+pub follow-end : {blocks start : ℕ} {notes labels newLabels goals newGoals : List ℕ} {b s : ℕ}
+    → InFollow blocks start notes labels newLabels goals newGoals b s → blocks ≤ b
+    → FollowedTo blocks start notes labels newLabels goals newGoals
 follow-end {blocks} {start} {labels = labels} {newLabels} {goals} {newGoals} {b} I h =
     let z : b ≡ blocks = omega (arith, I .b-le) in
     record {

@@ -1,7 +1,6 @@
 -- The two ends of a block. The row of depth n takes what is left to pay in the states of the goals; what the row of depth 0 has goes to the
 -- states of the roots, which ascend, so that none is written twice.
 use mathlib.Core.Path.{_≡_, sym, ap, subst, _∙_}
-use mathlib.Core.Bool.{cond}
 use mathlib.Core.List.{List}
 use Prim.Native.Nat.{ℕ, _+_, _-_, _*_, _/_, _%_, _≤_, _<_}
 use native.Mathlib.Nat.{not-suc-le-zero}
@@ -9,27 +8,22 @@ use native.Mathlib.Decide.{ℕ-discrete}
 use native.Mathlib.Omega.{arith}
 use lib.ListN.{length, getD, set, length-set, replicate, length-replicate, getD-replicate}
 use lib.Seq.{getD-set-same, getD-set-other}
-use borrow.Author.Tests.{lt-ltb, le-ltb}
 use Rattle.trellis.specs.Bounds.{mostStates, mostWords}
 use Rattle.trellis.specs.Layout.{nOf, vertexCountOf, rootState, goalState}
 use Rattle.paths.specs.Chain.{unreached}
-use Rattle.paths.specs.inner.Ranked.{distanceUnit, topRank, ranked, rankedLeft}
+use Rattle.paths.specs.inner.Ranked.{distanceUnit, topRank, ranked, rankedLeft, noteUnit}
 use Rattle.section_file.specs.inner.View.{Seen}
 use Rattle.section_file.specs.declared.View.{View}
 use Rattle.section_file.proofs.Seen.{States, roots-at, goals-at, header}
 use Rattle.sweep.specs.inner.Rows.{side}
 use Rattle.sweep.proofs.Sweeping.{side-even, side-odd}
-use Rattle.passes.specs.inner.Loops.{GoalsRanked, RootsPut}
+use Rattle.passes.specs.inner.Loops.{GoalsRanked, RowCleared, RootsPut}
 
 -- ---- one rank
 
-pub left-some : (cost s : ℕ) → cost < unreached → cost * distanceUnit + s ≡ rankedLeft cost s
+pub left-is : (cost s : ℕ) → cost * distanceUnit + s ≡ rankedLeft cost s
 unfolding rankedLeft ranked
-left-some cost s h = sym (ap (λ b. cond b (cost * distanceUnit + (0 * 64 + s)) topRank) (lt-ltb cost unreached h) ∙ omega arith)
-
-pub left-none : (cost s : ℕ) → unreached ≤ cost → topRank ≡ rankedLeft cost s
-unfolding rankedLeft
-left-none cost s h = sym (ap (λ b. cond b (ranked cost 0 s) topRank) (le-ltb cost unreached h))
+left-is cost s = omega arith
 
 -- ---- a state as it is read
 
@@ -51,11 +45,16 @@ state-read {v = v} A h e =
 -- ---- the row of depth n
 
 pub goals-start : {l left row : List ℕ} → length row ≡ mostWords → GoalsRanked l left row 0
-goals-start h = record { long = h; at = λ u k. absurd (not-suc-le-zero k) }
+goals-start h = record { long = h; at = λ u k. absurd (not-suc-le-zero k); small = λ u k. absurd (not-suc-le-zero k) }
 
 pub goals-more : {l left row : List ℕ} {at : View} {g s x : ℕ} → Seen l at → GoalsRanked l left row g → g < at .pairs - at .goals
-    → s ≡ getD l (at .goals + g) 0 → x ≡ rankedLeft (getD left s 0) s → GoalsRanked l left (set row g x) (g + 1)
-goals-more {l} {left} {row} {at} {g} {s} {x} S I h p q = record { long = simp length-set (I .long); at = put }
+    → s ≡ getD l (at .goals + g) 0 → x ≡ rankedLeft (getD left s 0) s → x ≤ topRank → GoalsRanked l left (set row g x) (g + 1)
+goals-more {l} {left} {row} {at} {g} {s} {x} S I h p q r = record {
+  long = simp length-set (I .long);
+  at = λ u k. put (λ w y. y ≡ rankedLeft (getD left (goalState l w) 0) (goalState l w)) (q ∙ ap (λ w. rankedLeft (getD left w 0) w) is)
+      (I .at) u k;
+  small = λ u k. put (λ w y. y ≤ topRank) r (I .small) u k;
+}
   where
     A : States l (at .goals) (at .pairs) (vertexCountOf l (nOf l)) (goalState l)
     A = goals-at S
@@ -63,40 +62,60 @@ goals-more {l} {left} {row} {at} {g} {s} {x} S I h p q = record { long = simp le
     is : s ≡ goalState l g
     is = p ∙ A .at g
 
-    put : (u : ℕ) → u < g + 1 → getD (set row g x) u 0 ≡ rankedLeft (getD left (goalState l u) 0) (goalState l u)
-    put u k = go (ℕ-discrete u g)
+    put : (P : ℕ → ℕ → Type 0) → P g x → ((u : ℕ) → u < g → P u (getD row u 0)) → (u : ℕ) → u < g + 1 → P u (getD (set row g x) u 0)
+    put P here before u k = go (ℕ-discrete u g)
       where
-        go : Dec (u ≡ g) → getD (set row g x) u 0 ≡ rankedLeft (getD left (goalState l u) 0) (goalState l u)
+        go : Dec (u ≡ g) → P u (getD (set row g x) u 0)
         go (yes e) =
-            subst (λ w. getD (set row g x) w 0 ≡ rankedLeft (getD left (goalState l w) 0) (goalState l w)) (sym e)
-            (getD-set-same row g x 0 (omega (arith, I .long, A .few, A .count-is)) ∙ q ∙ ap (λ w. rankedLeft (getD left w 0) w) is)
-        go (no e) = getD-set-other row g u x 0 e ∙ I .at u (omega arith)
+            subst (λ w. P w (getD (set row g x) w 0)) (sym e)
+            (subst (P g) (sym (getD-set-same row g x 0 (omega (arith, I .long, A .few, A .count-is)))) here)
+        go (no e) = subst (P u) (sym (getD-set-other row g u x 0 e)) (before u (omega arith))
 
 pub goals-end : {l left row : List ℕ} {at : View} {g : ℕ} → Seen l at → GoalsRanked l left row g → at .pairs - at .goals ≤ g
     → GoalsRanked l left row (vertexCountOf l (nOf l))
-goals-end S I h = let c = goals-at S .count-is in record { long = I .long; at = λ u k. I .at u (omega arith) }
+goals-end S I h =
+    let c = goals-at S .count-is in
+    record { long = I .long; at = λ u k. I .at u (omega arith); small = λ u k. I .small u (omega arith) }
 
 -- ---- the states of the roots
 
-pub roots-start : {l row picks : List ℕ} → length picks ≡ mostStates → RootsPut l row (replicate mostStates unreached) picks 0
-roots-start h = record {
+pub clear-start : {row : List ℕ} → length row ≡ mostStates → RowCleared row 0
+clear-start h = record { long = h; at = λ u k. absurd (not-suc-le-zero k) }
+
+pub clear-more : {row : List ℕ} {s : ℕ} → RowCleared row s → s < mostStates → RowCleared (set row s unreached) (s + 1)
+clear-more {row} {s} I h = record { long = simp length-set (I .long); at = λ u k. go u k (ℕ-discrete u s) }
+  where
+    go : (u : ℕ) → u < s + 1 → Dec (u ≡ s) → getD (set row s unreached) u 0 ≡ unreached
+    go u k (yes e) =
+        subst (λ x. getD (set row s unreached) x 0 ≡ unreached) (sym e)
+        (getD-set-same row s unreached 0 (omega (arith, I .long)))
+    go u k (no e) = getD-set-other row s u unreached 0 e ∙ I .at u (omega arith)
+
+pub clear-end : {row : List ℕ} {s : ℕ} → RowCleared row s → mostStates ≤ s → RowCleared row mostStates
+clear-end I h = record { long = I .long; at = λ u k. I .at u (omega arith) }
+
+pub roots-start : {l row notes : List ℕ} → RowCleared notes mostStates → RootsPut l row (replicate mostStates unreached) notes 0
+roots-start I = record {
   long = length-replicate {A = ℕ} mostStates unreached;
-  picksLong = h;
+  notesLong = I .long;
   cost = λ u m. absurd (not-suc-le-zero m);
-  pick = λ u m. absurd (not-suc-le-zero m);
-  none = λ s m e. getD-replicate {A = ℕ} mostStates s unreached 0 m;
+  note = λ u m. absurd (not-suc-le-zero m);
+  none = λ s m e. (getD-replicate {A = ℕ} mostStates s unreached 0 m, I .at s m);
 }
 
-pub roots-more : {l row left picks : List ℕ} {at : View} {v s rank cost pick : ℕ} → Seen l at → RootsPut l row left picks v
+pub roots-more : {l row left notes : List ℕ} {at : View} {v s rank cost note : ℕ} → Seen l at → RootsPut l row left notes v
     → v < at .goals - at .roots → s ≡ getD l (at .roots + v) 0 → rank ≡ getD row v 0 → cost ≡ rank / distanceUnit
-    → pick ≡ rank % distanceUnit
-    → RootsPut l row (set left s cost) (set picks s pick) (v + 1)
-roots-more {l} {row} {left} {picks} {at} {v} {s} {rank} {cost} {pick} S I h p r q w = record {
+    → note ≡ rank % noteUnit
+    → RootsPut l row (set left s cost) (set notes s note) (v + 1)
+roots-more {l} {row} {left} {notes} {at} {v} {s} {rank} {cost} {note} S I h p r q w = record {
   long = simp length-set (I .long);
-  picksLong = simp length-set (I .picksLong);
-  cost = λ u k. go-cost u k (ℕ-discrete u v);
-  pick = λ u k. go-pick u k (ℕ-discrete u v);
-  none = λ t k e. getD-set-other left s t cost 0 (λ z. e v (omega arith) (sym is ∙ sym z)) ∙ I .none t k (λ u m. e u (omega arith));
+  notesLong = simp length-set (I .notesLong);
+  cost = λ u k. put (λ x. x / distanceUnit) left cost (I .long) (q ∙ ap (λ x. x / distanceUnit) r) (I .cost) u k;
+  note = λ u k. put (λ x. x % noteUnit) notes note (I .notesLong) (w ∙ ap (λ x. x % noteUnit) r) (I .note) u k;
+  none = λ t k e.
+      let apart : t ≡ s → ⊥ = λ z. e v (omega arith) (sym is ∙ sym z) in
+      let before = I .none t k (λ u m. e u (omega arith)) in
+      (getD-set-other left s t cost 0 apart ∙ before .0, getD-set-other notes s t note 0 apart ∙ before .1);
 }
   where
     A : States l (at .roots) (at .goals) (vertexCountOf l 0) (rootState l)
@@ -111,26 +130,23 @@ roots-more {l} {row} {left} {picks} {at} {v} {s} {rank} {cost} {pick} S I h p r 
     other : (u : ℕ) → u < v + 1 → (u ≡ v → ⊥) → rootState l u ≡ s → ⊥
     other u k e z = let m = S .sound .rootsAscend u v (omega arith) (omega (arith, A .count-is)) in omega (arith, is)
 
-    go-cost : (u : ℕ) → u < v + 1 → Dec (u ≡ v) → getD (set left s cost) (rootState l u) 0 ≡ getD row u 0 / distanceUnit
-    go-cost u k (yes e) =
-        subst (λ x. getD (set left s cost) (rootState l x) 0 ≡ getD row x 0 / distanceUnit) (sym e)
-        (subst (λ x. getD (set left s cost) x 0 ≡ getD row v 0 / distanceUnit) is
-        (getD-set-same left s cost 0 (omega (arith, I .long, s-lt)) ∙ q ∙ ap (λ x. x / distanceUnit) r))
-    go-cost u k (no e) = getD-set-other left s (rootState l u) cost 0 (other u k e) ∙ I .cost u (omega arith)
+    put : (f : ℕ → ℕ) (old : List ℕ) (x : ℕ) → length old ≡ mostStates → x ≡ f (getD row v 0)
+        → ((u : ℕ) → u < v → getD old (rootState l u) 0 ≡ f (getD row u 0))
+        → (u : ℕ) → u < v + 1 → getD (set old s x) (rootState l u) 0 ≡ f (getD row u 0)
+    put f old x long here before u k = go (ℕ-discrete u v)
+      where
+        go : Dec (u ≡ v) → getD (set old s x) (rootState l u) 0 ≡ f (getD row u 0)
+        go (yes e) =
+            subst (λ y. getD (set old s x) (rootState l y) 0 ≡ f (getD row y 0)) (sym e)
+            (subst (λ y. getD (set old s x) y 0 ≡ f (getD row v 0)) is (getD-set-same old s x 0 (omega (arith, long, s-lt)) ∙ here))
+        go (no e) = getD-set-other old s (rootState l u) x 0 (other u k e) ∙ before u (omega arith)
 
-    go-pick : (u : ℕ) → u < v + 1 → Dec (u ≡ v) → getD (set picks s pick) (rootState l u) 0 ≡ getD row u 0 % distanceUnit
-    go-pick u k (yes e) =
-        subst (λ x. getD (set picks s pick) (rootState l x) 0 ≡ getD row x 0 % distanceUnit) (sym e)
-        (subst (λ x. getD (set picks s pick) x 0 ≡ getD row v 0 % distanceUnit) is
-        (getD-set-same picks s pick 0 (omega (arith, I .picksLong, s-lt)) ∙ w ∙ ap (λ x. x % distanceUnit) r))
-    go-pick u k (no e) = getD-set-other picks s (rootState l u) pick 0 (other u k e) ∙ I .pick u (omega arith)
-
-pub roots-end : {l row left picks : List ℕ} {at : View} {v : ℕ} → Seen l at → RootsPut l row left picks v → at .goals - at .roots ≤ v
-    → v ≤ at .goals - at .roots → RootsPut l row left picks (vertexCountOf l 0)
-roots-end {l} {row} {left} {picks} {v = v} S I h k =
+pub roots-end : {l row left notes : List ℕ} {at : View} {v : ℕ} → Seen l at → RootsPut l row left notes v → at .goals - at .roots ≤ v
+    → v ≤ at .goals - at .roots → RootsPut l row left notes (vertexCountOf l 0)
+roots-end {l} {row} {left} {notes} {v = v} S I h k =
     let c = roots-at S .count-is in
     let e : v ≡ vertexCountOf l 0 = omega arith in
-    subst (RootsPut l row left picks) e I
+    subst (RootsPut l row left notes) e I
 
 -- ---- the array of depth n's parity
 

@@ -1,5 +1,5 @@
 -- One block: the ranks of the goals make the ranks of the roots along the edges of the section, and a root's rank has the least cost from
--- its state and below it the first word of that cost. A state that is no root has no word.
+-- its state and, in its note, the first word of that cost. A state that is no root has no word.
 use mathlib.Core.Path.{_≡_, refl, sym, ap, subst, _∙_}
 use mathlib.Core.Bool.{Bool, true, false, cond}
 use mathlib.Core.List.{List}
@@ -18,13 +18,13 @@ use Rattle.trellis.proofs.Lists.{of-run, in-each, First, first-ok}
 use Rattle.paths.specs.Chain.{unreached}
 use Rattle.paths.specs.inner.Sections.{sectionLeast}
 use Rattle.paths.specs.inner.OneBlock.{leastOver, wordPrice}
-use Rattle.paths.specs.inner.Ranked.{distanceUnit, topRank, ranked, rankedCost, rankedLeft, PriceRoom, Pick}
+use Rattle.paths.specs.inner.Ranked.{distanceUnit, topRank, ranked, rankedCost, rankedLeft, noteUnit, PriceRoom, Noted}
 use Rattle.paths.proofs.Sections.{least-last}
 use Rattle.paths.proofs.Packed.{cost-packed}
 use Rattle.paths.proofs.Words.{whole-fits}
 use Rattle.paths.proofs.Ordered.{run-ordered}
 use Rattle.paths.proofs.Blocks.{Uses, least-else}
-use Rattle.paths.proofs.Ranked.{Rankable, rankFrom, ranked-least, ranked-pick}
+use Rattle.paths.proofs.Ranked.{Rankable, rankFrom, ranked-least, ranked-note}
 use Rattle.section_file.specs.inner.Sound.{Sound}
 use Rattle.section_file.specs.inner.View.{Seen}
 use Rattle.section_file.specs.declared.View.{View}
@@ -67,14 +67,14 @@ module _ {l : List ℕ} (S : Sound l) (cost : ℕ → ℕ → ℕ) where
   none-listed s h v m = let w = of-run (λ u. u) 0 (vertexCountOf l 0) v m in h v (omega (arith, w .is, w .below))
 
 -- the root in state s, or the number of roots
-abbrev rootOf : List ℕ → ℕ → ℕ
+abbrev pub rootOf : List ℕ → ℕ → ℕ
 rootOf l s = first (λ v. eqb (rootState l v) s) (vertexCountOf l 0)
 
-record RootAt (l : List ℕ) (s r : ℕ) : Type 0 where
-  is : r < vertexCountOf l 0 → rootState l r ≡ s
-  none : vertexCountOf l 0 ≤ r → (u : ℕ) → u < vertexCountOf l 0 → rootState l u ≡ s → ⊥
+pub record RootAt (l : List ℕ) (s r : ℕ) : Type 0 where
+  pub is : r < vertexCountOf l 0 → rootState l r ≡ s
+  pub none : vertexCountOf l 0 ≤ r → (u : ℕ) → u < vertexCountOf l 0 → rootState l u ≡ s → ⊥
 
-root-at : (l : List ℕ) (s : ℕ) → RootAt l s (rootOf l s)
+pub root-at : (l : List ℕ) (s : ℕ) → RootAt l s (rootOf l s)
 root-at l s = record {
   is = λ h. eqb→eq (rootState l (rootOf l s)) s (F .hit h);
   none = λ h u k e. F .miss u (omega arith) (subst (λ x. T (eqb x s)) (sym e) (eqb-refl s));
@@ -85,32 +85,16 @@ root-at l s = record {
 
 -- ---- the row of depth n
 
-left-small : (cost s : ℕ) → s < mostStates → rankedLeft cost s ≤ topRank
-unfolding rankedLeft ranked
-left-small cost s h = go (ltb cost unreached) refl
-  where
-    go : (b : Bool) → ltb cost unreached ≡ b → cond b (cost * distanceUnit + (0 * 64 + s)) topRank ≤ topRank
-    go true e = let k = ltb-true cost unreached e in omega arith
-    go false e = omega arith
-
 pub sweep-asked : {l prices left even odd : List ℕ} {at : View} → Seen l at → PriceRoom prices
     → GoalsRanked l left (side (nOf l) even odd) (vertexCountOf l (nOf l)) → length even ≡ mostWords → length odd ≡ mostWords
     → SweepAsked l prices even odd
-sweep-asked {l} {left = left} S R G e o = record {
-  room = R;
-  evenLong = e;
-  oddLong = o;
-  small = λ v h.
-      let k = left-small (getD left (goalState l v) 0) (goalState l v) (goals-at S .small v h) in
-      let i = G .at v h in
-      omega arith;
-}
+sweep-asked S R G e o = record { room = R; evenLong = e; oddLong = o; small = G .small }
 
 -- ---- the whole block
 
-module _ {l prices left even odd newEven newOdd new picks : List ℕ} {at : View} (S : Seen l at)
+module _ {l prices left even odd newEven newOdd new notes : List ℕ} {at : View} (S : Seen l at)
     (G : GoalsRanked l left (side (nOf l) even odd) (vertexCountOf l (nOf l)))
-    (W : Swept l prices even odd newEven newOdd) (R : RootsPut l newEven new picks (vertexCountOf l 0)) where
+    (W : Swept l prices even odd newEven newOdd) (R : RootsPut l newEven new notes (vertexCountOf l 0)) where
   module _ (cost : ℕ → ℕ → ℕ) (rest : ℕ → ℕ) (C : Costs l prices left cost rest) where
     abbrev rank : ℕ → ℕ
     rank v = rankFrom (uses (S .sound) cost) (rankable (S .sound) cost) rest (C .bound) v
@@ -147,23 +131,36 @@ module _ {l prices left even odd newEven newOdd new picks : List ℕ} {at : View
             (listed (S .sound) cost (rootOf l s) h))
         go F (no h) =
             let none = F .none (omega arith) in
-            R .none s k none ∙ sym (least-else (uses (S .sound) cost) unreached rest (C .bound) s (none-listed (S .sound) cost s none))
+            R .none s k none .0 ∙ sym (least-else (uses (S .sound) cost) unreached rest (C .bound) s (none-listed (S .sound) cost s none))
 
-    pick-is : (s : ℕ) → s < mostStates → least s < unreached → Pick (sectionWords l) (wordPrice (nOf l) cost) rest s (getD picks s 0)
-    pick-is s k o = go (root-at l s) (decLt (rootOf l s) (vertexCountOf l 0))
+    noted-is : (s : ℕ) → s < mostStates → Noted (sectionWords l) (wordPrice (nOf l) cost) rest s (getD notes s 0)
+    noted-is s k = go (root-at l s) (decLt (rootOf l s) (vertexCountOf l 0))
       where
         go : RootAt l s (rootOf l s) → Dec (rootOf l s < vertexCountOf l 0)
-            → Pick (sectionWords l) (wordPrice (nOf l) cost) rest s (getD picks s 0)
+            → Noted (sectionWords l) (wordPrice (nOf l) cost) rest s (getD notes s 0)
         go F (yes h) =
-            subst (λ x. Pick (sectionWords l) (wordPrice (nOf l) cost) rest x (getD picks x 0)) (F .is h)
-            (subst (Pick (sectionWords l) (wordPrice (nOf l) cost) rest (rootState l (rootOf l s)))
-            (sym (R .pick (rootOf l s) h ∙ ap (λ x. x % distanceUnit) (ranks (rootOf l s) h)))
-            (ranked-pick (uses (S .sound) cost) (rankable (S .sound) cost) rest (C .bound) (rootOf l s)
-            (listed (S .sound) cost (rootOf l s) h)
-            (subst (λ x. least x < unreached) (sym (F .is h)) o)))
+            subst (λ x. Noted (sectionWords l) (wordPrice (nOf l) cost) rest x (getD notes x 0)) (F .is h)
+            (subst (Noted (sectionWords l) (wordPrice (nOf l) cost) rest (rootState l (rootOf l s)))
+            (sym (R .note (rootOf l s) h ∙ ap (λ x. x % noteUnit) (ranks (rootOf l s) h)))
+            (ranked-note (uses (S .sound) cost) (rankable (S .sound) cost) rest (C .bound) (rootOf l s)
+            (listed (S .sound) cost (rootOf l s) h)))
         go F (no h) =
-            let e = least-else (uses (S .sound) cost) unreached rest (C .bound) s (none-listed (S .sound) cost s (F .none (omega arith))) in
-            absurd (omega arith)
+            let none = F .none (omega arith) in
+            let e = least-else (uses (S .sound) cost) unreached rest (C .bound) s (none-listed (S .sound) cost s none) in
+            let n = R .none s k none .1 in
+            record {
+              none = λ i. e;
+              goal-lt = λ i. absurd (omega arith);
+              remainder = λ i. absurd (omega arith);
+              adds-up = λ i. absurd (omega arith);
+              first = λ i. absurd (omega arith);
+            }
 
-  pub passed : BlockPassed l prices left new picks
-  passed = record { long = R .long; picksLong = R .picksLong; least = least-is; pick = pick-is }
+  pub passed : BlockPassed l prices left new notes
+  passed = record {
+    long = R .long;
+    notesLong = R .notesLong;
+    least = least-is;
+    noted = noted-is;
+    unrooted = λ s h n. R .none s h n .1;
+  }

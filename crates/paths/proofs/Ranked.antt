@@ -1,8 +1,9 @@
--- One number for a distance and a word. Label and goal together stay below 2^22, so the number divided by it is the distance, and
+-- One number for a distance and a word. Label and goal together stay below 2^23, so the number divided by it is the distance, and
 -- a smaller distance always gives a smaller number. Symbol by symbol the costs add up to the distance, and the symbols, each at its
 -- place, to the label; what is added behind the block brings the goal. So the least number over the words of a root has the least
 -- distance; among the words of that distance it belongs to the one with the least label and goal, and as the words ascend, that is the
--- first of them: the word that the distances name.
+-- first of them: the word that the distances name. A number below the top is some word's own, with nothing cut off, so that its note tells
+-- the word and the distance's remainder; the top's note ends in 127, which is no goal.
 use mathlib.Core.Path.{_≡_, refl, sym, ap, subst, _∙_}
 use mathlib.Core.Bool.{Bool, true, false, cond}
 use mathlib.Core.Logic.{⊎-elim}
@@ -23,12 +24,13 @@ use Rattle.paths.specs.Chain.{unreached, rootedAt}
 use Rattle.paths.specs.inner.Costs.{plus, minAll, least, firstWith}
 use Rattle.paths.specs.inner.Sections.{sectionLeast}
 use Rattle.paths.specs.inner.OneBlock.{onwardCost, leastOver, firstOver}
-use Rattle.paths.specs.inner.Ranked.{labelUnit, distanceUnit, ranked, topRank, rankedCost, rankedLeft, Pick}
+use Rattle.paths.specs.inner.Ranked.{labelUnit, distanceUnit, ranked, topRank, rankedCost, rankedLeft}
+use Rattle.paths.specs.inner.Ranked.{noteUnit, noteGoal, noteWord, Noted}
 use Rattle.paths.specs.inner.Ordered.{Ordered, leads, ended}
 use Rattle.paths.proofs.Sections.{costFrom, sectionTrace}
 use Rattle.paths.proofs.Ordered.{ordered-keep, ordered-as}
 use Rattle.paths.proofs.Ascent.{Symbols, no-more, one-more, Bounded}
-use Rattle.paths.proofs.Capped.{min-same}
+use Rattle.paths.proofs.Capped.{min-same, min-all-le}
 use Rattle.paths.proofs.Trace.{of-first}
 use Rattle.paths.proofs.Words.{rooted-words, whole-fits}
 use Rattle.paths.proofs.Block.{Spells, block-cost}
@@ -66,30 +68,25 @@ ranked-from n cost {k = suc k} {us = a ∷ rest} (one-more p s) t h =
 
 -- ---- one word: its distance f, its label and goal in one number K, and all three in one number F
 
-record Ranks (f F K : ℕ) : Type 0 where
+record Ranks (f d F K : ℕ) : Type 0 where
   front : F / distanceUnit ≡ f
-  whole : f < 4294967295 → F ≡ f * distanceUnit + K
+  whole : F < topRank → F ≡ f * distanceUnit + K
+  uncut : F < topRank → f ≡ d
   small : K < distanceUnit
 
 ranks : (rest : ℕ → ℕ) (d label goal : ℕ) → rest goal ≤ 4294967295 → label < 65536 → goal < labelUnit
-    → Ranks (plus 4294967295 d (rest goal)) (plus topRank (d * distanceUnit + label * labelUnit) (rankedLeft (rest goal) goal))
+    → Ranks (plus 4294967295 d (rest goal)) (d + rest goal)
+    (plus topRank (d * distanceUnit + label * labelUnit) (rankedLeft (rest goal) goal))
     (label * labelUnit + goal)
 unfolding plus rankedLeft ranked
-ranks rest d label goal h l g = go (ltb (rest goal) 4294967295) refl
-  where
-    go : (b : Bool) → ltb (rest goal) 4294967295 ≡ b
-        → Ranks (min 4294967295 (d + rest goal))
-        (min topRank (d * distanceUnit + label * labelUnit + cond b (rest goal * distanceUnit + (0 * labelUnit + goal)) topRank))
-        (label * labelUnit + goal)
-    go true e = let k = ltb-true (rest goal) 4294967295 e in record { front = omega arith; whole = λ z. omega arith; small = omega arith }
-    go false e = let k = ltb-false (rest goal) 4294967295 e in record { front = omega arith; whole = λ z. omega arith; small = omega arith }
+ranks rest d label goal h l g = record { front = omega arith; whole = λ z. omega arith; uncut = λ z. omega arith; small = omega arith }
 
 -- what is not cheaper, and comes no sooner where it is as cheap
-above : {f F K : ℕ} → Ranks f F K → (c k : ℕ) → c < 4294967295 → k < distanceUnit → c ≤ f → k ≤ K → c * distanceUnit + k ≤ F
-above {f} {F} {K} r c k h s l j = go (decLe f c)
+above : {f d F K : ℕ} → Ranks f d F K → (c k : ℕ) → c < 4294967295 → k < distanceUnit → c ≤ f → k ≤ K → c * distanceUnit + k ≤ F
+above {f} {d} {F} {K} r c k h s l j = go (decLe f c)
   where
     go : Dec (f ≤ c) → c * distanceUnit + k ≤ F
-    go (yes a) = let w = r .whole (omega arith) in omega arith
+    go (yes a) = let e = r .front in let w = r .whole (omega arith) in omega arith
     go (no a) = let w = r .front in omega arith
 
 -- ---- a list of words
@@ -108,9 +105,28 @@ least-under top f [] x m = absurd (List·Memᴰ·not-nil m)
 least-under top f (y ∷ xs) x m =
     ⊎-elim (λ e. let i = ap f e in omega arith) (λ k. let i = least-under top f xs x k in omega arith) (List·Memᴰ·cases-cons m)
 
-module _ {A : Type 0} {f F K : A → ℕ} where
+-- the least number is the top, or that of a member
+record LeastOf {A : Type 0} (F : A → ℕ) (xs : List A) (c : ℕ) : Type 0 where
+  member : A
+  listed : member ∈ xs
+  is : c ≡ F member
+
+least-of : {A : Type 0} (top : ℕ) (F : A → ℕ) (xs : List A) → minAll top F xs < top → LeastOf F xs (minAll top F xs)
+unfolding minAll
+least-of top F [] h = absurd (omega arith)
+least-of {A} top F (x ∷ xs) h = go (decLe (F x) (minAll top F xs)) (least-of top F xs)
+  where
+    go : Dec (F x ≤ minAll top F xs) → (minAll top F xs < top → LeastOf F xs (minAll top F xs))
+        → LeastOf F (x ∷ xs) (min (F x) (minAll top F xs))
+    go (yes l) i = record { member = x; listed = List·Memᴰ·head refl; is = omega arith }
+    go (no l) i =
+        let R = i (omega arith) in
+        let e = R .is in
+        record { member = R .member; listed = List·Memᴰ·tail (R .listed); is = omega arith }
+
+module _ {A : Type 0} {f d F K : A → ℕ} where
   -- the distance of the least number is the least distance
-  least-front : (xs : List A) → ((x : A) → x ∈ xs → Ranks (f x) (F x) (K x)) → minAll topRank F xs / distanceUnit ≡ minAll 4294967295 f xs
+  least-front : (xs : List A) → ((x : A) → x ∈ xs → Ranks (f x) (d x) (F x) (K x)) → minAll topRank F xs / distanceUnit ≡ minAll 4294967295 f xs
   unfolding minAll
   least-front [] r = omega arith
   least-front (x ∷ xs) r =
@@ -119,7 +135,7 @@ module _ {A : Type 0} {f F K : A → ℕ} where
       omega arith
 
   -- the first of those with the least distance has the least number
-  least-first : {xs : List A} → Ordered (λ x y. K x < K y) xs → ((x : A) → x ∈ xs → Ranks (f x) (F x) (K x))
+  least-first : {xs : List A} → Ordered (λ x y. K x < K y) xs → ((x : A) → x ∈ xs → Ranks (f x) (d x) (F x) (K x))
       → (c : ℕ) → c < 4294967295 → ((x : A) → x ∈ xs → c ≤ f x)
       → (w : A) → K w < distanceUnit → firstWith (λ x. eqb (f x) c) xs ≡ just w → minAll topRank F xs ≡ c * distanceUnit + K w
   unfolding firstWith minAll
@@ -133,6 +149,7 @@ module _ {A : Type 0} {f F K : A → ℕ} where
           let q : x ≡ w = cc in
           let j = ap K q in
           let u = eqb-true (f x) c t in
+          let p = r x (List·Memᴰ·head refl) .front in
           let v = r x (List·Memᴰ·head refl) .whole (omega arith) in
           let s
           = least-from topRank F xs (c * distanceUnit + K w) (omega arith)
@@ -169,13 +186,13 @@ pub record Rankable (edges : ℕ → List Edge) (n goals : ℕ) (roots : List �
   pub small : (g : ℕ) → g < goals → goalOf g < mostStates
   pub ordered : Ordered Before (wordsOf n edges roots rootOf goalOf)
 
--- a number of 22 bits with a label and a goal in it
-record Reads (pick label goal : ℕ) : Type 0 where
-  label-is : label ≡ pick / labelUnit
-  goal-is : goal ≡ pick % labelUnit
+-- a note with a label and a goal in it
+record Reads (note label goal : ℕ) : Type 0 where
+  label-is : label ≡ note % distanceUnit / labelUnit
+  goal-is : goal ≡ noteGoal note
 
 reads : {rank : ℕ} (d label goal : ℕ) → rank ≡ d * distanceUnit + (label * labelUnit + goal) → label < 65536 → goal < mostStates
-    → Reads (rank % distanceUnit) label goal
+    → Reads (rank % noteUnit) label goal
 reads d label goal e l g = record { label-is = omega arith; goal-is = omega arith }
 
 module _ {ws : List Word} {price : Word → ℕ} {edges : ℕ → List Edge} {n goals : ℕ} {roots : List ℕ} {rootOf goalOf : ℕ → ℕ}
@@ -229,10 +246,13 @@ module _ {ws : List Word} {price : Word → ℕ} {edges : ℕ → List Edge} {n 
   abbrev key : Word → ℕ
   key w = w .label * labelUnit + w .goal
 
-  mine-ranks : (v : ℕ) (w : Word) → w ∈ mine v → Ranks (onWord w) (onRank w) (key w)
+  abbrev uncutCost : Word → ℕ
+  uncutCost w = price w + left (w .goal)
+
+  mine-ranks : (v : ℕ) (w : Word) → w ∈ mine v → Ranks (onWord w) (uncutCost w) (onRank w) (key w)
   mine-ranks v w m =
       let M = mine-is v w m in
-      subst (λ x. Ranks (onWord w) x (key w)) (plus-capped topRank (priceRanked w) (rankedLeft (left (w .goal)) (w .goal)))
+      subst (λ x. Ranks (onWord w) (uncutCost w) x (key w)) (plus-capped topRank (priceRanked w) (rankedLeft (left (w .goal)) (w .goal)))
       (ranks left (price w) (w .label) (w .goal) (bound (w .goal)) (M .label-lt) (omega (arith, M .goal-lt)))
 
   -- the words of a vertex ascend by label and goal
@@ -268,16 +288,41 @@ module _ {ws : List Word} {price : Word → ℕ} {edges : ℕ → List Edge} {n 
   pub ranked-least : (v : ℕ) → v ∈ roots → rankFrom v / distanceUnit ≡ leastOver ws price unreached left (rootOf v)
   ranked-least v m = ap (λ x. x / distanceUnit) (sym (rank-is v)) ∙ least-front (mine v) (mine-ranks v) ∙ over-mine v m
 
-  -- and below it the label and the goal of the first word of that cost
-  pub ranked-pick : (v : ℕ) → v ∈ roots → leastOver ws price unreached left (rootOf v) < unreached
-      → Pick ws price left (rootOf v) (rankFrom v % distanceUnit)
+  -- a rank below the top is that of a word, which its note names
+  record OwnWord (v : ℕ) : Type 0 where
+    word-of : Word
+    same : word-of ≡ noteWord (rootOf v) (rankFrom v % noteUnit)
+    goal-lt : word-of .goal < mostStates
+    adds-up : leastOver ws price unreached left (rootOf v) ≡ uncutCost word-of
+
+  own-word : (v : ℕ) → v ∈ roots → rankFrom v < topRank → OwnWord v
+  own-word v m h =
+      let R = least-of topRank onRank (mine v) (subst (λ x. x < topRank) (sym (rank-is v)) h) in
+      let w = R .member in
+      let M = mine-is v w (R .listed) in
+      let K = mine-ranks v w (R .listed) in
+      let e : rankFrom v ≡ onRank w = sym (rank-is v) ∙ R .is in
+      let below : onRank w < topRank = subst (λ x. x < topRank) e h in
+      let N = reads (onWord w) (w .label) (w .goal) (e ∙ K .whole below) (M .label-lt) (M .goal-lt) in
+      record {
+        word-of = w;
+        same = λ i. word (M .root-is i) (N .label-is i) (N .goal-is i);
+        goal-lt = M .goal-lt;
+        adds-up = sym (ranked-least v m) ∙ ap (λ x. x / distanceUnit) e ∙ K .front ∙ K .uncut below;
+      }
+
+  rank-le : (v : ℕ) → rankFrom v ≤ topRank
+  rank-le v = subst (λ x. x ≤ topRank) (rank-is v) (min-all-le topRank onRank (mine v))
+
+  -- a note that is not that of no path is of a rank below the top
+  note-below : (v : ℕ) → rankFrom v % noteUnit < unreached → rankFrom v < topRank
+  note-below v h = let k = rank-le v in omega arith
+
+  -- the first word of least cost has the least number
+  first-named : (v : ℕ) → v ∈ roots → leastOver ws price unreached left (rootOf v) < unreached
+      → firstOver ws price unreached left (rootOf v) ≡ just (noteWord (rootOf v) (rankFrom v % noteUnit))
   unfolding firstOver wordOf
-  ranked-pick v m h = record {
-    small = omega arith;
-    goal-lt = subst (λ x. x < mostStates) (K .goal-is) (M .goal-lt);
-    first = first
-        ∙ ap just same;
-  }
+  first-named v m h = first ∙ ap just same
     where
       c : ℕ
       c = leastOver ws price unreached left (rootOf v)
@@ -297,12 +342,31 @@ module _ {ws : List Word} {price : Word → ℕ} {edges : ℕ → List Edge} {n 
       least : (x : Word) → x ∈ mine v → c ≤ onWord x
       least x k = subst (λ z. z ≤ onWord x) (over-mine v m) (least-under unreached onWord (mine v) x k)
 
-      K : Reads (rankFrom v % distanceUnit) (w .label) (w .goal)
-      K =
+      N : Reads (rankFrom v % noteUnit) (w .label) (w .goal)
+      N =
           reads c (w .label) (w .goal)
           (sym (rank-is v) ∙ least-first (mine-ascend v m) (mine-ranks v) c h least w
           (mine-ranks v w (of-first (λ x. eqb (onWord x) c) (mine v) named .0) .small) named)
           (M .label-lt) (M .goal-lt)
 
-      same : w ≡ word (rootOf v) (rankFrom v % distanceUnit / labelUnit) (rankFrom v % distanceUnit % labelUnit)
-      same = λ i. word (rootOf v) (K .label-is i) (K .goal-is i)
+      same : w ≡ noteWord (rootOf v) (rankFrom v % noteUnit)
+      same = λ i. word (rootOf v) (N .label-is i) (N .goal-is i)
+
+  pub ranked-note : (v : ℕ) → v ∈ roots → Noted ws price left (rootOf v) (rankFrom v % noteUnit)
+  ranked-note v m = record {
+    none = none;
+    goal-lt = λ h. goal-lt (own-word v m (note-below v h));
+    remainder = λ h. let e = ranked-least v m in omega arith;
+    adds-up = λ h. let O = own-word v m (note-below v h) in O .adds-up ∙ ap uncutCost (O .same);
+    first = first-named v m;
+  }
+    where
+      goal-lt : OwnWord v → noteGoal (rankFrom v % noteUnit) < mostStates
+      goal-lt O = subst (λ w. w .goal < mostStates) (O .same) (O .goal-lt)
+
+      none : unreached ≤ rankFrom v % noteUnit → leastOver ws price unreached left (rootOf v) ≡ unreached
+      none h = go (decLe topRank (rankFrom v))
+        where
+          go : Dec (topRank ≤ rankFrom v) → leastOver ws price unreached left (rootOf v) ≡ unreached
+          go (yes k) = let e = ranked-least v m in let l = rank-le v in omega arith
+          go (no k) = let g = goal-lt (own-word v m (omega arith)) in absurd (omega arith)

@@ -1,6 +1,6 @@
--- `chain::decode_with` fills the table and follows the picks: what these leave is what the frame's best path gives.
+-- `chain::decode_with` goes backward, forward, and turns the notes into costs: what is left is what the frame's best path gives.
 use borrow.Author.Needs.{needs}
-use Rattle.chain.proofs.Ends.{ready, with-none, with-picks, with-path}
+use Rattle.chain.proofs.Ends.{ready, with-notes, with-none, with-way, with-path}
 use Rattle.chain.proofs.decode_with.Statement.{statement}
 use Rattle.chain.proofs.decode_with.Tie as tie
 
@@ -15,44 +15,67 @@ ends-in-requires c κs = search needs
 
 fill-requires : tie.Need-fill-requires
 fill-requires c κs =
-    let ends-in = c .before .before in
-    let entry = ends-in .before .before .before .before .before .before .before .before .before .before .before in
-    (ready (entry .pre .0 .checks), ends-in .ends-in .ensures .long, entry .pre .1 .forCosts, entry .pre .2)
+    let ends-in = c .before in
+    let entry = ends-in .before .before .before .before .before .before .before .before .before .before in
+    (ready (entry .pre .0 .checks), ends-in .ends-in .ensures .long, entry .pre .1 .forCosts)
 
 mul-distance : tie.Need-mul-distance
 mul-distance c = search needs
 
-slice-read-distance : tie.Need-slice-read-distance
-slice-read-distance c = search needs
+array-read-distance : tie.Need-array-read-distance
+array-read-distance c = search needs
+
+settle-requires : tie.Need-settle-requires
+settle-requires c κs =
+    let fill = c .before .before .before .before in
+    let ends-in = fill .before .before in
+    let widened2 = ends-in .before in
+    let widened = widened2 .before in
+    let entry = widened .before .before .before .before .before .before .before .before in
+    with-notes (entry .pre .0) (widened .widened .ensures .0) (widened2 .widened2 .ensures .0) (ends-in .ends-in .ensures) (entry .pre .1)
+    (fill .fill .ensures)
 
 same-length : tie.Need-same-length
 same-length c = search needs
 
-same-length-2 : tie.Need-same-length-2
-same-length-2 c = search needs
-
 returns : tie.Need-returns
 returns c =
-    let fill = c .before .before .before .before .before .before in
-    let ends-in = fill .before .before .before in
+    let settle = c .before .before in
+    let then1 = settle .before .before in
+    let fill = then1 .before .before .before in
+    let ends-in = fill .before .before in
     let widened2 = ends-in .before in
     let widened = widened2 .before in
-    let entry = widened .before .before .before .before .before .before .before .before .before in
+    let entry = widened .before .before .before .before .before .before .before .before in
     with-none (entry .pre .0) (widened .widened .ensures .0) (widened2 .widened2 .ensures .0) (ends-in .ends-in .ensures) (entry .pre .1)
     (fill .fill .ensures)
-    (c .if1 .taken)
+    (then1 .if1 .taken) (settle .settle .ensures)
 
 follow-requires : tie.Need-follow-requires
 follow-requires c κs =
     let else1 = c .before .before .before in
-    let fill = else1 .before .before .before .before .before .before in
-    let ends-in = fill .before .before .before in
+    let fill = else1 .before .before .before in
+    let ends-in = fill .before .before in
     let widened2 = ends-in .before in
     let widened = widened2 .before in
-    let entry = widened .before .before .before .before .before .before .before .before .before in
-    with-picks (entry .pre .0) (widened .widened .ensures .0) (widened2 .widened2 .ensures .0) (ends-in .ends-in .ensures) (entry .pre .1)
+    let entry = widened .before .before .before .before .before .before .before .before in
+    with-way (entry .pre .0) (widened .widened .ensures .0) (widened2 .widened2 .ensures .0) (ends-in .ends-in .ensures) (entry .pre .1)
     (fill .fill .ensures)
-    (else1 .if1 .left) (entry .pre .2)
+    (else1 .if1 .left)
+
+settle-requires-2 : tie.Need-settle-requires-2
+settle-requires-2 c κs =
+    let else1 = c .before .before .before .before .before .before .before .before .before in
+    let fill = else1 .before .before .before in
+    let ends-in = fill .before .before in
+    let widened2 = ends-in .before in
+    let widened = widened2 .before in
+    let entry = widened .before .before .before .before .before .before .before .before in
+    with-notes (entry .pre .0) (widened .widened .ensures .0) (widened2 .widened2 .ensures .0) (ends-in .ends-in .ensures) (entry .pre .1)
+    (fill .fill .ensures)
+
+same-length-2 : tie.Need-same-length-2
+same-length-2 c = search needs
 
 same-length-3 : tie.Need-same-length-3
 same-length-3 c = search needs
@@ -60,23 +83,19 @@ same-length-3 c = search needs
 same-length-4 : tie.Need-same-length-4
 same-length-4 c = search needs
 
-same-length-5 : tie.Need-same-length-5
-same-length-5 c = search needs
-
-same-length-6 : tie.Need-same-length-6
-same-length-6 c = search needs
-
 returns-2 : tie.Need-returns-2
 returns-2 c =
-    let follow = c .before .before .before .before in
+    let settle2 = c .before .before in
+    let follow = settle2 .before .before .before .before .before .before in
     let else1 = follow .before .before .before .before in
-    let fill = else1 .before .before .before .before .before .before in
-    let ends-in = fill .before .before .before in
+    let fill = else1 .before .before .before in
+    let ends-in = fill .before .before in
     let widened2 = ends-in .before in
     let widened = widened2 .before in
-    let entry = widened .before .before .before .before .before .before .before .before .before in
+    let entry = widened .before .before .before .before .before .before .before .before in
     with-path (entry .pre .0) (widened .widened .ensures .0) (widened2 .widened2 .ensures .0) (ends-in .ends-in .ensures) (entry .pre .1)
-    (fill .fill .ensures) (else1 .if1 .left) (follow .follow .ensures)
+    (fill .fill .ensures)
+    (else1 .if1 .left) (follow .follow .ensures) (settle2 .settle2 .ensures)
 
 pub decode-with-spec : {M : Type 1} → statement M
 decode-with-spec =
@@ -87,13 +106,13 @@ decode-with-spec =
     ends-in-requires
     fill-requires
     mul-distance
-    slice-read-distance
+    array-read-distance
+    settle-requires
     same-length
-    same-length-2
     returns
     follow-requires
+    settle-requires-2
+    same-length-2
     same-length-3
     same-length-4
-    same-length-5
-    same-length-6
     returns-2)

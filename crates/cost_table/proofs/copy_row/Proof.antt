@@ -1,33 +1,32 @@
 -- `cost_table::copy_row` copies number by number. The loop's invariant: those passed are copied. The measure is how many are left.
 use borrow.Author.Needs.{needs}
-use mathlib.Core.Path.{sym, _∙_}
-use Prim.Native.Nat.{_-_, _≤_}
+use Prim.Native.Nat.{_-_}
 use Rattle.trellis.specs.Bounds.{mostStates}
-use Rattle.cost_table.specs.inner.Filled.{RowCopied}
-use Rattle.cost_table.proofs.Rows.{copy-start, copy-more, copy-end}
+use Rattle.cost_table.specs.inner.Settled.{RowCopied}
+use Rattle.cost_table.proofs.Settling.{copy-start, copy-more, copy-end}
 use Rattle.cost_table.proofs.copy_row.Statement.{statement}
 use Rattle.cost_table.proofs.copy_row.Tie as tie
 
 abbrev Inv-loop : tie.InvT-loop
-Inv-loop row place₀ s₀ place s = RowCopied row place s × (s ≤ mostStates)
+Inv-loop row place₀ s₀ place s = RowCopied row place s
 
 abbrev μ-loop : tie.MeasureT-loop
 μ-loop row place₀ s₀ place s = mostStates - s
 
 loop-holds : tie.Need-loop-holds Inv-loop μ-loop
-loop-holds c = (copy-start (c .pre .1), search needs)
+loop-holds c = copy-start (search needs)
 
 mul-place : tie.Need-mul-place Inv-loop μ-loop
 mul-place c = search needs
 
-element-copy-out-place : tie.Need-element-copy-out-place Inv-loop μ-loop
-element-copy-out-place c = search needs
+shared-slice-read-place : tie.Need-shared-slice-read-place Inv-loop μ-loop
+shared-slice-read-place c = search needs
 
 mul-place-2 : tie.Need-mul-place-2 Inv-loop μ-loop
 mul-place-2 c = search needs
 
-slice-write-place : tie.Need-slice-write-place Inv-loop μ-loop
-slice-write-place c = search (needs, c .before .before .loop .inv .0 .long)
+element-write-place : tie.Need-element-write-place Inv-loop μ-loop
+element-write-place c = search needs
 
 add-s : tie.Need-add-s Inv-loop μ-loop
 add-s c = search needs
@@ -36,13 +35,10 @@ loop-less : tie.Need-loop-less Inv-loop μ-loop
 loop-less c = search needs
 
 loop-again : tie.Need-loop-again Inv-loop μ-loop
-loop-again c = (copy-more (c .before .before .loop .inv .0) (search needs), search needs)
-
-same-length : tie.Need-same-length Inv-loop μ-loop
-same-length c = c .before .loop .inv .0 .long ∙ sym (c .before .before .pre .1)
+loop-again c = copy-more (c .before .before .loop .inv) (search needs)
 
 returns : tie.Need-returns Inv-loop μ-loop
-returns c = copy-end (c .before .loop .inv .0) (search needs)
+returns c = copy-end (c .before .loop .inv) (search needs)
 
 pub copy-row-spec : {M : Type 1} → statement M
 copy-row-spec =
@@ -52,11 +48,10 @@ copy-row-spec =
     μ-loop
     loop-holds
     mul-place
-    element-copy-out-place
+    shared-slice-read-place
     mul-place-2
-    slice-write-place
+    element-write-place
     add-s
     loop-less
     loop-again
-    same-length
     returns)

@@ -1,23 +1,23 @@
--- `cost_table::fill` passes the blocks from the last to the first. The loop's invariant: what is left to pay, the cost table and
--- the picks are those of the chain from block b on. The measure is b.
+-- `cost_table::fill` passes the blocks from the last to the first. The loop's invariant: what is left to pay and the notes are those of the
+-- chain from block b on. The measure is b.
 use borrow.Author.Needs.{needs}
 use native.Mathlib.Omega.{arith}
 use lib.ListN.{length-take, length-drop}
 use Rattle.cost_table.specs.inner.Filled.{heldBlocks}
-use Rattle.cost_table.proofs.Tables.{InFill, fill-start, fill-below, block-at, rows-at, filled-part, fill-more, fill-end}
+use Rattle.cost_table.proofs.Tables.{InFill, fill-start, fill-below, block-at, row-at, filled-part, fill-more, fill-end}
 use Rattle.cost_table.proofs.Rows.{row-back}
 use Rattle.cost_table.proofs.fill.Statement.{statement}
 use Rattle.cost_table.proofs.fill.Tie as tie
 
 abbrev Inv-loop : tie.InvT-loop
-Inv-loop sections starts indices received erased costs₀ picks₀ views left₀ prices₀ even₀ odd₀ b₀ costs picks left prices even odd b =
-    InFill (heldBlocks sections starts views indices received erased) left₀ costs₀ costs picks₀ picks left prices even odd b
+Inv-loop sections starts indices received erased costs₀ views left₀ prices₀ even₀ odd₀ b₀ costs left prices even odd b =
+    InFill (heldBlocks sections starts views indices received erased) left₀ costs₀ costs left prices even odd b
 
 abbrev μ-loop : tie.MeasureT-loop
-μ-loop sections starts indices received erased costs₀ picks₀ views left₀ prices₀ even₀ odd₀ b₀ costs picks left prices even odd b = b
+μ-loop sections starts indices received erased costs₀ views left₀ prices₀ even₀ odd₀ b₀ costs left prices even odd b = b
 
 loop-holds : tie.Need-loop-holds Inv-loop μ-loop
-loop-holds c = fill-start (c .before .before .before .before .before .before .pre .1)
+loop-holds c = fill-start (c .before .before .before .before .before .pre .1)
 
 sub-b : tie.Need-sub-b Inv-loop μ-loop
 sub-b c = search needs
@@ -32,7 +32,7 @@ mul-at : tie.Need-mul-at Inv-loop μ-loop
 mul-at c =
     let turn = c .before .before in
     let head = turn .before in
-    let entry = head .before .before .before .before .before .before .before in
+    let entry = head .before .before .before .before .before .before in
     let B = block-at (entry .pre .0) (fill-below (head .loop .inv) (turn .loop-test .taken)) (c .widened .ensures .0) in
     omega arith
 
@@ -40,7 +40,7 @@ array-copy-out-at : tie.Need-array-copy-out-at Inv-loop μ-loop
 array-copy-out-at c =
     let turn = c .before .before in
     let head = turn .before in
-    let entry = head .before .before .before .before .before .before .before in
+    let entry = head .before .before .before .before .before .before in
     let B = block-at (entry .pre .0) (fill-below (head .loop .inv) (turn .loop-test .taken)) (c .widened .ensures .0) in
     omega arith
 
@@ -48,7 +48,7 @@ mul-start : tie.Need-mul-start Inv-loop μ-loop
 mul-start c =
     let turn = c .before .before .before in
     let head = turn .before in
-    let entry = head .before .before .before .before .before .before .before in
+    let entry = head .before .before .before .before .before .before in
     let B = block-at (entry .pre .0) (fill-below (head .loop .inv) (turn .loop-test .taken)) (c .before .widened .ensures .0) in
     omega arith
 
@@ -56,7 +56,7 @@ element-copy-out-start : tie.Need-element-copy-out-start Inv-loop μ-loop
 element-copy-out-start c =
     let turn = c .before .before .before in
     let head = turn .before in
-    let entry = head .before .before .before .before .before .before .before in
+    let entry = head .before .before .before .before .before .before in
     let B = block-at (entry .pre .0) (fill-below (head .loop .inv) (turn .loop-test .taken)) (c .before .widened .ensures .0) in
     omega arith
 
@@ -65,7 +65,7 @@ mul-word c =
     let widened = c .before .before in
     let turn = widened .before .before in
     let head = turn .before in
-    let entry = head .before .before .before .before .before .before .before in
+    let entry = head .before .before .before .before .before .before in
     let B = block-at (entry .pre .0) (fill-below (head .loop .inv) (turn .loop-test .taken)) (widened .widened .ensures .0) in
     omega arith
 
@@ -74,7 +74,7 @@ shared-slice-read-word c =
     let widened = c .before .before .before in
     let turn = widened .before .before in
     let head = turn .before in
-    let entry = head .before .before .before .before .before .before .before in
+    let entry = head .before .before .before .before .before .before in
     let B = block-at (entry .pre .0) (fill-below (head .loop .inv) (turn .loop-test .taken)) (widened .widened .ensures .0) in
     omega (arith, head .loop .inv .b-le, entry .pre .0 .receivedLong, entry .pre .0 .erasedLong)
 
@@ -83,7 +83,7 @@ shared-slice-read-mask c =
     let widened = c .before .before .before .before in
     let turn = widened .before .before in
     let head = turn .before in
-    let entry = head .before .before .before .before .before .before .before in
+    let entry = head .before .before .before .before .before .before in
     let B = block-at (entry .pre .0) (fill-below (head .loop .inv) (turn .loop-test .taken)) (widened .widened .ensures .0) in
     omega (arith, head .loop .inv .b-le, entry .pre .0 .receivedLong, entry .pre .0 .erasedLong)
 
@@ -92,7 +92,7 @@ mul-first c =
     let widened = c .before .before .before .before in
     let turn = widened .before .before in
     let head = turn .before in
-    let entry = head .before .before .before .before .before .before .before in
+    let entry = head .before .before .before .before .before .before in
     let B = block-at (entry .pre .0) (fill-below (head .loop .inv) (turn .loop-test .taken)) (widened .widened .ensures .0) in
     omega arith
 
@@ -101,7 +101,7 @@ add-next c =
     let widened = c .before .before .before .before in
     let turn = widened .before .before in
     let head = turn .before in
-    let entry = head .before .before .before .before .before .before .before in
+    let entry = head .before .before .before .before .before .before in
     let B = block-at (entry .pre .0) (fill-below (head .loop .inv) (turn .loop-test .taken)) (widened .widened .ensures .0) in
     omega arith
 
@@ -110,7 +110,7 @@ mul-fill-block c =
     let widened = c .before .before .before .before in
     let turn = widened .before .before in
     let head = turn .before in
-    let entry = head .before .before .before .before .before .before .before in
+    let entry = head .before .before .before .before .before .before in
     let B = block-at (entry .pre .0) (fill-below (head .loop .inv) (turn .loop-test .taken)) (widened .widened .ensures .0) in
     omega arith
 
@@ -119,7 +119,7 @@ sub-fill-block c =
     let widened = c .before .before .before .before in
     let turn = widened .before .before in
     let head = turn .before in
-    let entry = head .before .before .before .before .before .before .before in
+    let entry = head .before .before .before .before .before .before in
     let B = block-at (entry .pre .0) (fill-below (head .loop .inv) (turn .loop-test .taken)) (widened .widened .ensures .0) in
     omega arith
 
@@ -128,7 +128,7 @@ part-fill-block-start c =
     let widened = c .before .before .before .before in
     let turn = widened .before .before in
     let head = turn .before in
-    let entry = head .before .before .before .before .before .before .before in
+    let entry = head .before .before .before .before .before .before in
     let B = block-at (entry .pre .0) (fill-below (head .loop .inv) (turn .loop-test .taken)) (widened .widened .ensures .0) in
     omega arith
 
@@ -140,7 +140,7 @@ mul-fill-block-2 c =
     let widened = c .before .before .before .before .before .before in
     let turn = widened .before .before in
     let head = turn .before in
-    let entry = head .before .before .before .before .before .before .before in
+    let entry = head .before .before .before .before .before .before in
     let B = block-at (entry .pre .0) (fill-below (head .loop .inv) (turn .loop-test .taken)) (widened .widened .ensures .0) in
     omega arith
 
@@ -149,7 +149,7 @@ sub-fill-block-2 c =
     let widened = c .before .before .before .before .before .before in
     let turn = widened .before .before in
     let head = turn .before in
-    let entry = head .before .before .before .before .before .before .before in
+    let entry = head .before .before .before .before .before .before in
     let B = block-at (entry .pre .0) (fill-below (head .loop .inv) (turn .loop-test .taken)) (widened .widened .ensures .0) in
     omega arith
 
@@ -157,91 +157,48 @@ part-fill-block-start-2 : tie.Need-part-fill-block-start-2 Inv-loop μ-loop
 part-fill-block-start-2 c =
     let turn = c .before .before .before .before .before .before .before .before in
     let head = turn .before in
-    let entry = head .before .before .before .before .before .before .before in
-    let B = rows-at (head .loop .inv) (entry .pre .2) (entry .pre .3) (turn .loop-test .taken) in
+    let entry = head .before .before .before .before .before .before in
+    let B = row-at (head .loop .inv) (entry .pre .2) (turn .loop-test .taken) in
     omega arith
 
 part-fill-block-end-2 : tie.Need-part-fill-block-end-2 Inv-loop μ-loop
 part-fill-block-end-2 c =
     let turn = c .before .before .before .before .before .before .before .before in
     let head = turn .before in
-    let entry = head .before .before .before .before .before .before .before in
-    let B = rows-at (head .loop .inv) (entry .pre .2) (entry .pre .3) (turn .loop-test .taken) in
-    omega arith
-
-mul-fill-block-3 : tie.Need-mul-fill-block-3 Inv-loop μ-loop
-mul-fill-block-3 c =
-    let widened = c .before .before .before .before .before .before .before in
-    let turn = widened .before .before in
-    let head = turn .before in
-    let entry = head .before .before .before .before .before .before .before in
-    let B = block-at (entry .pre .0) (fill-below (head .loop .inv) (turn .loop-test .taken)) (widened .widened .ensures .0) in
-    omega arith
-
-sub-fill-block-3 : tie.Need-sub-fill-block-3 Inv-loop μ-loop
-sub-fill-block-3 c =
-    let widened = c .before .before .before .before .before .before .before in
-    let turn = widened .before .before in
-    let head = turn .before in
-    let entry = head .before .before .before .before .before .before .before in
-    let B = block-at (entry .pre .0) (fill-below (head .loop .inv) (turn .loop-test .taken)) (widened .widened .ensures .0) in
-    omega arith
-
-part-fill-block-start-3 : tie.Need-part-fill-block-start-3 Inv-loop μ-loop
-part-fill-block-start-3 c =
-    let turn = c .before .before .before .before .before .before .before .before .before in
-    let head = turn .before in
-    let entry = head .before .before .before .before .before .before .before in
-    let B = rows-at (head .loop .inv) (entry .pre .2) (entry .pre .3) (turn .loop-test .taken) in
-    omega arith
-
-part-fill-block-end-3 : tie.Need-part-fill-block-end-3 Inv-loop μ-loop
-part-fill-block-end-3 c =
-    let turn = c .before .before .before .before .before .before .before .before .before in
-    let head = turn .before in
-    let entry = head .before .before .before .before .before .before .before in
-    let B = rows-at (head .loop .inv) (entry .pre .2) (entry .pre .3) (turn .loop-test .taken) in
+    let entry = head .before .before .before .before .before .before in
+    let B = row-at (head .loop .inv) (entry .pre .2) (turn .loop-test .taken) in
     omega arith
 
 fill-block-requires : tie.Need-fill-block-requires Inv-loop μ-loop
 fill-block-requires c κs =
-    let widened = c .before .before .before .before .before .before .before .before .before .before .before in
+    let widened = c .before .before .before .before .before .before .before .before .before .before in
     let turn = widened .before .before in
     let head = turn .before in
-    let entry = head .before .before .before .before .before .before .before in
-    let R = rows-at (head .loop .inv) (entry .pre .2) (entry .pre .3) (turn .loop-test .taken) in (
+    let entry = head .before .before .before .before .before .before in (
       block-at (entry .pre .0) (fill-below (head .loop .inv) (turn .loop-test .taken)) (widened .widened .ensures .0) .seen,
-      record {
-        costsLong = simp (length-take, length-drop) (omega (arith, R .costs-in));
-        picksLong = simp (length-take, length-drop) (omega (arith, R .picks-in));
-      },
+      simp (length-take, length-drop) (omega (arith, row-at (head .loop .inv) (entry .pre .2) (turn .loop-test .taken))),
       head .loop .inv .working,
     )
 
 loop-less : tie.Need-loop-less Inv-loop μ-loop
 loop-less c =
-    let turn = c .before .before .before .before .before .before .before .before .before .before .before .before .before .before .before
-    .before .before .before in
+    let turn = c .before .before .before .before .before .before .before .before .before .before .before .before .before .before .before in
     omega (arith, turn .loop-test .taken)
 
 loop-again : tie.Need-loop-again Inv-loop μ-loop
 loop-again c =
-    let fill-block = c .before .before .before .before in
-    let widened = fill-block .before .before .before .before .before .before .before .before .before .before .before .before in
+    let fill-block = c .before .before in
+    let widened = fill-block .before .before .before .before .before .before .before .before .before .before .before in
     let turn = widened .before .before in
     let head = turn .before in
-    let entry = head .before .before .before .before .before .before .before in
+    let entry = head .before .before .before .before .before .before in
     let E = fill-block .fill-block .ensures in
-    let R = rows-at (head .loop .inv) (entry .pre .2) (entry .pre .3) (turn .loop-test .taken) in
     fill-more (head .loop .inv) (turn .loop-test .taken) (filled-part (block-at (entry .pre .0)
     (fill-below (head .loop .inv) (turn .loop-test .taken)) (widened .widened .ensures .0)) (E .0)) (E .1)
-    (row-back (E .0 .copied .long) (R .costs-in)) (row-back (E .0 .passed .picksLong) (R .picks-in))
+    (row-back (E .0 .passed .notesLong) (row-at (head .loop .inv) (entry .pre .2) (turn .loop-test .taken)))
 
 same-length : tie.Need-same-length Inv-loop μ-loop
 same-length c = c .before .loop .inv .long
-
-same-length-2 : tie.Need-same-length-2 Inv-loop μ-loop
-same-length-2 c = c .before .loop .inv .picksLong
 
 returns : tie.Need-returns Inv-loop μ-loop
 returns c = fill-end (c .before .loop .inv) (search needs)
@@ -273,13 +230,8 @@ fill-spec =
     sub-fill-block-2
     part-fill-block-start-2
     part-fill-block-end-2
-    mul-fill-block-3
-    sub-fill-block-3
-    part-fill-block-start-3
-    part-fill-block-end-3
     fill-block-requires
     loop-less
     loop-again
     same-length
-    same-length-2
     returns)

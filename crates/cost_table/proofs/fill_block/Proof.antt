@@ -1,4 +1,4 @@
--- `cost_table::fill_block` makes the prices, passes the block and copies what is left to pay.
+-- `cost_table::fill_block` makes the prices and passes the block.
 use borrow.Author.Needs.{needs}
 use native.Mathlib.Omega.{arith}
 use Rattle.section_file.proofs.Seen.{header}
@@ -8,30 +8,23 @@ use Rattle.cost_table.proofs.fill_block.Tie as tie
 
 put-prices-requires : tie.Need-put-prices-requires
 put-prices-requires c κs =
-    let entry = c .before .before .before .before in
+    let entry = c .before .before .before in
     let H = header (entry .pre .0) in (omega (arith, H .n-is, H .n-le), entry .pre .2 .room)
 
 pass-block-requires : tie.Need-pass-block-requires
 pass-block-requires c κs = search needs
 
-copy-row-requires : tie.Need-copy-row-requires
-copy-row-requires c κs = search needs
-
 same-length : tie.Need-same-length
 same-length c = search needs
 
-same-length-2 : tie.Need-same-length-2
-same-length-2 c = search needs
-
 returns : tie.Need-returns
 returns c =
-    let copy-row = c .before .before in
-    let pass-block = copy-row .before .before .before .before .before in
+    let pass-block = c .before .before in
     let put-prices = pass-block .before .before .before .before .before .before .before in
-    let entry = put-prices .before .before .before .before .before in
+    let entry = put-prices .before .before .before .before in
     let P = put-prices .put-prices .ensures in
     let B = pass-block .pass-block .ensures in (
-      block-filled (header (entry .pre .0) .n-is) P (B .0) (copy-row .copy-row .ensures),
+      block-filled (header (entry .pre .0) .n-is) P (B .0),
       record { leftLong = B .0 .long; room = P .room; evenLong = B .1; oddLong = B .2 },
     )
 
@@ -41,7 +34,5 @@ fill-block-spec =
     (tie.spec
     put-prices-requires
     pass-block-requires
-    copy-row-requires
     same-length
-    same-length-2
     returns)

@@ -1,12 +1,12 @@
--- The blocks of a frame as the code holds them, and what passing them backward leaves: the cost table and the picks of whatever chain they
--- are, wherever its paths may end.
+-- The blocks of a frame as the code holds them, and what passing them backward leaves: a note for each state before each block, of whatever
+-- chain they are, wherever its paths may end.
 use mathlib.Core.Path.{_≡_}
 use mathlib.Core.List.{List}
-use Prim.Native.Nat.{ℕ, suc, _*_, _≤_, _<_}
+use Prim.Native.Nat.{ℕ, suc, _+_, _*_, _≤_, _<_}
 use lib.ListN.{length, getD, drop}
 use Rattle.trellis.specs.Bounds.{mostStates, mostWords, mostSections, mostBlocks, costsABlock}
 use Rattle.trellis.specs.Word.{Word}
-use Rattle.trellis.specs.Layout.{nOf, sectionWords}
+use Rattle.trellis.specs.Layout.{nOf, vertexCountOf, rootState, sectionWords}
 use Rattle.paths.specs.Chain.{unreached, endsIn}
 use Rattle.paths.specs.inner.Chains.{atEnd}
 use Rattle.section_file.specs.inner.View.{Seen}
@@ -16,7 +16,7 @@ use Rattle.sections.specs.inner.Found.{noView}
 use Rattle.block.specs.Received.{blockDistance}
 use Rattle.block.specs.inner.Prices.{Prices}
 use Rattle.passes.specs.inner.Blocks.{BlockPassed}
-use Rattle.passes.specs.inner.Chains.{Chain, CostsFrom, Picked}
+use Rattle.passes.specs.inner.Chains.{Chain, LeftAt, NotesFrom}
 
 pub record HeldBlocks : Type 0 where
   pub sections : List ℕ
@@ -30,16 +30,6 @@ abbrev pub heldBlocks : List ℕ → List ℕ → List View → List ℕ → Lis
 heldBlocks sections starts views indices received erased =
     record { sections = sections; starts = starts; views = views; indices = indices; received = received; erased = erased }
 
--- the first s numbers of a row of 64 are copied
-pub record RowCopied (row place : List ℕ) (s : ℕ) : Type 0 where
-  pub long : length place ≡ mostStates
-  pub at : (u : ℕ) → u < s → getD place u 0 ≡ getD row u 0
-
--- the parts of the cost table and of the picks that a block has
-pub record BlockRows (costs picks : List ℕ) : Type 0 where
-  pub costsLong : length costs ≡ mostStates
-  pub picksLong : length picks ≡ mostStates
-
 -- working room: what is left to pay, the prices, the two rows
 pub record Working (left prices even odd : List ℕ) : Type 0 where
   pub leftLong : length left ≡ mostStates
@@ -47,12 +37,11 @@ pub record Working (left prices even odd : List ℕ) : Type 0 where
   pub evenLong : length even ≡ mostWords
   pub oddLong : length odd ≡ mostWords
 
--- one block is passed, its symbols costing what the received label and the mask say, and what is left to pay before it is copied
-pub record BlockFilled (l : List ℕ) (received mask : ℕ) (left new costs picks : List ℕ) : Type 0 where
+-- one block is passed, its symbols costing what the received label and the mask say
+pub record BlockFilled (l : List ℕ) (received mask : ℕ) (left new notes : List ℕ) : Type 0 where
   pub prices : List ℕ
   pub priced : Prices (nOf l) received mask prices
-  pub passed : BlockPassed l prices left new picks
-  pub copied : RowCopied new costs mostStates
+  pub passed : BlockPassed l prices left new notes
 
 -- nothing is left to pay in a state where a path may end, and there is no path from any other
 pub record EndsAs (C : Chain) (left : List ℕ) : Type 0 where
@@ -88,10 +77,18 @@ module _ (H : HeldBlocks) where
     pub priceIs : (b : ℕ) → b < length (H .indices) → (w : Word)
         → C .price b w ≡ blockDistance (nOf (blockPart b)) (getD (H .received) b 0) (getD (H .erased) b 0) (w .label)
 
-  -- the table is filled, and places beyond it are as they were; `left` has what is left to pay behind the last block
-  pub record Filled (left old new oldPicks picks : List ℕ) : Type 0 where
-    pub long : length new ≡ length old
-    pub picksLong : length picks ≡ length oldPicks
-    pub kept : (i : ℕ) → costsABlock * length (H .indices) ≤ i → getD new i 0 ≡ getD old i 0
-    pub costs : (C : Chain) → ChainOf C → EndsAs C left → CostsFrom C 0 new
-    pub picked : (C : Chain) → ChainOf C → EndsAs C left → Picked C 0 picks
+  -- from block b on, a state that is no root of its block has the note of no path
+  pub record Unrooted (b : ℕ) (notes : List ℕ) : Type 0 where
+    pub at : (c s : ℕ) → b ≤ c → c < length (H .indices) → s < mostStates
+        → ((u : ℕ) → u < vertexCountOf (blockPart c) 0 → rootState (blockPart c) u ≡ s → ⊥)
+        → getD notes (costsABlock * c + s) 0 ≡ unreached
+
+  -- the notes are there, and places beyond them are as they were; `left` has what is left to pay behind the last block, and `new` before
+  -- the first
+  pub record Filled (left new old notes : List ℕ) : Type 0 where
+    pub long : length notes ≡ length old
+    pub newLong : length new ≡ mostStates
+    pub kept : (i : ℕ) → costsABlock * length (H .indices) ≤ i → getD notes i 0 ≡ getD old i 0
+    pub unrooted : Unrooted 0 notes
+    pub noted : (C : Chain) → ChainOf C → EndsAs C left → NotesFrom C 0 notes
+    pub leftIs : (C : Chain) → ChainOf C → EndsAs C left → LeftAt C 0 new

@@ -1,4 +1,4 @@
--- `passes::follow` goes from block to block by the picks. The loop's invariant: whatever chain the picks are of, the words written are the
+-- `passes::follow` goes from block to block by the notes. The loop's invariant: whatever chain the notes are of, the words written are the
 -- beginning of its path, and what is left of the path starts in this state. The measure is how many blocks are left.
 use borrow.Author.Needs.{needs}
 use Prim.Native.Nat.{_-_}
@@ -7,25 +7,25 @@ use Rattle.passes.proofs.follow.Statement.{statement}
 use Rattle.passes.proofs.follow.Tie as tie
 
 abbrev Inv-loop : tie.InvT-loop
-Inv-loop blocks start picks labels₀ goals₀ s₀ b₀ labels goals s b = InFollow blocks start picks labels₀ labels goals₀ goals b s
+Inv-loop blocks start notes labels₀ goals₀ s₀ b₀ labels goals s b = InFollow blocks start notes labels₀ labels goals₀ goals b s
 
 abbrev μ-loop : tie.MeasureT-loop
-μ-loop blocks start picks labels₀ goals₀ s₀ b₀ labels goals s b = blocks - b
+μ-loop blocks start notes labels₀ goals₀ s₀ b₀ labels goals s b = blocks - b
 
 loop-holds : tie.Need-loop-holds Inv-loop μ-loop
 loop-holds c = follow-start (c .before .before .before .pre)
 
-mul-pick : tie.Need-mul-pick Inv-loop μ-loop
-mul-pick c = search (needs, here (c .before .before .before .before .before .pre) (c .before .loop .inv) (c .loop-test .taken))
+mul-note : tie.Need-mul-note Inv-loop μ-loop
+mul-note c = search (needs, here (c .before .before .before .before .before .pre) (c .before .loop .inv) (c .loop-test .taken))
 
-add-pick : tie.Need-add-pick Inv-loop μ-loop
-add-pick c = search (needs, here (c .before .before .before .before .before .pre) (c .before .loop .inv) (c .loop-test .taken))
+add-note : tie.Need-add-note Inv-loop μ-loop
+add-note c = search (needs, here (c .before .before .before .before .before .pre) (c .before .loop .inv) (c .loop-test .taken))
 
-mul-pick-2 : tie.Need-mul-pick-2 Inv-loop μ-loop
-mul-pick-2 c = search (needs, here (c .before .before .before .before .before .pre) (c .before .loop .inv) (c .loop-test .taken))
+mul-note-2 : tie.Need-mul-note-2 Inv-loop μ-loop
+mul-note-2 c = search (needs, here (c .before .before .before .before .before .pre) (c .before .loop .inv) (c .loop-test .taken))
 
-shared-slice-read-pick : tie.Need-shared-slice-read-pick Inv-loop μ-loop
-shared-slice-read-pick c =
+shared-slice-read-note : tie.Need-shared-slice-read-note Inv-loop μ-loop
+shared-slice-read-note c =
     let head = c .before .before in
     let entry = head .before .before .before .before in
     search (needs, here (entry .pre) (head .loop .inv) (c .before .loop-test .taken))
@@ -34,11 +34,7 @@ goal-of-requires : tie.Need-goal-of-requires Inv-loop μ-loop
 goal-of-requires c κs = search needs
 
 label-of-requires : tie.Need-label-of-requires Inv-loop μ-loop
-label-of-requires c κs =
-    let turn = c .before .before in
-    let head = turn .before in
-    let entry = head .before .before .before .before in
-    search (needs, here (entry .pre) (head .loop .inv) (turn .loop-test .taken))
+label-of-requires c κs = search needs
 
 mul-labels : tie.Need-mul-labels Inv-loop μ-loop
 mul-labels c =
@@ -95,10 +91,10 @@ follow-spec =
     Inv-loop
     μ-loop
     loop-holds
-    mul-pick
-    add-pick
-    mul-pick-2
-    shared-slice-read-pick
+    mul-note
+    add-note
+    mul-note-2
+    shared-slice-read-note
     goal-of-requires
     label-of-requires
     mul-labels

@@ -77,6 +77,7 @@ loop-again c =
     let head = turn .before in
     let entry = head .before .before .before in
     goals-more (entry .pre .0) (head .loop .inv) (turn .loop-test .taken) (wide .wide .ensures .0) (c .ranked-left .ensures .0)
+    (c .ranked-left .ensures .1)
 
 returns : tie.Need-returns Inv-loop μ-loop
 returns c = goals-end (c .before .before .before .before .pre .0) (c .before .loop .inv) (search needs)

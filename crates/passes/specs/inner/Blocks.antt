@@ -1,14 +1,14 @@
--- What passing a block leaves: what is left to pay before it and the picks, from the prices of its symbols and what is left to pay behind
+-- What passing a block leaves: what is left to pay before it and the notes, from the prices of its symbols and what is left to pay behind
 -- it. `l` has the block's section at its front.
 use mathlib.Core.Path.{_≡_}
 use mathlib.Core.List.{List}
 use Prim.Native.Nat.{ℕ, _≤_, _<_}
 use lib.ListN.{length, getD}
 use Rattle.trellis.specs.Bounds.{mostStates}
-use Rattle.trellis.specs.Layout.{nOf, sectionWords}
+use Rattle.trellis.specs.Layout.{nOf, vertexCountOf, rootState, sectionWords}
 use Rattle.paths.specs.Chain.{unreached}
 use Rattle.paths.specs.inner.OneBlock.{leastOver, wordPrice}
-use Rattle.paths.specs.inner.Ranked.{rankedCost, Pick}
+use Rattle.paths.specs.inner.Ranked.{rankedCost, Noted}
 use Rattle.sweep.specs.inner.Rows.{Priced}
 
 -- `cost` is what a symbol costs at a step, and `rest` what is left to pay behind the block in a state
@@ -17,12 +17,13 @@ pub record Costs (l prices left : List ℕ) (cost : ℕ → ℕ → ℕ) (rest :
   pub behind : (s : ℕ) → s < mostStates → getD left s 0 ≡ rest s
   pub bound : (s : ℕ) → rest s ≤ unreached
 
--- the least cost from each state before the block, and the first word of least cost
-pub record BlockPassed (l prices left new picks : List ℕ) : Type 0 where
+-- the least cost from each state before the block, and a note of it and of the first word of least cost; a state that is no root has the
+-- note of no path
+pub record BlockPassed (l prices left new notes : List ℕ) : Type 0 where
   pub long : length new ≡ mostStates
-  pub picksLong : length picks ≡ mostStates
+  pub notesLong : length notes ≡ mostStates
   pub least : (cost : ℕ → ℕ → ℕ) (rest : ℕ → ℕ) → Costs l prices left cost rest → (s : ℕ) → s < mostStates
       → getD new s 0 ≡ leastOver (sectionWords l) (wordPrice (nOf l) cost) unreached rest s
-  pub pick : (cost : ℕ → ℕ → ℕ) (rest : ℕ → ℕ) → Costs l prices left cost rest → (s : ℕ) → s < mostStates
-      → leastOver (sectionWords l) (wordPrice (nOf l) cost) unreached rest s < unreached
-      → Pick (sectionWords l) (wordPrice (nOf l) cost) rest s (getD picks s 0)
+  pub noted : (cost : ℕ → ℕ → ℕ) (rest : ℕ → ℕ) → Costs l prices left cost rest → (s : ℕ) → s < mostStates
+      → Noted (sectionWords l) (wordPrice (nOf l) cost) rest s (getD notes s 0)
+  pub unrooted : (s : ℕ) → s < mostStates → ((u : ℕ) → u < vertexCountOf l 0 → rootState l u ≡ s → ⊥) → getD notes s 0 ≡ unreached

@@ -1,4 +1,4 @@
--- A chain of blocks, one behind another: what passing them backward leaves, and what following the picks forward writes. Which words a
+-- A chain of blocks, one behind another: what passing them backward leaves, and what following the notes forward writes. Which words a
 -- block has, what they cost and where a path may end are the chain's, and none of them is fixed here.
 use mathlib.Core.Path.{_≡_}
 use mathlib.Core.Bool.{Bool}
@@ -7,10 +7,10 @@ use mathlib.Core.List.{List, _∷_}
 use Prim.Native.Nat.{ℕ, suc, _+_, _-_, _*_, _/_, _%_, _≤_, _<_}
 use lib.ListN.{length, getD}
 use Rattle.trellis.specs.Bounds.{mostStates, costsABlock}
-use Rattle.trellis.specs.Word.{Word, word, wordAt}
+use Rattle.trellis.specs.Word.{Word, wordAt}
 use Rattle.paths.specs.Chain.{unreached}
 use Rattle.paths.specs.inner.Chains.{chainLeast, chainTrace}
-use Rattle.paths.specs.inner.Ranked.{labelUnit, distanceUnit}
+use Rattle.paths.specs.inner.Ranked.{distanceUnit, noteCycle, noteGoal, noteWord}
 
 pub record Chain : Type 0 where
   pub words : ℕ → List Word
@@ -31,16 +31,18 @@ module _ (C : Chain) where
   pub record LeftAt (b : ℕ) (left : List ℕ) : Type 0 where
     pub at : (s : ℕ) → s < mostStates → getD left s 0 ≡ leastFrom b s
 
-  -- the path from state s before block b begins with the word whose label and goal are in this number
-  pub record PickAt (b s pick : ℕ) : Type 0 where
-    pub small : pick < distanceUnit
-    pub goal-lt : pick % labelUnit < mostStates
-    pub path : pathFrom b s ≡ word s (pick / labelUnit) (pick % labelUnit) ∷ pathFrom (suc b) (pick % labelUnit)
+  -- what a note tells of state s before block b. If it is not that of no path, it names a word: what this costs and what is left to pay
+  -- behind it are the least cost, of which the note has the remainder. Where there is a path, it begins with the word.
+  pub record NoteAt (b s note : ℕ) : Type 0 where
+    pub none : unreached ≤ note → leastFrom b s ≡ unreached
+    pub goal-lt : note < unreached → noteGoal note < mostStates
+    pub remainder : note < unreached → note / distanceUnit ≡ leastFrom b s % noteCycle
+    pub adds-up : note < unreached → leastFrom b s ≡ C .price b (noteWord s note) + leastFrom (suc b) (noteGoal note)
+    pub path : leastFrom b s < unreached → pathFrom b s ≡ noteWord s note ∷ pathFrom (suc b) (noteGoal note)
 
-  -- where there is a path from a state before block b or a later one, its first word is picked
-  pub record Picked (b : ℕ) (picks : List ℕ) : Type 0 where
-    pub at : (c s : ℕ) → b ≤ c → c < C .blocks → s < mostStates → leastFrom c s < unreached
-        → PickAt c s (getD picks (costsABlock * c + s) 0)
+  -- the notes from block b on
+  pub record NotesFrom (b : ℕ) (notes : List ℕ) : Type 0 where
+    pub at : (c s : ℕ) → b ≤ c → c < C .blocks → s < mostStates → NoteAt c s (getD notes (costsABlock * c + s) 0)
 
   -- the cost table from block b on
   pub record CostsFrom (b : ℕ) (costs : List ℕ) : Type 0 where
@@ -59,21 +61,21 @@ pub record RowWritten (first : ℕ) (row old new : List ℕ) : Type 0 where
   pub at : (s : ℕ) → s < costsABlock → getD new (first + s) 0 ≡ getD row s 0
   pub kept : (i : ℕ) → (i < first) ⊎ (first + costsABlock ≤ i) → getD new i 0 ≡ getD old i 0
 
--- the picks of a chain that has a path from state `start`, and room for its words
-pub record Followed (blocks start : ℕ) (picks labels goals : List ℕ) : Type 0 where
+-- the notes of a chain that has a path from state `start`, and room for its words
+pub record Followed (blocks start : ℕ) (notes labels goals : List ℕ) : Type 0 where
   pub chain : Chain
   pub blocksIs : chain .blocks ≡ blocks
-  pub picked : Picked chain 0 picks
+  pub noted : NotesFrom chain 0 notes
   pub start-lt : start < mostStates
   pub some : leastFrom chain 0 start < unreached
-  pub long : costsABlock * blocks ≤ length picks
+  pub long : costsABlock * blocks ≤ length notes
   pub few : blocks ≤ 256
   pub labelsLong : blocks ≤ length labels
   pub goalsLong : blocks ≤ length goals
 
--- whatever chain the picks are of, the path's labels and goals are written
-pub record FollowedTo (blocks start : ℕ) (picks labels newLabels goals newGoals : List ℕ) : Type 0 where
+-- whatever chain the notes are of, the path's labels and goals are written
+pub record FollowedTo (blocks start : ℕ) (notes labels newLabels goals newGoals : List ℕ) : Type 0 where
   pub labelsLong : length newLabels ≡ length labels
   pub goalsLong : length newGoals ≡ length goals
-  pub written : (C : Chain) → C .blocks ≡ blocks → Picked C 0 picks → leastFrom C 0 start < unreached
+  pub written : (C : Chain) → C .blocks ≡ blocks → NotesFrom C 0 notes → leastFrom C 0 start < unreached
       → Written C start blocks labels newLabels goals newGoals

@@ -6,22 +6,29 @@ use lib.ListN.{length, getD}
 use Rattle.trellis.specs.Bounds.{mostStates, mostWords}
 use Rattle.trellis.specs.Layout.{vertexCountOf, rootState, goalState}
 use Rattle.paths.specs.Chain.{unreached}
-use Rattle.paths.specs.inner.Ranked.{distanceUnit, topRank, rankedLeft}
+use Rattle.paths.specs.inner.Ranked.{distanceUnit, topRank, rankedLeft, noteUnit}
 
--- the first g places have what is left to pay in the states of the goals, ranked by these
+-- the first g places have what is left to pay in the states of the goals, ranked by these, and none is above the top
 pub record GoalsRanked (l left row : List ℕ) (g : ℕ) : Type 0 where
   pub long : length row ≡ mostWords
   pub at : (h : ℕ) → h < g → getD row h 0 ≡ rankedLeft (getD left (goalState l h) 0) (goalState l h)
+  pub small : (h : ℕ) → h < g → getD row h 0 ≤ topRank
 
--- ranks of the roots that are not above the top, and a pick for each state
-pub record RootsAsked (l row picks : List ℕ) : Type 0 where
-  pub long : length picks ≡ mostStates
+-- the first s places of a row have the note of no path
+pub record RowCleared (row : List ℕ) (s : ℕ) : Type 0 where
+  pub long : length row ≡ mostStates
+  pub at : (u : ℕ) → u < s → getD row u 0 ≡ unreached
+
+-- ranks of the roots that are not above the top, and a note for each state
+pub record RootsAsked (l row notes : List ℕ) : Type 0 where
+  pub long : length notes ≡ mostStates
   pub small : (v : ℕ) → v < vertexCountOf l 0 → getD row v 0 ≤ topRank
 
--- the first v roots have their costs and picks, and a state that is none of them has no path
-pub record RootsPut (l row left picks : List ℕ) (v : ℕ) : Type 0 where
+-- the first v roots have their costs and notes, and a state that is none of them has no path
+pub record RootsPut (l row left notes : List ℕ) (v : ℕ) : Type 0 where
   pub long : length left ≡ mostStates
-  pub picksLong : length picks ≡ mostStates
+  pub notesLong : length notes ≡ mostStates
   pub cost : (u : ℕ) → u < v → getD left (rootState l u) 0 ≡ getD row u 0 / distanceUnit
-  pub pick : (u : ℕ) → u < v → getD picks (rootState l u) 0 ≡ getD row u 0 % distanceUnit
-  pub none : (s : ℕ) → s < mostStates → ((u : ℕ) → u < v → rootState l u ≡ s → ⊥) → getD left s 0 ≡ unreached
+  pub note : (u : ℕ) → u < v → getD notes (rootState l u) 0 ≡ getD row u 0 % noteUnit
+  pub none : (s : ℕ) → s < mostStates → ((u : ℕ) → u < v → rootState l u ≡ s → ⊥)
+      → (getD left s 0 ≡ unreached) × (getD notes s 0 ≡ unreached)

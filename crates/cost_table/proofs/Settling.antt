@@ -1,0 +1,257 @@
+-- From the last block to the first the costs behind a block are known. What a word of the block adds to them is below 512, so that it is the
+-- remainder of the cost, which the note has, less the remainder of the cost behind. A state that is no root has the note of no path, which
+-- is the mark for no path in a cost table too. Rows are settled root by root; roots ascend, so that no state is settled twice.
+use mathlib.Core.Path.{_≡_, refl, sym, ap, subst, _∙_}
+use mathlib.Core.Bool.{cond}
+use mathlib.Core.Logic.{inl, inr}
+use mathlib.Core.List.{List}
+use Prim.Native.Nat.{ℕ, suc, _+_, _-_, _*_, _/_, _%_, _≤_, _<_}
+use native.Mathlib.Nat.{not-suc-le-zero}
+use native.Mathlib.Decide.{decLt, ℕ-discrete}
+use native.Mathlib.Omega.{arith}
+use lib.ListN.{length, getD, take, drop, set, length-set, length-take, length-drop}
+use lib.Seq.{getD-set-same, getD-set-other, getD-take, getD-drop}
+use borrow.Author.Tests.{lt-ltb, le-ltb}
+use Rattle.trellis.specs.Bounds.{mostStates, costsABlock}
+use Rattle.trellis.specs.Layout.{vertexCountOf, rootState}
+use Rattle.paths.specs.Chain.{unreached}
+use Rattle.paths.specs.inner.Ranked.{distanceUnit, noteCycle, noteGoal, noteWord}
+use Rattle.paths.proofs.Chain.{least-le}
+use Rattle.section_file.specs.inner.View.{Seen}
+use Rattle.section_file.specs.declared.View.{View}
+use Rattle.section_file.proofs.Seen.{States, roots-at}
+use Rattle.passes.specs.inner.Chains.{Chain, leastFrom, LeftAt, NoteAt, NotesFrom, CostsFrom, RowWritten}
+use Rattle.passes.proofs.Passing.{rootOf, RootAt, root-at}
+use Rattle.passes.proofs.Chains.{left-last, costs-more}
+use Rattle.cost_table.specs.inner.Filled.{EndsAs, HeldBlocks, blockPart, Unrooted}
+use Rattle.cost_table.proofs.Tables.{BlockAt}
+use Rattle.cost_table.specs.inner.Settled.{settledCost, Owed, RowOwed, RootsSettled, RowCopied, BlockSettled, Cheap, Settled}
+
+-- ---- one note
+
+-- what is added below 512 is told by the two remainders
+difference : (cost added : ℕ) → added < noteCycle
+    → cost + ((cost + added) % noteCycle + noteCycle - cost % noteCycle) % noteCycle ≡ cost + added
+difference cost added h = omega arith
+
+module _ (behind : List ℕ) (note : ℕ) where
+  pub settled-none : unreached ≤ note → unreached ≡ settledCost behind note
+  unfolding settledCost
+  settled-none h = simp (le-ltb note unreached h)
+
+  pub settled-some : note < unreached
+      → getD behind (noteGoal note) 0 + (note / distanceUnit + noteCycle - getD behind (noteGoal note) 0 % noteCycle) % noteCycle
+      ≡ settledCost behind note
+  unfolding settledCost
+  settled-some h = simp (lt-ltb note unreached h)
+
+  -- as the code has it
+  pub settled-by : {goal cost : ℕ} → goal ≡ noteGoal note → cost ≡ getD behind goal 0 → note < unreached
+      → cost + (note / distanceUnit + noteCycle - cost % noteCycle) % noteCycle ≡ settledCost behind note
+  settled-by {goal} {cost} g c h =
+      ap (λ x. x + (note / distanceUnit + noteCycle - x % noteCycle) % noteCycle) (c ∙ ap (λ x. getD behind x 0) g) ∙ settled-some h
+
+  pub settled-fits : Owed behind note → {goal cost : ℕ} → goal ≡ noteGoal note → cost ≡ getD behind goal 0 → note < unreached
+      → cost + (note / distanceUnit + noteCycle - cost % noteCycle) % noteCycle < 4294967296
+  settled-fits O g c h = let e = settled-by g c h in let k = O .small in omega arith
+
+module _ {C : Chain} {b s note : ℕ} {behind : List ℕ} (h : b < C .blocks) (K : Cheap C) (L : LeftAt C (suc b) behind)
+    (N : NoteAt C b s note) where
+  pub settled-is : settledCost behind note ≡ leastFrom C b s
+  settled-is = go (decLt note unreached)
+    where
+      go : Dec (note < unreached) → settledCost behind note ≡ leastFrom C b s
+      go (no k) = sym (settled-none behind note (omega arith)) ∙ sym (N .none (omega arith))
+      go (yes k) =
+          let cost = leastFrom C (suc b) (noteGoal note) in
+          let added = C .price b (noteWord s note) in
+          let r : note / distanceUnit ≡ (cost + added) % noteCycle
+          = N .remainder k ∙ ap (λ x. x % noteCycle) (N .adds-up k ∙ turned added cost) in
+          sym (settled-some behind note k)
+          ∙ ap (λ x. x + (note / distanceUnit + noteCycle - x % noteCycle) % noteCycle) (L .at (noteGoal note) (N .goal-lt k))
+          ∙ ap (λ x. cost + (x + noteCycle - cost % noteCycle) % noteCycle) r
+          ∙ difference cost added (K .below b h (noteWord s note)) ∙ sym (N .adds-up k ∙ turned added cost)
+        where
+          turned : (x y : ℕ) → x + y ≡ y + x
+          turned x y = omega arith
+
+  pub note-owed : length behind ≡ mostStates → Owed behind note
+  unfolding leastFrom
+  note-owed l = record {
+    long = l;
+    goal-lt = N .goal-lt;
+    small = subst (λ x. x ≤ unreached) (sym settled-is) (least-le (C .words) (C .ends) (C .price) unreached (C .blocks - b) b s);
+  }
+
+-- ---- one row, root by root
+
+pub roots-start : {l behind row : List ℕ} → RowOwed behind row → RootsSettled l behind row row 0
+roots-start O = record { long = O .long; at = λ u h. absurd (not-suc-le-zero h); kept = λ s h. refl }
+
+module _ {l behind old row : List ℕ} {at : View} {v s : ℕ} (S : Seen l at) (I : RootsSettled l behind old row v)
+    (h : v < at .goals - at .roots) (p : s ≡ getD l (at .roots + v) 0) where
+  A : States l (at .roots) (at .goals) (vertexCountOf l 0) (rootState l)
+  A = roots-at S
+
+  is : s ≡ rootState l v
+  is = p ∙ A .at v
+
+  pub root-lt : s < mostStates
+  root-lt = let k = A .small v (omega (arith, A .count-is)) in omega (arith, is)
+
+  other : (u : ℕ) → u < v → rootState l u ≡ s → ⊥
+  other u k z = let m = S .sound .rootsAscend u v k (omega (arith, A .count-is)) in omega (arith, is)
+
+  -- the note of the next root is still there
+  note-there : getD row s 0 ≡ getD old s 0
+  note-there = I .kept s other
+
+  pub still-owed : RowOwed behind old → Owed behind (getD row s 0)
+  still-owed O = subst (Owed behind) (sym note-there) (O .at s root-lt)
+
+  pub roots-more : {x : ℕ} → x ≡ settledCost behind (getD row s 0) → RootsSettled l behind old (set row s x) (v + 1)
+  roots-more {x} q = record {
+    long = simp length-set (I .long);
+    at = λ u k. go u k (ℕ-discrete u v);
+    kept = λ t k. getD-set-other row s t x 0 (λ z. k v (omega arith) (sym is ∙ sym z)) ∙ I .kept t (λ u m. k u (omega arith));
+  }
+    where
+      go : (u : ℕ) → u < v + 1 → Dec (u ≡ v) → getD (set row s x) (rootState l u) 0 ≡ settledCost behind (getD old (rootState l u) 0)
+      go u k (yes e) =
+          subst (λ y. getD (set row s x) (rootState l y) 0 ≡ settledCost behind (getD old (rootState l y) 0)) (sym e)
+          (subst (λ y. getD (set row s x) y 0 ≡ settledCost behind (getD old y 0)) is
+          (getD-set-same row s x 0 (omega (arith, I .long, root-lt)) ∙ q ∙ ap (settledCost behind) note-there))
+      go u k (no e) = getD-set-other row s (rootState l u) x 0 (other u (omega arith)) ∙ I .at u (omega arith)
+
+pub roots-end : {l behind old row : List ℕ} {at : View} {v : ℕ} → Seen l at → RootsSettled l behind old row v → at .goals - at .roots ≤ v
+    → v ≤ at .goals - at .roots → RootsSettled l behind old row (vertexCountOf l 0)
+roots-end {l} {behind} {old} {row} {v = v} S I h k =
+    let c = roots-at S .count-is in
+    let e : v ≡ vertexCountOf l 0 = omega arith in
+    subst (RootsSettled l behind old row) e I
+
+-- ---- copied
+
+pub copy-start : {row place : List ℕ} → length place ≡ mostStates → RowCopied row place 0
+copy-start h = record { long = h; at = λ u l. absurd (not-suc-le-zero l) }
+
+pub copy-more : {row place : List ℕ} {s : ℕ} → RowCopied row place s → s < mostStates → RowCopied row (set place s (getD row s 0)) (s + 1)
+copy-more {row} {place} {s} I h = record { long = simp length-set (I .long); at = λ u l. go u l (ℕ-discrete u s) }
+  where
+    go : (u : ℕ) → u < s + 1 → Dec (u ≡ s) → getD (set place s (getD row s 0)) u 0 ≡ getD row u 0
+    go u l (yes e) =
+        subst (λ x. getD (set place s (getD row s 0)) x 0 ≡ getD row x 0) (sym e)
+        (getD-set-same place s (getD row s 0) 0 (omega (arith, I .long)))
+    go u l (no e) = getD-set-other place s u (getD row s 0) 0 e ∙ I .at u (omega arith)
+
+pub copy-end : {row place : List ℕ} {s : ℕ} → RowCopied row place s → mostStates ≤ s → RowCopied row place mostStates
+copy-end I h = record { long = I .long; at = λ u l. I .at u (omega arith) }
+
+-- ---- block by block
+
+pub record InSettle (blocks : ℕ) (ends old new behind : List ℕ) (b : ℕ) : Type 0 where
+  pub b-le : b ≤ blocks
+  pub long : length new ≡ length old
+  pub behindLong : length behind ≡ mostStates
+  pub kept : (i : ℕ) → costsABlock * blocks ≤ i → getD new i 0 ≡ getD old i 0
+  pub unsettled : (i : ℕ) → i < costsABlock * b → getD new i 0 ≡ getD old i 0
+  pub leftIs : (C : Chain) → C .blocks ≡ blocks → Cheap C → EndsAs C ends → NotesFrom C 0 old → LeftAt C b behind
+  pub costs : (C : Chain) → C .blocks ≡ blocks → Cheap C → EndsAs C ends → NotesFrom C 0 old → CostsFrom C b new
+
+pub settle-start : {blocks : ℕ} {ends notes : List ℕ} → length ends ≡ mostStates → InSettle blocks ends notes notes ends blocks
+settle-start {blocks} {ends} h = record {
+  b-le = omega arith;
+  long = refl;
+  behindLong = h;
+  kept = λ i k. refl;
+  unsettled = λ i k. refl;
+  leftIs = λ C e K E N. subst (λ b. LeftAt C b ends) e (left-last C ends (E .at));
+  costs = λ C e K E N. record { at = λ c s k l. absurd (omega arith) };
+}
+
+pub settle-below : {blocks : ℕ} {ends old new behind : List ℕ} {b : ℕ} → InSettle blocks ends old new behind b → 0 < b → b - 1 < blocks
+settle-below I h = omega (arith, I .b-le)
+
+-- a row as it is lent
+abbrev rowOf : ℕ → List ℕ → List ℕ
+rowOf first l = take (first + costsABlock - first) (drop first l)
+
+row-at : (first : ℕ) (l : List ℕ) (s : ℕ) → s < costsABlock → getD (rowOf first l) s 0 ≡ getD l (first + s) 0
+row-at first l s h = getD-take (first + costsABlock - first) (drop first l) s 0 (omega arith) ∙ getD-drop first l s 0
+
+module _ {blocks : ℕ} {ends old mid behind : List ℕ} {b : ℕ} (I : InSettle blocks ends old mid behind b) (h : 0 < b)
+    (fits : costsABlock * blocks ≤ length old) where
+  abbrev first : ℕ
+  first = costsABlock * (b - 1)
+
+  pub row-in : first + costsABlock ≤ length mid
+  row-in = omega (arith, I .long, I .b-le)
+
+  -- the notes of the block are still there
+  row-is : (s : ℕ) → s < mostStates → getD (rowOf first mid) s 0 ≡ getD old (first + s) 0
+  row-is s k = row-at first mid s k ∙ I .unsettled (first + s) (omega arith)
+
+  module _ (C : Chain) (e : C .blocks ≡ blocks) (K : Cheap C) (E : EndsAs C ends) (N : NotesFrom C 0 old) where
+    in-chain : b - 1 < C .blocks
+    in-chain = omega (arith, I .b-le)
+
+    left-behind : LeftAt C (suc (b - 1)) behind
+    left-behind = let n : b ≡ suc (b - 1) = omega arith in subst (λ c. LeftAt C c behind) n (I .leftIs C e K E N)
+
+    note-at : (s : ℕ) → s < mostStates → NoteAt C (b - 1) s (getD (rowOf first mid) s 0)
+    note-at s k = subst (NoteAt C (b - 1) s) (sym (row-is s k)) (N .at (b - 1) s (omega arith) in-chain k)
+
+    pub row-owed : RowOwed behind (rowOf first mid)
+    row-owed = record {
+      long = simp (length-take, length-drop) (omega (arith, row-in));
+      at = λ s k. note-owed in-chain K left-behind (note-at s k) (I .behindLong);
+    }
+
+  module _ {H : HeldBlocks} (n : length (H .indices) ≡ blocks) (U : Unrooted H 0 old) {row new copy : List ℕ}
+      (B : BlockSettled (blockPart H (b - 1)) behind (rowOf first mid) row copy) (P : RowWritten first row mid new) where
+    abbrev l : List ℕ
+    l = blockPart H (b - 1)
+
+    module _ (C : Chain) (e : C .blocks ≡ blocks) (K : Cheap C) (E : EndsAs C ends) (N : NotesFrom C 0 old) where
+      cost-at : (s : ℕ) → s < mostStates → getD row s 0 ≡ leastFrom C (b - 1) s
+      cost-at s k = go (root-at l s) (decLt (rootOf l s) (vertexCountOf l 0))
+        where
+          go : RootAt l s (rootOf l s) → Dec (rootOf l s < vertexCountOf l 0) → getD row s 0 ≡ leastFrom C (b - 1) s
+          go F (yes j) =
+              subst (λ x. getD row x 0 ≡ settledCost behind (getD (rowOf first mid) x 0)) (F .is j) (B .settled .at (rootOf l s) j)
+              ∙ settled-is (in-chain C e K E N) K (left-behind C e K E N) (note-at C e K E N s k)
+          go F (no j) =
+              let none = F .none (omega arith) in
+              let u = U .at (b - 1) s (omega arith) (omega (arith, I .b-le)) k none in
+              B .settled .kept s none ∙ row-is s k ∙ u
+              ∙ sym (N .at (b - 1) s (omega arith) (in-chain C e K E N) k .none (omega arith))
+
+      here : LeftAt C (b - 1) row
+      here = record { at = cost-at }
+
+      costs-here : CostsFrom C (b - 1) new
+      costs-here =
+          let m : b ≡ suc (b - 1) = omega arith in costs-more C (subst (λ c. CostsFrom C c mid) m (I .costs C e K E N)) here P
+
+    pub settle-more : InSettle blocks ends old new copy (b - 1)
+    settle-more = record {
+      b-le = omega (arith, I .b-le);
+      long = P .long ∙ I .long;
+      behindLong = B .copied .long;
+      kept = λ i k. P .kept i (inr (omega (arith, I .b-le))) ∙ I .kept i k;
+      unsettled = λ i k. P .kept i (inl k) ∙ I .unsettled i (omega arith);
+      leftIs = λ C e K E N. record { at = λ s k. B .copied .at s k ∙ cost-at C e K E N s k };
+      costs = costs-here;
+    }
+
+-- the section as it is lent
+pub settled-part : {H : HeldBlocks} {b i : ℕ} {behind old new copy : List ℕ} → BlockAt H b i
+    → BlockSettled (take (length (H .sections) - getD (H .starts) i 0) (drop (getD (H .starts) i 0) (H .sections))) behind old new copy
+    → BlockSettled (blockPart H b) behind old new copy
+settled-part {behind = behind} {old} {new} {copy} A B = subst (λ l. BlockSettled l behind old new copy) (A .part-is) B
+
+pub settle-end : {blocks : ℕ} {ends old new behind : List ℕ} {b : ℕ} → InSettle blocks ends old new behind b → b ≤ 0
+    → Settled blocks ends old new
+settle-end {new = new} {b = b} I h =
+    let z : b ≡ 0 = omega arith in
+    record { long = I .long; kept = I .kept; costs = λ C e K E N. subst (λ c. CostsFrom C c new) z (I .costs C e K E N) }

@@ -1,0 +1,74 @@
+-- Notes turned into the costs of a cost table. What is left to pay behind a block is known, and a block adds less than 512 to it; so the
+-- remainder by 512 that a note has tells what the block adds.
+use mathlib.Core.Path.{_≡_}
+use mathlib.Core.Bool.{cond}
+use mathlib.Core.List.{List}
+use Prim.Native.Nat.{ℕ, _+_, _-_, _*_, _/_, _%_, _≤_, _<_}
+use lib.Dec.{ltb}
+use lib.ListN.{length, getD}
+use Rattle.trellis.specs.Bounds.{mostStates, costsABlock}
+use Rattle.trellis.specs.Word.{Word}
+use Rattle.trellis.specs.Layout.{vertexCountOf, rootState}
+use Rattle.paths.specs.Chain.{unreached}
+use Rattle.paths.specs.inner.Ranked.{distanceUnit, noteCycle, noteGoal}
+use Rattle.section_file.specs.declared.View.{View}
+use Rattle.passes.specs.inner.Chains.{Chain, NotesFrom, CostsFrom}
+use Rattle.cost_table.specs.inner.Filled.{EndsAs, heldBlocks, Ready, Unrooted}
+
+-- the cost of which a note has the remainder; `behind` has the costs behind the block
+unfoldable pub settledCost : List ℕ → ℕ → ℕ
+settledCost behind note =
+    cond (ltb note unreached)
+    (getD behind (noteGoal note) 0 + (note / distanceUnit + noteCycle - getD behind (noteGoal note) 0 % noteCycle) % noteCycle)
+    unreached
+
+-- a note whose goal is a state and whose cost fits
+pub record Owed (behind : List ℕ) (note : ℕ) : Type 0 where
+  pub long : length behind ≡ mostStates
+  pub goal-lt : note < unreached → noteGoal note < mostStates
+  pub small : settledCost behind note ≤ unreached
+
+-- a row of such notes
+pub record RowOwed (behind row : List ℕ) : Type 0 where
+  pub long : length row ≡ mostStates
+  pub at : (s : ℕ) → s < mostStates → Owed behind (getD row s 0)
+
+-- the first v roots have their costs, and the other states what they had
+pub record RootsSettled (l behind old new : List ℕ) (v : ℕ) : Type 0 where
+  pub long : length new ≡ mostStates
+  pub at : (u : ℕ) → u < v → getD new (rootState l u) 0 ≡ settledCost behind (getD old (rootState l u) 0)
+  pub kept : (s : ℕ) → ((u : ℕ) → u < v → rootState l u ≡ s → ⊥) → getD new s 0 ≡ getD old s 0
+
+-- the first s numbers of a row of 64 are copied
+pub record RowCopied (row place : List ℕ) (s : ℕ) : Type 0 where
+  pub long : length place ≡ mostStates
+  pub at : (u : ℕ) → u < s → getD place u 0 ≡ getD row u 0
+
+-- the row of a block has its costs, which are copied
+pub record BlockSettled (l behind old new copy : List ℕ) : Type 0 where
+  pub settled : RootsSettled l behind old new (vertexCountOf l 0)
+  pub copied : RowCopied new copy mostStates
+
+-- no word costs 512 or more
+pub record Cheap (C : Chain) : Type 0 where
+  pub below : (b : ℕ) → b < C .blocks → (w : Word) → C .price b w < noteCycle
+
+-- notes of a chain of cheap words, over these sections; what was received plays no part
+pub record Settling (sections starts : List ℕ) (views : List View) (indices ends notes : List ℕ) : Type 0 where
+  pub received : List ℕ
+  pub erased : List ℕ
+  pub ready : Ready (heldBlocks sections starts views indices received erased)
+  pub unrooted : Unrooted (heldBlocks sections starts views indices received erased) 0 notes
+  pub chain : Chain
+  pub blocksIs : chain .blocks ≡ length indices
+  pub cheap : Cheap chain
+  pub endsAs : EndsAs chain ends
+  pub noted : NotesFrom chain 0 notes
+  pub endsLong : length ends ≡ mostStates
+  pub long : costsABlock * length indices ≤ length notes
+
+-- the table has its costs, whatever chain the notes are of, and places beyond it are as they were
+pub record Settled (blocks : ℕ) (ends old new : List ℕ) : Type 0 where
+  pub long : length new ≡ length old
+  pub kept : (i : ℕ) → costsABlock * blocks ≤ i → getD new i 0 ≡ getD old i 0
+  pub costs : (C : Chain) → C .blocks ≡ blocks → Cheap C → EndsAs C ends → NotesFrom C 0 old → CostsFrom C 0 new
