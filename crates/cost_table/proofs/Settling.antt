@@ -2,20 +2,18 @@
 -- remainder of the cost, which the note has, less the remainder of the cost behind. A state that is no root has the note of no path, which
 -- is the mark for no path in a cost table too. Rows are settled root by root; roots ascend, so that no state is settled twice.
 use mathlib.Core.Path.{_≡_, refl, sym, ap, subst, _∙_}
-use mathlib.Core.Bool.{cond}
 use mathlib.Core.Logic.{inl, inr}
 use mathlib.Core.List.{List}
 use Prim.Native.Nat.{ℕ, suc, _+_, _-_, _*_, _/_, _%_, _≤_, _<_}
 use native.Mathlib.Nat.{not-suc-le-zero}
 use native.Mathlib.Decide.{decLt, ℕ-discrete}
 use native.Mathlib.Omega.{arith}
-use lib.ListN.{length, getD, take, drop, set, length-set, length-take, length-drop}
+use lib.ListN.{length, getD, take, drop, set, length-set, length-take, length-drop, replicate, length-replicate, getD-replicate}
 use lib.Seq.{getD-set-same, getD-set-other, getD-take, getD-drop}
-use borrow.Author.Tests.{lt-ltb, le-ltb}
 use Rattle.trellis.specs.Bounds.{mostStates, costsABlock}
 use Rattle.trellis.specs.Layout.{vertexCountOf, rootState}
 use Rattle.paths.specs.Chain.{unreached}
-use Rattle.paths.specs.inner.Ranked.{distanceUnit, noteCycle, noteGoal, noteWord}
+use Rattle.paths.specs.inner.Ranked.{labelUnit, distanceUnit, noteCycle, noteGoal, noteWord}
 use Rattle.paths.proofs.Chain.{least-le}
 use Rattle.section_file.specs.inner.View.{Seen}
 use Rattle.section_file.specs.declared.View.{View}
@@ -25,7 +23,7 @@ use Rattle.passes.proofs.Passing.{rootOf, RootAt, root-at}
 use Rattle.passes.proofs.Chains.{left-last, costs-more}
 use Rattle.cost_table.specs.inner.Filled.{EndsAs, HeldBlocks, blockPart, Unrooted}
 use Rattle.cost_table.proofs.Tables.{BlockAt}
-use Rattle.cost_table.specs.inner.Settled.{settledCost, Owed, RowOwed, RootsSettled, RowCopied, BlockSettled, Cheap, Settled}
+use Rattle.cost_table.specs.inner.Settled.{Behind, settledCost, RowOwed, RootsSettled, RowCopied, BlockSettled, Cheap, Settled}
 
 -- ---- one note
 
@@ -34,54 +32,47 @@ difference : (cost added : ℕ) → added < noteCycle
     → cost + ((cost + added) % noteCycle + noteCycle - cost % noteCycle) % noteCycle ≡ cost + added
 difference cost added h = omega arith
 
-module _ (behind : List ℕ) (note : ℕ) where
-  pub settled-none : unreached ≤ note → unreached ≡ settledCost behind note
-  unfolding settledCost
-  settled-none h = simp (le-ltb note unreached h)
+-- as the code has it
+pub settled-by : (behind : List ℕ) (note : ℕ) {goal : ℕ} → goal ≡ noteGoal note
+    → getD behind goal 0 + (note / distanceUnit + noteCycle - getD behind goal 0 % noteCycle) % noteCycle ≡ settledCost behind note
+unfolding settledCost
+settled-by behind note g = ap (λ x. getD behind x 0 + (note / distanceUnit + noteCycle - getD behind x 0 % noteCycle) % noteCycle) g
 
-  pub settled-some : note < unreached
-      → getD behind (noteGoal note) 0 + (note / distanceUnit + noteCycle - getD behind (noteGoal note) 0 % noteCycle) % noteCycle
-      ≡ settledCost behind note
-  unfolding settledCost
-  settled-some h = simp (lt-ltb note unreached h)
+pub settled-fits : (behind : List ℕ) (note : ℕ) → settledCost behind note ≤ unreached → {goal : ℕ} → goal ≡ noteGoal note
+    → getD behind goal 0 + (note / distanceUnit + noteCycle - getD behind goal 0 % noteCycle) % noteCycle < 4294967296
+settled-fits behind note O g = let e = settled-by behind note g in omega arith
 
-  -- as the code has it
-  pub settled-by : {goal cost : ℕ} → goal ≡ noteGoal note → cost ≡ getD behind goal 0 → note < unreached
-      → cost + (note / distanceUnit + noteCycle - cost % noteCycle) % noteCycle ≡ settledCost behind note
-  settled-by {goal} {cost} g c h =
-      ap (λ x. x + (note / distanceUnit + noteCycle - x % noteCycle) % noteCycle) (c ∙ ap (λ x. getD behind x 0) g) ∙ settled-some h
-
-  pub settled-fits : Owed behind note → {goal cost : ℕ} → goal ≡ noteGoal note → cost ≡ getD behind goal 0 → note < unreached
-      → cost + (note / distanceUnit + noteCycle - cost % noteCycle) % noteCycle < 4294967296
-  settled-fits O g c h = let e = settled-by g c h in let k = O .small in omega arith
-
-module _ {C : Chain} {b s note : ℕ} {behind : List ℕ} (h : b < C .blocks) (K : Cheap C) (L : LeftAt C (suc b) behind)
+module _ {C : Chain} {b s note : ℕ} {behind : List ℕ} (h : b < C .blocks) (K : Cheap C) (M : Behind behind) (L : LeftAt C (suc b) behind)
     (N : NoteAt C b s note) where
+  -- what stands at the note's goal
+  settled-of : {cost : ℕ} → getD behind (noteGoal note) 0 ≡ cost
+      → settledCost behind note ≡ cost + (note / distanceUnit + noteCycle - cost % noteCycle) % noteCycle
+  unfolding settledCost
+  settled-of e = ap (λ x. x + (note / distanceUnit + noteCycle - x % noteCycle) % noteCycle) e
+
   pub settled-is : settledCost behind note ≡ leastFrom C b s
   settled-is = go (decLt note unreached)
     where
+      turned : (x y : ℕ) → x + y ≡ y + x
+      turned x y = omega arith
+
       go : Dec (note < unreached) → settledCost behind note ≡ leastFrom C b s
-      go (no k) = sym (settled-none behind note (omega arith)) ∙ sym (N .none (omega arith))
+      go (no k) =
+          let z : note ≡ unreached = omega (arith, N .small) in
+          settled-of (ap (λ x. getD behind (noteGoal x) 0) z ∙ M .none)
+          ∙ ap (λ x. unreached + (x / distanceUnit + noteCycle - unreached % noteCycle) % noteCycle) z ∙ sym (N .none (omega arith))
       go (yes k) =
           let cost = leastFrom C (suc b) (noteGoal note) in
           let added = C .price b (noteWord s note) in
           let r : note / distanceUnit ≡ (cost + added) % noteCycle
           = N .remainder k ∙ ap (λ x. x % noteCycle) (N .adds-up k ∙ turned added cost) in
-          sym (settled-some behind note k)
-          ∙ ap (λ x. x + (note / distanceUnit + noteCycle - x % noteCycle) % noteCycle) (L .at (noteGoal note) (N .goal-lt k))
+          settled-of (L .at (noteGoal note) (N .goal-lt k))
           ∙ ap (λ x. cost + (x + noteCycle - cost % noteCycle) % noteCycle) r
           ∙ difference cost added (K .below b h (noteWord s note)) ∙ sym (N .adds-up k ∙ turned added cost)
-        where
-          turned : (x y : ℕ) → x + y ≡ y + x
-          turned x y = omega arith
 
-  pub note-owed : length behind ≡ mostStates → Owed behind note
+  pub note-fits : settledCost behind note ≤ unreached
   unfolding leastFrom
-  note-owed l = record {
-    long = l;
-    goal-lt = N .goal-lt;
-    small = subst (λ x. x ≤ unreached) (sym settled-is) (least-le (C .words) (C .ends) (C .price) unreached (C .blocks - b) b s);
-  }
+  note-fits = subst (λ x. x ≤ unreached) (sym settled-is) (least-le (C .words) (C .ends) (C .price) unreached (C .blocks - b) b s)
 
 -- ---- one row, root by root
 
@@ -106,8 +97,8 @@ module _ {l behind old row : List ℕ} {at : View} {v s : ℕ} (S : Seen l at) (
   note-there : getD row s 0 ≡ getD old s 0
   note-there = I .kept s other
 
-  pub still-owed : RowOwed behind old → Owed behind (getD row s 0)
-  still-owed O = subst (Owed behind) (sym note-there) (O .at s root-lt)
+  pub still-fits : RowOwed behind old → settledCost behind (getD row s 0) ≤ unreached
+  still-fits O = subst (λ x. settledCost behind x ≤ unreached) (sym note-there) (O .small s root-lt)
 
   pub roots-more : {x : ℕ} → x ≡ settledCost behind (getD row s 0) → RootsSettled l behind old (set row s x) (v + 1)
   roots-more {x} q = record {
@@ -132,11 +123,16 @@ roots-end {l} {behind} {old} {row} {v = v} S I h k =
 
 -- ---- copied
 
-pub copy-start : {row place : List ℕ} → length place ≡ mostStates → RowCopied row place 0
-copy-start h = record { long = h; at = λ u l. absurd (not-suc-le-zero l) }
+pub copy-start : {row place : List ℕ} → length place ≡ labelUnit → RowCopied row place place 0
+copy-start h = record { long = h; at = λ u l. absurd (not-suc-le-zero l); kept = λ u l. refl }
 
-pub copy-more : {row place : List ℕ} {s : ℕ} → RowCopied row place s → s < mostStates → RowCopied row (set place s (getD row s 0)) (s + 1)
-copy-more {row} {place} {s} I h = record { long = simp length-set (I .long); at = λ u l. go u l (ℕ-discrete u s) }
+pub copy-more : {row old place : List ℕ} {s : ℕ} → RowCopied row old place s → s < mostStates
+    → RowCopied row old (set place s (getD row s 0)) (s + 1)
+copy-more {row} {old} {place} {s} I h = record {
+  long = simp length-set (I .long);
+  at = λ u l. go u l (ℕ-discrete u s);
+  kept = λ u l. getD-set-other place s u (getD row s 0) 0 (λ e. absurd (omega arith)) ∙ I .kept u (omega arith);
+}
   where
     go : (u : ℕ) → u < s + 1 → Dec (u ≡ s) → getD (set place s (getD row s 0)) u 0 ≡ getD row u 0
     go u l (yes e) =
@@ -144,32 +140,47 @@ copy-more {row} {place} {s} I h = record { long = simp length-set (I .long); at 
         (getD-set-same place s (getD row s 0) 0 (omega (arith, I .long)))
     go u l (no e) = getD-set-other place s u (getD row s 0) 0 e ∙ I .at u (omega arith)
 
-pub copy-end : {row place : List ℕ} {s : ℕ} → RowCopied row place s → mostStates ≤ s → RowCopied row place mostStates
-copy-end I h = record { long = I .long; at = λ u l. I .at u (omega arith) }
+pub copy-end : {row old place : List ℕ} {s : ℕ} → RowCopied row old place s → mostStates ≤ s → s ≤ mostStates
+    → RowCopied row old place mostStates
+copy-end {row} {old} {place} {s} I h k = let e : s ≡ mostStates = omega arith in subst (RowCopied row old place) e I
+
+-- the mark behind the states stays
+behind-copied : {row old place : List ℕ} → Behind old → RowCopied row old place mostStates → Behind place
+behind-copied M I = record { long = I .long; none = I .kept 127 (omega arith) ∙ M .none }
 
 -- ---- block by block
 
-pub record InSettle (blocks : ℕ) (ends old new behind : List ℕ) (b : ℕ) : Type 0 where
+-- `last` has the costs behind the last block
+pub record InSettle (blocks : ℕ) (last old new behind : List ℕ) (b : ℕ) : Type 0 where
   pub b-le : b ≤ blocks
   pub long : length new ≡ length old
-  pub behindLong : length behind ≡ mostStates
+  pub marked : Behind behind
   pub kept : (i : ℕ) → costsABlock * blocks ≤ i → getD new i 0 ≡ getD old i 0
   pub unsettled : (i : ℕ) → i < costsABlock * b → getD new i 0 ≡ getD old i 0
-  pub leftIs : (C : Chain) → C .blocks ≡ blocks → Cheap C → EndsAs C ends → NotesFrom C 0 old → LeftAt C b behind
-  pub costs : (C : Chain) → C .blocks ≡ blocks → Cheap C → EndsAs C ends → NotesFrom C 0 old → CostsFrom C b new
+  pub leftIs : (C : Chain) → C .blocks ≡ blocks → Cheap C → LeftAt C blocks last → NotesFrom C 0 old → LeftAt C b behind
+  pub costs : (C : Chain) → C .blocks ≡ blocks → Cheap C → LeftAt C blocks last → NotesFrom C 0 old → CostsFrom C b new
 
-pub settle-start : {blocks : ℕ} {ends notes : List ℕ} → length ends ≡ mostStates → InSettle blocks ends notes notes ends blocks
-settle-start {blocks} {ends} h = record {
+pub settle-start : {blocks : ℕ} {ends notes last : List ℕ} → RowCopied ends (replicate labelUnit unreached) last mostStates
+    → InSettle blocks last notes notes last blocks
+settle-start I = record {
   b-le = omega arith;
   long = refl;
-  behindLong = h;
+  marked = behind-copied (record {
+    long = length-replicate {A = ℕ} labelUnit unreached;
+    none = getD-replicate {A = ℕ} labelUnit 127 unreached 0 (omega arith);
+  }) I;
   kept = λ i k. refl;
   unsettled = λ i k. refl;
-  leftIs = λ C e K E N. subst (λ b. LeftAt C b ends) e (left-last C ends (E .at));
-  costs = λ C e K E N. record { at = λ c s k l. absurd (omega arith) };
+  leftIs = λ C e K L N. L;
+  costs = λ C e K L N. record { at = λ c s k l. absurd (omega arith) };
 }
 
-pub settle-below : {blocks : ℕ} {ends old new behind : List ℕ} {b : ℕ} → InSettle blocks ends old new behind b → 0 < b → b - 1 < blocks
+-- behind the last block nothing is left to pay where a path may end
+pub last-is : {C : Chain} {blocks : ℕ} {ends old last : List ℕ} → C .blocks ≡ blocks → EndsAs C ends → RowCopied ends old last mostStates
+    → LeftAt C blocks last
+last-is {C} {last = last} e E I = subst (λ b. LeftAt C b last) e (left-last C last (λ s k. I .at s k ∙ E .at s k))
+
+pub settle-below : {blocks : ℕ} {last old new behind : List ℕ} {b : ℕ} → InSettle blocks last old new behind b → 0 < b → b - 1 < blocks
 settle-below I h = omega (arith, I .b-le)
 
 -- a row as it is lent
@@ -179,7 +190,7 @@ rowOf first l = take (first + costsABlock - first) (drop first l)
 row-at : (first : ℕ) (l : List ℕ) (s : ℕ) → s < costsABlock → getD (rowOf first l) s 0 ≡ getD l (first + s) 0
 row-at first l s h = getD-take (first + costsABlock - first) (drop first l) s 0 (omega arith) ∙ getD-drop first l s 0
 
-module _ {blocks : ℕ} {ends old mid behind : List ℕ} {b : ℕ} (I : InSettle blocks ends old mid behind b) (h : 0 < b)
+module _ {blocks : ℕ} {last old mid behind : List ℕ} {b : ℕ} (I : InSettle blocks last old mid behind b) (h : 0 < b)
     (fits : costsABlock * blocks ≤ length old) where
   abbrev first : ℕ
   first = costsABlock * (b - 1)
@@ -191,20 +202,21 @@ module _ {blocks : ℕ} {ends old mid behind : List ℕ} {b : ℕ} (I : InSettle
   row-is : (s : ℕ) → s < mostStates → getD (rowOf first mid) s 0 ≡ getD old (first + s) 0
   row-is s k = row-at first mid s k ∙ I .unsettled (first + s) (omega arith)
 
-  module _ (C : Chain) (e : C .blocks ≡ blocks) (K : Cheap C) (E : EndsAs C ends) (N : NotesFrom C 0 old) where
+  module _ (C : Chain) (e : C .blocks ≡ blocks) (K : Cheap C) (L : LeftAt C blocks last) (N : NotesFrom C 0 old) where
     in-chain : b - 1 < C .blocks
     in-chain = omega (arith, I .b-le)
 
     left-behind : LeftAt C (suc (b - 1)) behind
-    left-behind = let n : b ≡ suc (b - 1) = omega arith in subst (λ c. LeftAt C c behind) n (I .leftIs C e K E N)
+    left-behind = let n : b ≡ suc (b - 1) = omega arith in subst (λ c. LeftAt C c behind) n (I .leftIs C e K L N)
 
     note-at : (s : ℕ) → s < mostStates → NoteAt C (b - 1) s (getD (rowOf first mid) s 0)
     note-at s k = subst (NoteAt C (b - 1) s) (sym (row-is s k)) (N .at (b - 1) s (omega arith) in-chain k)
 
     pub row-owed : RowOwed behind (rowOf first mid)
     row-owed = record {
+      behindLong = I .marked .long;
       long = simp (length-take, length-drop) (omega (arith, row-in));
-      at = λ s k. note-owed in-chain K left-behind (note-at s k) (I .behindLong);
+      small = λ s k. note-fits in-chain K (I .marked) left-behind (note-at s k);
     }
 
   module _ {H : HeldBlocks} (n : length (H .indices) ≡ blocks) (U : Unrooted H 0 old) {row new copy : List ℕ}
@@ -212,35 +224,35 @@ module _ {blocks : ℕ} {ends old mid behind : List ℕ} {b : ℕ} (I : InSettle
     abbrev l : List ℕ
     l = blockPart H (b - 1)
 
-    module _ (C : Chain) (e : C .blocks ≡ blocks) (K : Cheap C) (E : EndsAs C ends) (N : NotesFrom C 0 old) where
+    module _ (C : Chain) (e : C .blocks ≡ blocks) (K : Cheap C) (L : LeftAt C blocks last) (N : NotesFrom C 0 old) where
       cost-at : (s : ℕ) → s < mostStates → getD row s 0 ≡ leastFrom C (b - 1) s
       cost-at s k = go (root-at l s) (decLt (rootOf l s) (vertexCountOf l 0))
         where
           go : RootAt l s (rootOf l s) → Dec (rootOf l s < vertexCountOf l 0) → getD row s 0 ≡ leastFrom C (b - 1) s
           go F (yes j) =
               subst (λ x. getD row x 0 ≡ settledCost behind (getD (rowOf first mid) x 0)) (F .is j) (B .settled .at (rootOf l s) j)
-              ∙ settled-is (in-chain C e K E N) K (left-behind C e K E N) (note-at C e K E N s k)
+              ∙ settled-is (in-chain C e K L N) K (I .marked) (left-behind C e K L N) (note-at C e K L N s k)
           go F (no j) =
               let none = F .none (omega arith) in
               let u = U .at (b - 1) s (omega arith) (omega (arith, I .b-le)) k none in
               B .settled .kept s none ∙ row-is s k ∙ u
-              ∙ sym (N .at (b - 1) s (omega arith) (in-chain C e K E N) k .none (omega arith))
+              ∙ sym (N .at (b - 1) s (omega arith) (in-chain C e K L N) k .none (omega arith))
 
       here : LeftAt C (b - 1) row
       here = record { at = cost-at }
 
       costs-here : CostsFrom C (b - 1) new
       costs-here =
-          let m : b ≡ suc (b - 1) = omega arith in costs-more C (subst (λ c. CostsFrom C c mid) m (I .costs C e K E N)) here P
+          let m : b ≡ suc (b - 1) = omega arith in costs-more C (subst (λ c. CostsFrom C c mid) m (I .costs C e K L N)) here P
 
-    pub settle-more : InSettle blocks ends old new copy (b - 1)
+    pub settle-more : InSettle blocks last old new copy (b - 1)
     settle-more = record {
       b-le = omega (arith, I .b-le);
       long = P .long ∙ I .long;
-      behindLong = B .copied .long;
+      marked = behind-copied (I .marked) (B .copied);
       kept = λ i k. P .kept i (inr (omega (arith, I .b-le))) ∙ I .kept i k;
       unsettled = λ i k. P .kept i (inl k) ∙ I .unsettled i (omega arith);
-      leftIs = λ C e K E N. record { at = λ s k. B .copied .at s k ∙ cost-at C e K E N s k };
+      leftIs = λ C e K L N. record { at = λ s k. B .copied .at s k ∙ cost-at C e K L N s k };
       costs = costs-here;
     }
 
@@ -250,8 +262,12 @@ pub settled-part : {H : HeldBlocks} {b i : ℕ} {behind old new copy : List ℕ}
     → BlockSettled (blockPart H b) behind old new copy
 settled-part {behind = behind} {old} {new} {copy} A B = subst (λ l. BlockSettled l behind old new copy) (A .part-is) B
 
-pub settle-end : {blocks : ℕ} {ends old new behind : List ℕ} {b : ℕ} → InSettle blocks ends old new behind b → b ≤ 0
-    → Settled blocks ends old new
-settle-end {new = new} {b = b} I h =
+pub settle-end : {blocks : ℕ} {ends blank last old new behind : List ℕ} {b : ℕ} → RowCopied ends blank last mostStates
+    → InSettle blocks last old new behind b → b ≤ 0 → Settled blocks ends old new
+settle-end {new = new} {b = b} R I h =
     let z : b ≡ 0 = omega arith in
-    record { long = I .long; kept = I .kept; costs = λ C e K E N. subst (λ c. CostsFrom C c new) z (I .costs C e K E N) }
+    record {
+      long = I .long;
+      kept = I .kept;
+      costs = λ C e K E N. subst (λ c. CostsFrom C c new) z (I .costs C e K (last-is e E R) N);
+    }

@@ -81,6 +81,7 @@ module _ (C : Chain) where
         let K = P .noted (U .cost) rest costs s e in
         let o = over s in
         record {
+          small = K .small;
           none = λ i. o ∙ K .none i;
           goal-lt = K .goal-lt;
           remainder = λ i. K .remainder i ∙ sym (ap (λ x. x % noteCycle) o);

@@ -149,6 +149,7 @@ module _ {l prices left even odd newEven newOdd new notes : List ℕ} {at : View
             let e = least-else (uses (S .sound) cost) unreached rest (C .bound) s (none-listed (S .sound) cost s none) in
             let n = R .none s k none .1 in
             record {
+              small = omega arith;
               none = λ i. e;
               goal-lt = λ i. absurd (omega arith);
               remainder = λ i. absurd (omega arith);

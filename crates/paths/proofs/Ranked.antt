@@ -354,6 +354,7 @@ module _ {ws : List Word} {price : Word → ℕ} {edges : ℕ → List Edge} {n 
 
   pub ranked-note : (v : ℕ) → v ∈ roots → Noted ws price left (rootOf v) (rankFrom v % noteUnit)
   ranked-note v m = record {
+    small = omega arith;
     none = none;
     goal-lt = λ h. goal-lt (own-word v m (note-below v h));
     remainder = λ h. let e = ranked-least v m in omega arith;

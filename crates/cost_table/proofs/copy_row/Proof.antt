@@ -1,6 +1,6 @@
 -- `cost_table::copy_row` copies number by number. The loop's invariant: those passed are copied. The measure is how many are left.
 use borrow.Author.Needs.{needs}
-use Prim.Native.Nat.{_-_}
+use Prim.Native.Nat.{_-_, _≤_}
 use Rattle.trellis.specs.Bounds.{mostStates}
 use Rattle.cost_table.specs.inner.Settled.{RowCopied}
 use Rattle.cost_table.proofs.Settling.{copy-start, copy-more, copy-end}
@@ -8,13 +8,13 @@ use Rattle.cost_table.proofs.copy_row.Statement.{statement}
 use Rattle.cost_table.proofs.copy_row.Tie as tie
 
 abbrev Inv-loop : tie.InvT-loop
-Inv-loop row place₀ s₀ place s = RowCopied row place s
+Inv-loop row place₀ s₀ place s = RowCopied row place₀ place s × (s ≤ mostStates)
 
 abbrev μ-loop : tie.MeasureT-loop
 μ-loop row place₀ s₀ place s = mostStates - s
 
 loop-holds : tie.Need-loop-holds Inv-loop μ-loop
-loop-holds c = copy-start (search needs)
+loop-holds c = (copy-start (search needs), search needs)
 
 mul-place : tie.Need-mul-place Inv-loop μ-loop
 mul-place c = search needs
@@ -35,10 +35,10 @@ loop-less : tie.Need-loop-less Inv-loop μ-loop
 loop-less c = search needs
 
 loop-again : tie.Need-loop-again Inv-loop μ-loop
-loop-again c = copy-more (c .before .before .loop .inv) (search needs)
+loop-again c = (copy-more (c .before .before .loop .inv .0) (search needs), search needs)
 
 returns : tie.Need-returns Inv-loop μ-loop
-returns c = copy-end (c .before .loop .inv) (search needs)
+returns c = copy-end (c .before .loop .inv .0) (search needs) (c .before .loop .inv .1)
 
 pub copy-row-spec : {M : Type 1} → statement M
 copy-row-spec =

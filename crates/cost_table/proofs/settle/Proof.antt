@@ -6,7 +6,8 @@ use native.Mathlib.Omega.{arith}
 use lib.ListN.{length}
 use Rattle.cost_table.proofs.Rows.{row-back}
 use Rattle.cost_table.proofs.Tables.{block-at}
-use Rattle.cost_table.proofs.Settling.{InSettle, settle-start, settle-below, row-in, row-owed, settled-part, settle-more, settle-end}
+use Rattle.cost_table.proofs.Settling.{InSettle, settle-start, last-is, settle-below, row-in, row-owed, settled-part, settle-more}
+use Rattle.cost_table.proofs.Settling.{settle-end}
 use Rattle.cost_table.proofs.settle.Statement.{statement}
 use Rattle.cost_table.proofs.settle.Tie as tie
 
@@ -16,8 +17,14 @@ Inv-loop sections starts indices costs₀ views behind₀ b₀ costs behind b = 
 abbrev μ-loop : tie.MeasureT-loop
 μ-loop sections starts indices costs₀ views behind₀ b₀ costs behind b = b
 
+slice-aggregate-copy-row : tie.Need-slice-aggregate-copy-row Inv-loop μ-loop
+slice-aggregate-copy-row c = search needs
+
+copy-row-requires : tie.Need-copy-row-requires Inv-loop μ-loop
+copy-row-requires c κs = search needs
+
 loop-holds : tie.Need-loop-holds Inv-loop μ-loop
-loop-holds c = settle-start (c .before .before .before .pre .endsLong)
+loop-holds c = settle-start (c .copy-row .ensures)
 
 sub-b : tie.Need-sub-b Inv-loop μ-loop
 sub-b c = search needs
@@ -32,7 +39,7 @@ mul-at : tie.Need-mul-at Inv-loop μ-loop
 mul-at c =
     let turn = c .before .before in
     let head = turn .before in
-    let entry = head .before .before .before .before in
+    let entry = head .before .before .before .before .before .before .before in
     let B = block-at (entry .pre .ready) (settle-below (head .loop .inv) (turn .loop-test .taken)) (c .widened .ensures .0) in
     omega arith
 
@@ -40,7 +47,7 @@ array-copy-out-at : tie.Need-array-copy-out-at Inv-loop μ-loop
 array-copy-out-at c =
     let turn = c .before .before in
     let head = turn .before in
-    let entry = head .before .before .before .before in
+    let entry = head .before .before .before .before .before .before .before in
     let B = block-at (entry .pre .ready) (settle-below (head .loop .inv) (turn .loop-test .taken)) (c .widened .ensures .0) in
     omega arith
 
@@ -49,7 +56,7 @@ mul-start c =
     let widened = c .before in
     let turn = widened .before .before in
     let head = turn .before in
-    let entry = head .before .before .before .before in
+    let entry = head .before .before .before .before .before .before .before in
     let B = block-at (entry .pre .ready) (settle-below (head .loop .inv) (turn .loop-test .taken)) (widened .widened .ensures .0) in
     omega arith
 
@@ -58,7 +65,7 @@ element-copy-out-start c =
     let widened = c .before in
     let turn = widened .before .before in
     let head = turn .before in
-    let entry = head .before .before .before .before in
+    let entry = head .before .before .before .before .before .before .before in
     let B = block-at (entry .pre .ready) (settle-below (head .loop .inv) (turn .loop-test .taken)) (widened .widened .ensures .0) in
     omega arith
 
@@ -67,7 +74,7 @@ mul-first c =
     let widened = c .before .before in
     let turn = widened .before .before in
     let head = turn .before in
-    let entry = head .before .before .before .before in
+    let entry = head .before .before .before .before .before .before .before in
     let B = block-at (entry .pre .ready) (settle-below (head .loop .inv) (turn .loop-test .taken)) (widened .widened .ensures .0) in
     omega arith
 
@@ -76,7 +83,7 @@ add-next c =
     let widened = c .before .before in
     let turn = widened .before .before in
     let head = turn .before in
-    let entry = head .before .before .before .before in
+    let entry = head .before .before .before .before .before .before .before in
     let B = block-at (entry .pre .ready) (settle-below (head .loop .inv) (turn .loop-test .taken)) (widened .widened .ensures .0) in
     omega arith
 
@@ -85,7 +92,7 @@ mul-settle-block c =
     let widened = c .before .before in
     let turn = widened .before .before in
     let head = turn .before in
-    let entry = head .before .before .before .before in
+    let entry = head .before .before .before .before .before .before .before in
     let B = block-at (entry .pre .ready) (settle-below (head .loop .inv) (turn .loop-test .taken)) (widened .widened .ensures .0) in
     omega arith
 
@@ -94,7 +101,7 @@ sub-settle-block c =
     let widened = c .before .before in
     let turn = widened .before .before in
     let head = turn .before in
-    let entry = head .before .before .before .before in
+    let entry = head .before .before .before .before .before .before .before in
     let B = block-at (entry .pre .ready) (settle-below (head .loop .inv) (turn .loop-test .taken)) (widened .widened .ensures .0) in
     omega arith
 
@@ -103,7 +110,7 @@ part-settle-block-start c =
     let widened = c .before .before in
     let turn = widened .before .before in
     let head = turn .before in
-    let entry = head .before .before .before .before in
+    let entry = head .before .before .before .before .before .before .before in
     let B = block-at (entry .pre .ready) (settle-below (head .loop .inv) (turn .loop-test .taken)) (widened .widened .ensures .0) in
     omega arith
 
@@ -115,7 +122,7 @@ mul-settle-block-2 c =
     let widened = c .before .before .before .before in
     let turn = widened .before .before in
     let head = turn .before in
-    let entry = head .before .before .before .before in
+    let entry = head .before .before .before .before .before .before .before in
     let B = block-at (entry .pre .ready) (settle-below (head .loop .inv) (turn .loop-test .taken)) (widened .widened .ensures .0) in
     omega arith
 
@@ -124,7 +131,7 @@ sub-settle-block-2 c =
     let widened = c .before .before .before .before in
     let turn = widened .before .before in
     let head = turn .before in
-    let entry = head .before .before .before .before in
+    let entry = head .before .before .before .before .before .before .before in
     let B = block-at (entry .pre .ready) (settle-below (head .loop .inv) (turn .loop-test .taken)) (widened .widened .ensures .0) in
     omega arith
 
@@ -132,7 +139,7 @@ part-settle-block-start-2 : tie.Need-part-settle-block-start-2 Inv-loop μ-loop
 part-settle-block-start-2 c =
     let turn = c .before .before .before .before .before .before in
     let head = turn .before in
-    let entry = head .before .before .before .before in
+    let entry = head .before .before .before .before .before .before .before in
     let R = row-in (head .loop .inv) (turn .loop-test .taken) (entry .pre .long) in
     omega arith
 
@@ -140,7 +147,7 @@ part-settle-block-end-2 : tie.Need-part-settle-block-end-2 Inv-loop μ-loop
 part-settle-block-end-2 c =
     let turn = c .before .before .before .before .before .before in
     let head = turn .before in
-    let entry = head .before .before .before .before in
+    let entry = head .before .before .before .before .before .before .before in
     let R = row-in (head .loop .inv) (turn .loop-test .taken) (entry .pre .long) in
     omega arith
 
@@ -149,11 +156,11 @@ settle-block-requires c κs =
     let widened = c .before .before .before .before .before in
     let turn = widened .before .before in
     let head = turn .before in
-    let entry = head .before .before .before .before in
+    let entry = head .before .before .before .before .before .before .before in
     let S = entry .pre in (
       block-at (S .ready) (settle-below (head .loop .inv) (turn .loop-test .taken)) (widened .widened .ensures .0) .seen,
-      head .loop .inv .behindLong,
-      row-owed (head .loop .inv) (turn .loop-test .taken) (S .long) (S .chain) (S .blocksIs) (S .cheap) (S .endsAs) (S .noted),
+      row-owed (head .loop .inv) (turn .loop-test .taken) (S .long) (S .chain) (S .blocksIs) (S .cheap)
+          (last-is (S .blocksIs) (S .endsAs) (head .before .copy-row .ensures)) (S .noted),
     )
 
 loop-less : tie.Need-loop-less Inv-loop μ-loop
@@ -167,7 +174,7 @@ loop-again c =
     let widened = settle-block .before .before .before .before .before .before in
     let turn = widened .before .before in
     let head = turn .before in
-    let entry = head .before .before .before .before in
+    let entry = head .before .before .before .before .before .before .before in
     let S = entry .pre in
     let E = settle-block .settle-block .ensures in
     let A = block-at (S .ready) (settle-below (head .loop .inv) (turn .loop-test .taken)) (widened .widened .ensures .0) in
@@ -178,7 +185,7 @@ same-length : tie.Need-same-length Inv-loop μ-loop
 same-length c = c .before .loop .inv .long
 
 returns : tie.Need-returns Inv-loop μ-loop
-returns c = settle-end (c .before .loop .inv) (search needs)
+returns c = settle-end (c .before .before .copy-row .ensures) (c .before .loop .inv) (search needs)
 
 pub settle-spec : {M : Type 1} → statement M
 settle-spec =
@@ -186,6 +193,8 @@ settle-spec =
     (tie.spec
     Inv-loop
     μ-loop
+    slice-aggregate-copy-row
+    copy-row-requires
     loop-holds
     sub-b
     shared-slice-read-widened

@@ -6,7 +6,7 @@ use Prim.Native.Nat.{_-_, _≤_}
 use native.Mathlib.Omega.{arith}
 use Rattle.section_file.proofs.Seen.{roots-at}
 use Rattle.cost_table.specs.inner.Settled.{RootsSettled}
-use Rattle.cost_table.proofs.Settling.{roots-start, root-lt, still-owed, roots-more, roots-end}
+use Rattle.cost_table.proofs.Settling.{roots-start, root-lt, still-fits, roots-more, roots-end}
 use Rattle.cost_table.proofs.settle_roots.Statement.{statement}
 use Rattle.cost_table.proofs.settle_roots.Tie as tie
 
@@ -55,7 +55,7 @@ settled-requires c κs =
     let turn = wide .before .before in
     let head = turn .before in
     let entry = head .before .before .before .before in
-    still-owed (entry .pre .0) (head .loop .inv .0) (turn .loop-test .taken) (wide .wide .ensures .0) (entry .pre .1)
+    (entry .pre .1 .behindLong, still-fits (entry .pre .0) (head .loop .inv .0) (turn .loop-test .taken) (wide .wide .ensures .0) (entry .pre .1))
 
 mul-row : tie.Need-mul-row Inv-loop μ-loop
 mul-row c =

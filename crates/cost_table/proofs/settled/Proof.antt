@@ -1,13 +1,9 @@
 -- `cost_table::settled` adds the difference of the two remainders; what it asks says that the sum fits.
 use borrow.Author.Needs.{needs}
-use mathlib.Core.Path.{refl, _∙_}
-use native.Mathlib.Omega.{arith}
-use Rattle.cost_table.proofs.Settling.{settled-none, settled-by, settled-fits}
+use mathlib.Core.Path.{_∙_}
+use Rattle.cost_table.proofs.Settling.{settled-by, settled-fits}
 use Rattle.cost_table.proofs.settled.Statement.{statement}
 use Rattle.cost_table.proofs.settled.Tie as tie
-
-returns : tie.Need-returns
-returns c = settled-none _ _ (c .if1 .taken)
 
 goal-of-requires : tie.Need-goal-of-requires
 goal-of-requires c κs = search needs
@@ -19,10 +15,7 @@ mul-cost : tie.Need-mul-cost
 mul-cost c = search needs
 
 element-copy-out-cost : tie.Need-element-copy-out-cost
-element-copy-out-cost c =
-    let else1 = c .before .before in
-    let g = else1 .before .pre .goal-lt (else1 .if1 .left) in
-    omega (arith, g, c .widened .ensures .0, c .before .goal-of .ensures)
+element-copy-out-cost c = search needs
 
 cast-result : tie.Need-cast-result
 cast-result c = search needs
@@ -39,22 +32,17 @@ sub-result c = search needs
 add-result-2 : tie.Need-add-result-2
 add-result-2 c =
     let widened = c .before in
-    let else1 = widened .before .before in
-    let e
-    = settled-fits _ _ (else1 .before .pre) (widened .widened .ensures .0 ∙ widened .before .goal-of .ensures) refl (else1 .if1 .left) in
+    let entry = widened .before .before in
+    let e = settled-fits _ _ (entry .pre .1) (widened .widened .ensures .0 ∙ widened .before .goal-of .ensures) in
     search (needs, e)
 
-returns-2 : tie.Need-returns-2
-returns-2 c =
-    let widened = c .before in
-    let else1 = widened .before .before in
-    settled-by _ _ (widened .widened .ensures .0 ∙ widened .before .goal-of .ensures) refl (else1 .if1 .left)
+returns : tie.Need-returns
+returns c = let widened = c .before in settled-by _ _ (widened .widened .ensures .0 ∙ widened .before .goal-of .ensures)
 
 pub settled-spec : {M : Type 1} → statement M
 settled-spec =
     tie.close
     (tie.spec
-    returns
     goal-of-requires
     widened-requires
     mul-cost
@@ -64,4 +52,4 @@ settled-spec =
     add-result
     sub-result
     add-result-2
-    returns-2)
+    returns)

@@ -1,37 +1,33 @@
--- Notes turned into the costs of a cost table. What is left to pay behind a block is known, and a block adds less than 512 to it; so the
--- remainder by 512 that a note has tells what the block adds.
+-- Notes turned into the costs of a cost table. The costs behind a block are known, and a block adds less than 512 to them; so the remainder
+-- by 512 that a note has tells what the block adds.
 use mathlib.Core.Path.{_≡_}
-use mathlib.Core.Bool.{cond}
 use mathlib.Core.List.{List}
 use Prim.Native.Nat.{ℕ, _+_, _-_, _*_, _/_, _%_, _≤_, _<_}
-use lib.Dec.{ltb}
 use lib.ListN.{length, getD}
 use Rattle.trellis.specs.Bounds.{mostStates, costsABlock}
 use Rattle.trellis.specs.Word.{Word}
 use Rattle.trellis.specs.Layout.{vertexCountOf, rootState}
 use Rattle.paths.specs.Chain.{unreached}
-use Rattle.paths.specs.inner.Ranked.{distanceUnit, noteCycle, noteGoal}
+use Rattle.paths.specs.inner.Ranked.{labelUnit, distanceUnit, noteCycle, noteGoal}
 use Rattle.section_file.specs.declared.View.{View}
 use Rattle.passes.specs.inner.Chains.{Chain, NotesFrom, CostsFrom}
 use Rattle.cost_table.specs.inner.Filled.{EndsAs, heldBlocks, Ready, Unrooted}
 
--- the cost of which a note has the remainder; `behind` has the costs behind the block
+-- the costs behind a block, a place for each goal that a note can have. The note of no path has the goal 127, and there is no path there
+pub record Behind (behind : List ℕ) : Type 0 where
+  pub long : length behind ≡ labelUnit
+  pub none : getD behind 127 0 ≡ unreached
+
+-- the cost of which a note has the remainder
 unfoldable pub settledCost : List ℕ → ℕ → ℕ
 settledCost behind note =
-    cond (ltb note unreached)
-    (getD behind (noteGoal note) 0 + (note / distanceUnit + noteCycle - getD behind (noteGoal note) 0 % noteCycle) % noteCycle)
-    unreached
+    getD behind (noteGoal note) 0 + (note / distanceUnit + noteCycle - getD behind (noteGoal note) 0 % noteCycle) % noteCycle
 
--- a note whose goal is a state and whose cost fits
-pub record Owed (behind : List ℕ) (note : ℕ) : Type 0 where
-  pub long : length behind ≡ mostStates
-  pub goal-lt : note < unreached → noteGoal note < mostStates
-  pub small : settledCost behind note ≤ unreached
-
--- a row of such notes
+-- a row of notes whose costs fit
 pub record RowOwed (behind row : List ℕ) : Type 0 where
+  pub behindLong : length behind ≡ labelUnit
   pub long : length row ≡ mostStates
-  pub at : (s : ℕ) → s < mostStates → Owed behind (getD row s 0)
+  pub small : (s : ℕ) → s < mostStates → settledCost behind (getD row s 0) ≤ unreached
 
 -- the first v roots have their costs, and the other states what they had
 pub record RootsSettled (l behind old new : List ℕ) (v : ℕ) : Type 0 where
@@ -39,15 +35,16 @@ pub record RootsSettled (l behind old new : List ℕ) (v : ℕ) : Type 0 where
   pub at : (u : ℕ) → u < v → getD new (rootState l u) 0 ≡ settledCost behind (getD old (rootState l u) 0)
   pub kept : (s : ℕ) → ((u : ℕ) → u < v → rootState l u ≡ s → ⊥) → getD new s 0 ≡ getD old s 0
 
--- the first s numbers of a row of 64 are copied
-pub record RowCopied (row place : List ℕ) (s : ℕ) : Type 0 where
-  pub long : length place ≡ mostStates
-  pub at : (u : ℕ) → u < s → getD place u 0 ≡ getD row u 0
+-- the first s numbers of a row of 64 are copied, and the places beyond are as they were
+pub record RowCopied (row old new : List ℕ) (s : ℕ) : Type 0 where
+  pub long : length new ≡ labelUnit
+  pub at : (u : ℕ) → u < s → getD new u 0 ≡ getD row u 0
+  pub kept : (u : ℕ) → s ≤ u → getD new u 0 ≡ getD old u 0
 
 -- the row of a block has its costs, which are copied
 pub record BlockSettled (l behind old new copy : List ℕ) : Type 0 where
   pub settled : RootsSettled l behind old new (vertexCountOf l 0)
-  pub copied : RowCopied new copy mostStates
+  pub copied : RowCopied new behind copy mostStates
 
 -- no word costs 512 or more
 pub record Cheap (C : Chain) : Type 0 where

@@ -34,6 +34,7 @@ module _ (C : Chain) where
   -- what a note tells of state s before block b. If it is not that of no path, it names a word: what this costs and what is left to pay
   -- behind it are the least cost, of which the note has the remainder. Where there is a path, it begins with the word.
   pub record NoteAt (b s note : ℕ) : Type 0 where
+    pub small : note ≤ unreached
     pub none : unreached ≤ note → leastFrom b s ≡ unreached
     pub goal-lt : note < unreached → noteGoal note < mostStates
     pub remainder : note < unreached → note / distanceUnit ≡ leastFrom b s % noteCycle

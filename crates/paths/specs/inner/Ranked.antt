@@ -55,6 +55,7 @@ noteWord s note = word s (note % distanceUnit / labelUnit) (noteGoal note)
 -- What a note tells of state s before a block. If it is not that of no path, it names a word: what this costs and what is left to pay
 -- behind it are the least cost, of which the note has the remainder. Where there is a path, the word is the first of least cost.
 pub record Noted (ws : List Word) (price : Word → ℕ) (left : ℕ → ℕ) (s note : ℕ) : Type 0 where
+  pub small : note ≤ unreached
   pub none : unreached ≤ note → leastOver ws price unreached left s ≡ unreached
   pub goal-lt : note < unreached → noteGoal note < mostStates
   pub remainder : note < unreached → note / distanceUnit ≡ leastOver ws price unreached left s % noteCycle
