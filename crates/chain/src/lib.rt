@@ -137,7 +137,14 @@ fn decode_with(
     let from = widened(start);
     let ends = ends_in(widened(end));
     let to_pay = fill(
-        sections, starts, views, indices, received, erased, ends, costs,
+        sections,
+        starts,
+        views,
+        indices,
+        received,
+        erased,
+        ends,
+        costs,
     );
     let distance = to_pay[from];
     if distance == NO_PATH {

@@ -23,7 +23,7 @@ use Rattle.passes.proofs.Passing.{rootOf, RootAt, root-at}
 use Rattle.passes.proofs.Chains.{left-last, costs-more}
 use Rattle.cost_table.specs.inner.Filled.{EndsAs, HeldBlocks, blockPart, Unrooted}
 use Rattle.cost_table.proofs.Tables.{BlockAt}
-use Rattle.cost_table.specs.inner.Settled.{Behind, settledCost, RowOwed, RootsSettled, RowCopied, BlockSettled, Cheap, Settled}
+use Rattle.cost_table.specs.inner.Settled.{CostsBehind, settledCost, RowOwed, RootsSettled, RowCopied, BlockSettled, Cheap, Settled}
 
 -- ---- one note
 
@@ -42,7 +42,7 @@ pub settled-fits : (behind : List ℕ) (note : ℕ) → settledCost behind note 
     → getD behind goal 0 + (note / distanceUnit + noteCycle - getD behind goal 0 % noteCycle) % noteCycle < 4294967296
 settled-fits behind note O g = let e = settled-by behind note g in omega arith
 
-module _ {C : Chain} {b s note : ℕ} {behind : List ℕ} (h : b < C .blocks) (K : Cheap C) (M : Behind behind) (L : LeftAt C (suc b) behind)
+module _ {C : Chain} {b s note : ℕ} {behind : List ℕ} (h : b < C .blocks) (K : Cheap C) (M : CostsBehind behind) (L : LeftAt C (suc b) behind)
     (N : NoteAt C b s note) where
   -- what stands at the note's goal
   settled-of : {cost : ℕ} → getD behind (noteGoal note) 0 ≡ cost
@@ -145,7 +145,7 @@ pub copy-end : {row old place : List ℕ} {s : ℕ} → RowCopied row old place 
 copy-end {row} {old} {place} {s} I h k = let e : s ≡ mostStates = omega arith in subst (RowCopied row old place) e I
 
 -- the mark behind the states stays
-behind-copied : {row old place : List ℕ} → Behind old → RowCopied row old place mostStates → Behind place
+behind-copied : {row old place : List ℕ} → CostsBehind old → RowCopied row old place mostStates → CostsBehind place
 behind-copied M I = record { long = I .long; none = I .kept 127 (omega arith) ∙ M .none }
 
 -- ---- block by block
@@ -154,7 +154,7 @@ behind-copied M I = record { long = I .long; none = I .kept 127 (omega arith) �
 pub record InSettle (blocks : ℕ) (last old new behind : List ℕ) (b : ℕ) : Type 0 where
   pub b-le : b ≤ blocks
   pub long : length new ≡ length old
-  pub marked : Behind behind
+  pub marked : CostsBehind behind
   pub kept : (i : ℕ) → costsABlock * blocks ≤ i → getD new i 0 ≡ getD old i 0
   pub unsettled : (i : ℕ) → i < costsABlock * b → getD new i 0 ≡ getD old i 0
   pub leftIs : (C : Chain) → C .blocks ≡ blocks → Cheap C → LeftAt C blocks last → NotesFrom C 0 old → LeftAt C b behind

@@ -173,8 +173,8 @@ pub fn settle(
         let i = widened(indices[b]);
         let at = views[i];
         let start = starts[i];
-        let first = COSTS_A_BLOCK * b;
-        let next = first + COSTS_A_BLOCK;
-        settle_block(&sections[start..], at, &mut behind, &mut costs[first..next]);
+        let row = COSTS_A_BLOCK * b;
+        let next = row + COSTS_A_BLOCK;
+        settle_block(&sections[start..], at, &mut behind, &mut costs[row..next]);
     }
 }

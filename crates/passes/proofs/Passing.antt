@@ -1,15 +1,13 @@
 -- One block: the ranks of the goals make the ranks of the roots along the edges of the section, and a root's rank has the least cost from
 -- its state and, in its note, the first word of that cost. A state that is no root has no word.
 use mathlib.Core.Path.{_≡_, refl, sym, ap, subst, _∙_}
-use mathlib.Core.Bool.{Bool, true, false, cond}
 use mathlib.Core.List.{List}
-use Prim.Native.Nat.{ℕ, _+_, _-_, _*_, _/_, _%_, _≤_, _<_}
+use Prim.Native.Nat.{ℕ, _-_, _/_, _%_, _≤_, _<_}
 use native.Mathlib.Nat.{zero-add}
 use native.Mathlib.Decide.{decLt}
 use native.Mathlib.Omega.{arith}
-use lib.Dec.{T, eqb, ltb, eqb→eq, eqb-refl}
+use lib.Dec.{T, eqb, eqb→eq, eqb-refl}
 use lib.ListN.{length, getD}
-use borrow.Author.Tests.{ltb-true}
 use Rattle.trellis.specs.Bounds.{mostStates, mostWords}
 use Rattle.trellis.specs.Lists.{_∈_, each, first}
 use Rattle.trellis.specs.Section.{wordOf}
@@ -18,7 +16,7 @@ use Rattle.trellis.proofs.Lists.{of-run, in-each, First, first-ok}
 use Rattle.paths.specs.Chain.{unreached}
 use Rattle.paths.specs.inner.Sections.{sectionLeast}
 use Rattle.paths.specs.inner.OneBlock.{leastOver, wordPrice}
-use Rattle.paths.specs.inner.Ranked.{distanceUnit, topRank, ranked, rankedCost, rankedLeft, noteUnit, PriceRoom, Noted}
+use Rattle.paths.specs.inner.Ranked.{distanceUnit, topRank, rankedCost, rankedLeft, noteUnit, PriceRoom, Noted}
 use Rattle.paths.proofs.Sections.{least-last}
 use Rattle.paths.proofs.Packed.{cost-packed}
 use Rattle.paths.proofs.Words.{whole-fits}

@@ -15,7 +15,7 @@ use Rattle.paths.specs.inner.OneBlock.{leastOver, firstOver}
 use Rattle.paths.proofs.Choose.{extend, chooseAll, best-all}
 use Rattle.paths.proofs.First.{all-chosen, best-none}
 use Rattle.paths.proofs.Walk.{paths, Prices, ahead, ahead-best}
-use Rattle.paths.proofs.Capped.{capped, least-ahead, capped-had, capped-is, capped-paid, capped-none, capped-le, AtMost}
+use Rattle.paths.proofs.Capped.{capped, least-ahead, capped-had, capped-paid, capped-none, capped-le, AtMost}
 use Rattle.paths.proofs.Capped.{ahead-at-most}
 use Rattle.paths.proofs.Trace.{Extended, extended, trace-best}
 
@@ -115,16 +115,6 @@ module _ (words : ℕ → List Word) (ends : ℕ → Bool) (dist : ℕ → Word 
         = trace-best (chainPrices words ends dist) top (atEnd top ends) ends-at (λ v. []) ended-by k b s (ahead-is k b s ∙ H .is)
         (omega arith) in
         H .is ∙ ap₂ some (sym e) (sym t)
-
-    -- by whose first word they drop
-    pub least-drops : (k b s : ℕ) {w : Word} {ws : List Word} → chainLeast words ends dist top (suc k) b s < top
-        → chainTrace words ends dist top (suc k) b s ≡ w ∷ ws
-        → chainLeast words ends dist top (suc k) b s ≡ dist b w + chainLeast words ends dist top k (suc b) (w .goal)
-    least-drops k b s {w} {ws} h e =
-        let B = behind k b s (best-traced (suc k) b s h ∙ ap (some (chainLeast words ends dist top (suc k) b s)) e) in
-        let a = B .adds-up in
-        let r = least-best k (suc b) (w .goal) ∙ capped-is top (bestPath words ends dist k (suc b) (w .goal)) (B .best-is) (omega arith) in
-        omega arith
 
     -- one block: the numbers before it follow from those behind it, and so does the word that they name
     pub least-block : (k b s : ℕ)

@@ -13,4 +13,5 @@ pub mod Chain
 pub mod Winner
 pub mod Block
 pub mod Blocks
+pub mod Ranks
 pub mod Ranked

@@ -69,8 +69,8 @@ element-copy-out-start c =
     let B = block-at (entry .pre .ready) (settle-below (head .loop .inv) (turn .loop-test .taken)) (widened .widened .ensures .0) in
     omega arith
 
-mul-first : tie.Need-mul-first Inv-loop μ-loop
-mul-first c =
+mul-row : tie.Need-mul-row Inv-loop μ-loop
+mul-row c =
     let widened = c .before .before in
     let turn = widened .before .before in
     let head = turn .before in
@@ -203,7 +203,7 @@ settle-spec =
     array-copy-out-at
     mul-start
     element-copy-out-start
-    mul-first
+    mul-row
     add-next
     mul-settle-block
     sub-settle-block

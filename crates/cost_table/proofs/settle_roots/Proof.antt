@@ -3,7 +3,6 @@
 use borrow.Author.Needs.{needs}
 use mathlib.Core.Path.{sym, _∙_}
 use Prim.Native.Nat.{_-_, _≤_}
-use native.Mathlib.Omega.{arith}
 use Rattle.section_file.proofs.Seen.{roots-at}
 use Rattle.cost_table.specs.inner.Settled.{RootsSettled}
 use Rattle.cost_table.proofs.Settling.{roots-start, root-lt, still-fits, roots-more, roots-end}

@@ -14,7 +14,7 @@ use Rattle.passes.specs.inner.Chains.{Chain, NotesFrom, CostsFrom}
 use Rattle.cost_table.specs.inner.Filled.{EndsAs, heldBlocks, Ready, Unrooted}
 
 -- the costs behind a block, a place for each goal that a note can have. The note of no path has the goal 127, and there is no path there
-pub record Behind (behind : List ℕ) : Type 0 where
+pub record CostsBehind (behind : List ℕ) : Type 0 where
   pub long : length behind ≡ labelUnit
   pub none : getD behind 127 0 ≡ unreached
 
