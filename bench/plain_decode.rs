@@ -1,16 +1,20 @@
 //! Decoding in plain Rust by the kit's own algorithm: each section is checked; over the edges, from the last block to the first, a number is kept at
-//! each vertex that ranks distance, label and goal; and forward the words that the least numbers hold are followed.
+//! each vertex that ranks distance, label and goal, and its low 32 bits are noted in the cost table; forward the words in the notes are followed; and
+//! then the notes are turned into costs.
 
 use super::access::Access;
 use super::plain_section::Section;
 use link_kit::{COSTS_A_BLOCK, Decoded, Frame, NO_COST, Room};
 
-/// A number is distance·2^22 + label·2^6 + goal.
-const WORD_BITS: usize = 22;
-const GOAL_BITS: usize = 6;
+/// A number is distance·2^23 + label·2^7 + goal.
+const WORD_BITS: usize = 23;
+const GOAL_BITS: usize = 7;
 
-/// The number of no path: what a block adds to it stays above all others, and below 2^64.
-const NO_PATH: u64 = 1 << 62;
+/// The number of no path: what a block adds to it stays above all others, and below 2^64. Its low 32 bits are those of a place with no cost.
+const NO_PATH: u64 = (1 << 55) - 1;
+
+/// A note has the remainder of a distance by this.
+const CYCLE: u32 = 512;
 
 /// What was received over one block.
 #[derive(Clone, Copy)]
@@ -52,16 +56,11 @@ fn two_rows(rows: &mut Rows, t: usize) -> (&mut [u64; 1024], &[u64; 1024]) {
 }
 
 /// The numbers of the goals, where `after` is what it costs to go on from each state.
-fn put_goals<A: Access>(section: &Section, after: &[u32], rows: &mut Rows) {
+fn put_goals<A: Access>(section: &Section, after: &[u32; COSTS_A_BLOCK], rows: &mut Rows) {
     let (row, _) = two_rows(rows, section.n);
     for (place, &goal) in section.goals.iter().enumerate() {
-        let cost = A::get(after, goal as usize);
-        let number = if cost == NO_COST {
-            NO_PATH
-        } else {
-            (cost as u64) << WORD_BITS | goal as u64
-        };
-        A::put(row, place, number);
+        let cost = A::get(after, goal as usize) as u64;
+        A::put(row, place, cost << WORD_BITS | goal as u64);
     }
 }
 
@@ -83,18 +82,14 @@ fn sweep<A: Access>(section: &Section, heard: Heard, rows: &mut Rows) {
     }
 }
 
-/// The costs of one block, and for each state the word picked.
-fn put_roots<A: Access>(section: &Section, rows: &Rows, costs: &mut [u32], picks: &mut [u32]) {
-    costs.fill(NO_COST);
+/// What is left to pay before one block, and the notes of its states.
+fn put_roots<A: Access>(section: &Section, rows: &Rows, left: &mut [u32; COSTS_A_BLOCK], notes: &mut [u32]) {
+    left.fill(NO_COST);
+    notes.fill(NO_COST);
     for (place, &root) in section.roots.iter().enumerate() {
         let number = A::get(&rows[0], place);
-        let cost = if number < NO_PATH {
-            (number >> WORD_BITS) as u32
-        } else {
-            NO_COST
-        };
-        A::put(costs, root as usize, cost);
-        A::put(picks, root as usize, number as u32 % (1 << WORD_BITS));
+        A::put(left, root as usize, (number >> WORD_BITS) as u32);
+        A::put(notes, root as usize, number as u32);
     }
 }
 
@@ -148,39 +143,65 @@ fn heard(frame: &Frame, b: usize) -> Heard {
     Heard { label, mask }
 }
 
-type Picks = [u32; COSTS_A_BLOCK * 256];
+fn section_of<'a, 'b>(frame: &Frame, sections: &'b [Option<Section<'a>>; 16], b: usize) -> &'b Section<'a> {
+    sections[frame.indices[b] as usize].as_ref().expect("an index below K")
+}
 
-/// Backward: the cost table, and the picks.
-fn fill_table<A: Access>(frame: &Frame, sections: &[Option<Section>; 16], costs: &mut [u32], picks: &mut Picks) {
-    let blocks = frame.indices.len();
+/// Backward: the notes, and what is left to pay before the first block.
+fn fill_notes<A: Access>(frame: &Frame, sections: &[Option<Section>; 16], notes: &mut [u32]) -> [u32; COSTS_A_BLOCK] {
     let mut rows: Rows = [[NO_PATH; 1024]; 2];
-    let mut last = [NO_COST; COSTS_A_BLOCK];
-    last[frame.end as usize] = 0;
-    for b in (0..blocks).rev() {
-        let section = sections[frame.indices[b] as usize].as_ref().expect("an index below K");
-        let (front, back) = costs.split_at_mut(COSTS_A_BLOCK * (b + 1));
-        put_goals::<A>(section, if b + 1 < blocks { back } else { &last }, &mut rows);
+    let mut left = [NO_COST; COSTS_A_BLOCK];
+    left[frame.end as usize] = 0;
+    for (b, row) in notes.chunks_exact_mut(COSTS_A_BLOCK).enumerate().rev() {
+        let section = section_of(frame, sections, b);
+        put_goals::<A>(section, &left, &mut rows);
         sweep::<A>(section, heard(frame, b), &mut rows);
-        let lo = COSTS_A_BLOCK * b;
-        put_roots::<A>(section, &rows, &mut front[lo..], &mut picks[lo..lo + COSTS_A_BLOCK]);
+        put_roots::<A>(section, &rows, &mut left, row);
+    }
+    left
+}
+
+/// Backward again: the costs of which the notes have the remainders. The note of no path leads to the last place behind, which has no cost.
+fn settle<A: Access>(frame: &Frame, sections: &[Option<Section>; 16], notes: &mut [u32]) {
+    let mut behind = [NO_COST; 1 << GOAL_BITS];
+    behind[frame.end as usize] = 0;
+    for (b, row) in notes.chunks_exact_mut(COSTS_A_BLOCK).enumerate().rev() {
+        for &root in section_of(frame, sections, b).roots {
+            let note = A::get(row, root as usize);
+            let cost = A::get(&behind, (note % (1 << GOAL_BITS)) as usize);
+            A::put(
+                row,
+                root as usize,
+                cost + (note >> WORD_BITS).wrapping_sub(cost) % CYCLE,
+            );
+        }
+        behind[..COSTS_A_BLOCK].copy_from_slice(row);
+    }
+}
+
+/// Forward: the words that the notes name, from the start state on.
+fn follow<A: Access>(frame: &Frame, notes: &[u32], labels: &mut [u16], goals: &mut [u8]) {
+    let mut state = frame.start;
+    for b in 0..frame.indices.len() {
+        let note = A::get(notes, COSTS_A_BLOCK * b + state as usize);
+        state = (note % (1 << GOAL_BITS)) as u8;
+        A::put(labels, b, (note >> GOAL_BITS) as u16);
+        A::put(goals, b, state);
     }
 }
 
 fn search<A: Access>(frame: &Frame, room: Room, sections: &[Option<Section>; 16]) -> Decoded {
-    let mut picks = [0; COSTS_A_BLOCK * 256];
-    fill_table::<A>(frame, sections, room.costs, &mut picks);
-    let distance = room.costs[frame.start as usize];
-    if distance == NO_COST {
-        return Decoded::NoPath;
+    let notes = &mut room.costs[..COSTS_A_BLOCK * frame.indices.len()];
+    let distance = fill_notes::<A>(frame, sections, notes)[frame.start as usize];
+    if distance < NO_COST {
+        follow::<A>(frame, notes, room.labels, room.goals);
     }
-    let mut state = frame.start;
-    for b in 0..frame.indices.len() {
-        let pick = A::get(&picks, COSTS_A_BLOCK * b + state as usize);
-        state = (pick % (1 << GOAL_BITS)) as u8;
-        A::put(room.labels, b, (pick >> GOAL_BITS) as u16);
-        A::put(room.goals, b, state);
+    settle::<A>(frame, sections, notes);
+    if distance < NO_COST {
+        Decoded::Distance(distance as usize)
+    } else {
+        Decoded::NoPath
     }
-    Decoded::Distance(distance as usize)
 }
 
 pub fn decode<A: Access>(frame: &Frame, room: Room) -> Decoded {

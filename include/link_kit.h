@@ -57,7 +57,7 @@ extern "C" {
  * first called needs some 4,096 bytes more for that one call. */
 #define LINK_MERGE_STACK 35840u
 #define LINK_READ_BACK_STACK 19456u
-#define LINK_DECODE_STACK 90112u
+#define LINK_DECODE_STACK 28672u
 #define LINK_LISTING_STACK 55296u
 
 /* Merges a table file. Success returns the section's length; the map's place t W + i is then the vertex of word i at depth t.

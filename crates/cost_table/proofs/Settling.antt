@@ -6,19 +6,21 @@ use mathlib.Core.Logic.{inl, inr}
 use mathlib.Core.List.{List}
 use Prim.Native.Nat.{ℕ, suc, _+_, _-_, _*_, _/_, _%_, _≤_, _<_}
 use native.Mathlib.Nat.{not-suc-le-zero}
-use native.Mathlib.Decide.{decLt, ℕ-discrete}
+use native.Mathlib.Decide.{decLt}
 use native.Mathlib.Omega.{arith}
 use lib.ListN.{length, getD, take, drop, set, length-set, length-take, length-drop, replicate, length-replicate, getD-replicate}
-use lib.Seq.{getD-set-same, getD-set-other, getD-take, getD-drop}
+use lib.Seq.{getD-set-other, getD-take, getD-drop}
 use Rattle.trellis.specs.Bounds.{mostStates, costsABlock}
 use Rattle.trellis.specs.Layout.{vertexCountOf, rootState}
+use Rattle.trellis.proofs.Buffers.{put-more}
 use Rattle.paths.specs.Chain.{unreached}
 use Rattle.paths.specs.inner.Ranked.{labelUnit, distanceUnit, noteCycle, noteGoal, noteWord}
 use Rattle.paths.proofs.Chain.{least-le}
 use Rattle.section_file.specs.inner.View.{Seen}
 use Rattle.section_file.specs.declared.View.{View}
-use Rattle.section_file.proofs.Seen.{States, roots-at}
+use Rattle.section_file.proofs.Seen.{roots-at}
 use Rattle.passes.specs.inner.Chains.{Chain, leastFrom, LeftAt, NoteAt, NotesFrom, CostsFrom, RowWritten}
+use Rattle.passes.proofs.Ends.{root-is, root-lt, root-alone, root-more, root-else}
 use Rattle.passes.proofs.Passing.{rootOf, RootAt, root-at}
 use Rattle.passes.proofs.Chains.{left-last, costs-more}
 use Rattle.cost_table.specs.inner.Filled.{EndsAs, HeldBlocks, blockPart, Unrooted}
@@ -81,38 +83,20 @@ roots-start O = record { long = O .long; at = λ u h. absurd (not-suc-le-zero h)
 
 module _ {l behind old row : List ℕ} {at : View} {v s : ℕ} (S : Seen l at) (I : RootsSettled l behind old row v)
     (h : v < at .goals - at .roots) (p : s ≡ getD l (at .roots + v) 0) where
-  A : States l (at .roots) (at .goals) (vertexCountOf l 0) (rootState l)
-  A = roots-at S
-
-  is : s ≡ rootState l v
-  is = p ∙ A .at v
-
-  pub root-lt : s < mostStates
-  root-lt = let k = A .small v (omega (arith, A .count-is)) in omega (arith, is)
-
-  other : (u : ℕ) → u < v → rootState l u ≡ s → ⊥
-  other u k z = let m = S .sound .rootsAscend u v k (omega (arith, A .count-is)) in omega (arith, is)
-
   -- the note of the next root is still there
   note-there : getD row s 0 ≡ getD old s 0
-  note-there = I .kept s other
+  note-there = I .kept s (root-alone S h p)
 
   pub still-fits : RowOwed behind old → settledCost behind (getD row s 0) ≤ unreached
-  still-fits O = subst (λ x. settledCost behind x ≤ unreached) (sym note-there) (O .small s root-lt)
+  still-fits O = subst (λ x. settledCost behind x ≤ unreached) (sym note-there) (O .small s (root-lt S h p))
 
   pub roots-more : {x : ℕ} → x ≡ settledCost behind (getD row s 0) → RootsSettled l behind old (set row s x) (v + 1)
   roots-more {x} q = record {
     long = simp length-set (I .long);
-    at = λ u k. go u k (ℕ-discrete u v);
-    kept = λ t k. getD-set-other row s t x 0 (λ z. k v (omega arith) (sym is ∙ sym z)) ∙ I .kept t (λ u m. k u (omega arith));
+    at = root-more S h p (λ u y. y ≡ settledCost behind (getD old (rootState l u) 0)) row x (I .long)
+        (q ∙ ap (settledCost behind) (note-there ∙ ap (λ t. getD old t 0) (root-is S h p))) (I .at);
+    kept = λ t k. root-else S h p row x t k ∙ I .kept t (λ u m. k u (omega arith));
   }
-    where
-      go : (u : ℕ) → u < v + 1 → Dec (u ≡ v) → getD (set row s x) (rootState l u) 0 ≡ settledCost behind (getD old (rootState l u) 0)
-      go u k (yes e) =
-          subst (λ y. getD (set row s x) (rootState l y) 0 ≡ settledCost behind (getD old (rootState l y) 0)) (sym e)
-          (subst (λ y. getD (set row s x) y 0 ≡ settledCost behind (getD old y 0)) is
-          (getD-set-same row s x 0 (omega (arith, I .long, root-lt)) ∙ q ∙ ap (settledCost behind) note-there))
-      go u k (no e) = getD-set-other row s (rootState l u) x 0 (other u (omega arith)) ∙ I .at u (omega arith)
 
 pub roots-end : {l behind old row : List ℕ} {at : View} {v : ℕ} → Seen l at → RootsSettled l behind old row v → at .goals - at .roots ≤ v
     → v ≤ at .goals - at .roots → RootsSettled l behind old row (vertexCountOf l 0)
@@ -130,15 +114,9 @@ pub copy-more : {row old place : List ℕ} {s : ℕ} → RowCopied row old place
     → RowCopied row old (set place s (getD row s 0)) (s + 1)
 copy-more {row} {old} {place} {s} I h = record {
   long = simp length-set (I .long);
-  at = λ u l. go u l (ℕ-discrete u s);
+  at = put-more (λ u x. x ≡ getD row u 0) place s (getD row s 0) (omega (arith, I .long)) refl (I .at);
   kept = λ u l. getD-set-other place s u (getD row s 0) 0 (λ e. absurd (omega arith)) ∙ I .kept u (omega arith);
 }
-  where
-    go : (u : ℕ) → u < s + 1 → Dec (u ≡ s) → getD (set place s (getD row s 0)) u 0 ≡ getD row u 0
-    go u l (yes e) =
-        subst (λ x. getD (set place s (getD row s 0)) x 0 ≡ getD row x 0) (sym e)
-        (getD-set-same place s (getD row s 0) 0 (omega (arith, I .long)))
-    go u l (no e) = getD-set-other place s u (getD row s 0) 0 e ∙ I .at u (omega arith)
 
 pub copy-end : {row old place : List ℕ} {s : ℕ} → RowCopied row old place s → mostStates ≤ s → s ≤ mostStates
     → RowCopied row old place mostStates

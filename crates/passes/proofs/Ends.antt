@@ -1,6 +1,6 @@
 -- The two ends of a block. The row of depth n takes what is left to pay in the states of the goals; what the row of depth 0 has goes to the
 -- states of the roots, which ascend, so that none is written twice.
-use mathlib.Core.Path.{_≡_, sym, ap, subst, _∙_}
+use mathlib.Core.Path.{_≡_, refl, sym, ap, subst, _∙_}
 use mathlib.Core.List.{List}
 use Prim.Native.Nat.{ℕ, _+_, _-_, _*_, _/_, _%_, _≤_, _<_}
 use native.Mathlib.Nat.{not-suc-le-zero}
@@ -10,6 +10,7 @@ use lib.ListN.{length, getD, set, length-set, replicate, length-replicate, getD-
 use lib.Seq.{getD-set-same, getD-set-other}
 use Rattle.trellis.specs.Bounds.{mostStates, mostWords}
 use Rattle.trellis.specs.Layout.{nOf, vertexCountOf, rootState, goalState}
+use Rattle.trellis.proofs.Buffers.{put-more}
 use Rattle.paths.specs.Chain.{unreached}
 use Rattle.paths.specs.inner.Ranked.{distanceUnit, topRank, ranked, rankedLeft, noteUnit}
 use Rattle.section_file.specs.inner.View.{Seen}
@@ -51,25 +52,16 @@ pub goals-more : {l left row : List ℕ} {at : View} {g s x : ℕ} → Seen l at
     → s ≡ getD l (at .goals + g) 0 → x ≡ rankedLeft (getD left s 0) s → x ≤ topRank → GoalsRanked l left (set row g x) (g + 1)
 goals-more {l} {left} {row} {at} {g} {s} {x} S I h p q r = record {
   long = simp length-set (I .long);
-  at = λ u k. put (λ w y. y ≡ rankedLeft (getD left (goalState l w) 0) (goalState l w)) (q ∙ ap (λ w. rankedLeft (getD left w 0) w) is)
-      (I .at) u k;
-  small = λ u k. put (λ w y. y ≤ topRank) r (I .small) u k;
+  at = put-more (λ u y. y ≡ rankedLeft (getD left (goalState l u) 0) (goalState l u)) row g x g-lt
+      (q ∙ ap (λ w. rankedLeft (getD left w 0) w) (p ∙ A .at g)) (I .at);
+  small = put-more (λ u y. y ≤ topRank) row g x g-lt r (I .small);
 }
   where
     A : States l (at .goals) (at .pairs) (vertexCountOf l (nOf l)) (goalState l)
     A = goals-at S
 
-    is : s ≡ goalState l g
-    is = p ∙ A .at g
-
-    put : (P : ℕ → ℕ → Type 0) → P g x → ((u : ℕ) → u < g → P u (getD row u 0)) → (u : ℕ) → u < g + 1 → P u (getD (set row g x) u 0)
-    put P here before u k = go (ℕ-discrete u g)
-      where
-        go : Dec (u ≡ g) → P u (getD (set row g x) u 0)
-        go (yes e) =
-            subst (λ w. P w (getD (set row g x) w 0)) (sym e)
-            (subst (P g) (sym (getD-set-same row g x 0 (omega (arith, I .long, A .few, A .count-is)))) here)
-        go (no e) = subst (P u) (sym (getD-set-other row g u x 0 e)) (before u (omega arith))
+    g-lt : g < length row
+    g-lt = omega (arith, I .long, A .few, A .count-is)
 
 pub goals-end : {l left row : List ℕ} {at : View} {g : ℕ} → Seen l at → GoalsRanked l left row g → at .pairs - at .goals ≤ g
     → GoalsRanked l left row (vertexCountOf l (nOf l))
@@ -83,16 +75,42 @@ pub clear-start : {row : List ℕ} → length row ≡ mostStates → RowCleared 
 clear-start h = record { long = h; at = λ u k. absurd (not-suc-le-zero k) }
 
 pub clear-more : {row : List ℕ} {s : ℕ} → RowCleared row s → s < mostStates → RowCleared (set row s unreached) (s + 1)
-clear-more {row} {s} I h = record { long = simp length-set (I .long); at = λ u k. go u k (ℕ-discrete u s) }
-  where
-    go : (u : ℕ) → u < s + 1 → Dec (u ≡ s) → getD (set row s unreached) u 0 ≡ unreached
-    go u k (yes e) =
-        subst (λ x. getD (set row s unreached) x 0 ≡ unreached) (sym e)
-        (getD-set-same row s unreached 0 (omega (arith, I .long)))
-    go u k (no e) = getD-set-other row s u unreached 0 e ∙ I .at u (omega arith)
+clear-more {row} {s} I h = record {
+  long = simp length-set (I .long);
+  at = put-more (λ u x. x ≡ unreached) row s unreached (omega (arith, I .long)) refl (I .at);
+}
 
 pub clear-end : {row : List ℕ} {s : ℕ} → RowCleared row s → mostStates ≤ s → RowCleared row mostStates
 clear-end I h = record { long = I .long; at = λ u k. I .at u (omega arith) }
+
+-- root v is in state s: no other root is, and what is written there stands for this root alone
+module _ {l : List ℕ} {at : View} {v s : ℕ} (S : Seen l at) (h : v < at .goals - at .roots) (p : s ≡ getD l (at .roots + v) 0) where
+  A : States l (at .roots) (at .goals) (vertexCountOf l 0) (rootState l)
+  A = roots-at S
+
+  pub root-is : s ≡ rootState l v
+  root-is = p ∙ A .at v
+
+  pub root-lt : s < mostStates
+  root-lt = let k = A .small v (omega (arith, A .count-is)) in omega (arith, root-is)
+
+  pub root-alone : (u : ℕ) → u < v → rootState l u ≡ s → ⊥
+  root-alone u k z = let m = S .sound .rootsAscend u v k (omega (arith, A .count-is)) in omega (arith, root-is)
+
+  pub root-more : (P : ℕ → ℕ → Type 0) (row : List ℕ) (x : ℕ) → length row ≡ mostStates → P v x
+      → ((u : ℕ) → u < v → P u (getD row (rootState l u) 0)) → (u : ℕ) → u < v + 1 → P u (getD (set row s x) (rootState l u) 0)
+  root-more P row x long here before u k = go (ℕ-discrete u v)
+    where
+      go : Dec (u ≡ v) → P u (getD (set row s x) (rootState l u) 0)
+      go (yes e) =
+          subst (λ w. P w (getD (set row s x) (rootState l w) 0)) (sym e)
+          (subst (λ w. P v (getD (set row s x) w 0)) root-is
+          (subst (P v) (sym (getD-set-same row s x 0 (omega (arith, long, root-lt)))) here))
+      go (no e) =
+          subst (P u) (sym (getD-set-other row s (rootState l u) x 0 (root-alone u (omega arith)))) (before u (omega arith))
+
+  pub root-else : (row : List ℕ) (x t : ℕ) → ((u : ℕ) → u < v + 1 → rootState l u ≡ t → ⊥) → getD (set row s x) t 0 ≡ getD row t 0
+  root-else row x t k = getD-set-other row s t x 0 (λ z. k v (omega arith) (sym root-is ∙ sym z))
 
 pub roots-start : {l row notes : List ℕ} → RowCleared notes mostStates → RootsPut l row (replicate mostStates unreached) notes 0
 roots-start I = record {
@@ -110,36 +128,12 @@ pub roots-more : {l row left notes : List ℕ} {at : View} {v s rank cost note :
 roots-more {l} {row} {left} {notes} {at} {v} {s} {rank} {cost} {note} S I h p r q w = record {
   long = simp length-set (I .long);
   notesLong = simp length-set (I .notesLong);
-  cost = λ u k. put (λ x. x / distanceUnit) left cost (I .long) (q ∙ ap (λ x. x / distanceUnit) r) (I .cost) u k;
-  note = λ u k. put (λ x. x % noteUnit) notes note (I .notesLong) (w ∙ ap (λ x. x % noteUnit) r) (I .note) u k;
+  cost = root-more S h p (λ u x. x ≡ getD row u 0 / distanceUnit) left cost (I .long) (q ∙ ap (λ x. x / distanceUnit) r) (I .cost);
+  note = root-more S h p (λ u x. x ≡ getD row u 0 % noteUnit) notes note (I .notesLong) (w ∙ ap (λ x. x % noteUnit) r) (I .note);
   none = λ t k e.
-      let apart : t ≡ s → ⊥ = λ z. e v (omega arith) (sym is ∙ sym z) in
       let before = I .none t k (λ u m. e u (omega arith)) in
-      (getD-set-other left s t cost 0 apart ∙ before .0, getD-set-other notes s t note 0 apart ∙ before .1);
+      (root-else S h p left cost t e ∙ before .0, root-else S h p notes note t e ∙ before .1);
 }
-  where
-    A : States l (at .roots) (at .goals) (vertexCountOf l 0) (rootState l)
-    A = roots-at S
-
-    is : s ≡ rootState l v
-    is = p ∙ A .at v
-
-    s-lt : s < mostStates
-    s-lt = let k = A .small v (omega (arith, A .count-is)) in omega (arith, is)
-
-    other : (u : ℕ) → u < v + 1 → (u ≡ v → ⊥) → rootState l u ≡ s → ⊥
-    other u k e z = let m = S .sound .rootsAscend u v (omega arith) (omega (arith, A .count-is)) in omega (arith, is)
-
-    put : (f : ℕ → ℕ) (old : List ℕ) (x : ℕ) → length old ≡ mostStates → x ≡ f (getD row v 0)
-        → ((u : ℕ) → u < v → getD old (rootState l u) 0 ≡ f (getD row u 0))
-        → (u : ℕ) → u < v + 1 → getD (set old s x) (rootState l u) 0 ≡ f (getD row u 0)
-    put f old x long here before u k = go (ℕ-discrete u v)
-      where
-        go : Dec (u ≡ v) → getD (set old s x) (rootState l u) 0 ≡ f (getD row u 0)
-        go (yes e) =
-            subst (λ y. getD (set old s x) (rootState l y) 0 ≡ f (getD row y 0)) (sym e)
-            (subst (λ y. getD (set old s x) y 0 ≡ f (getD row v 0)) is (getD-set-same old s x 0 (omega (arith, long, s-lt)) ∙ here))
-        go (no e) = getD-set-other old s (rootState l u) x 0 (other u k e) ∙ before u (omega arith)
 
 pub roots-end : {l row left notes : List ℕ} {at : View} {v : ℕ} → Seen l at → RootsPut l row left notes v → at .goals - at .roots ≤ v
     → v ≤ at .goals - at .roots → RootsPut l row left notes (vertexCountOf l 0)

@@ -15,6 +15,7 @@ use Rattle.trellis.specs.Bounds.{mostWords}
 use Rattle.trellis.specs.Lists.{run, keep}
 use Rattle.trellis.specs.Own.{Edge}
 use Rattle.trellis.specs.Section.{leaving}
+use Rattle.trellis.proofs.Buffers.{put-more}
 use Rattle.paths.specs.inner.Costs.{minAll}
 use Rattle.paths.specs.inner.Ranked.{topRank}
 use Rattle.section_file.specs.inner.Answer.{edgeIn, heldEdge}
@@ -27,14 +28,10 @@ pub clear-start : {row : List ℕ} → length row ≡ mostWords → Cleared row 
 clear-start h = record { long = h; at = λ u l. absurd (not-suc-le-zero l) }
 
 pub clear-more : {row : List ℕ} {v : ℕ} → Cleared row v → v < mostWords → Cleared (set row v topRank) (v + 1)
-clear-more {row} {v} I h = record { long = simp length-set (I .long); at = at }
-  where
-    at : (u : ℕ) → u < v + 1 → getD (set row v topRank) u 0 ≡ topRank
-    at u l = go (ℕ-discrete u v)
-      where
-        go : Dec (u ≡ v) → getD (set row v topRank) u 0 ≡ topRank
-        go (yes e) = subst (λ k. getD (set row v topRank) k 0 ≡ topRank) (sym e) (getD-set-same row v topRank 0 (omega (arith, I .long)))
-        go (no e) = getD-set-other row v u topRank 0 (λ k. e (omega arith)) ∙ I .at u (omega arith)
+clear-more {row} {v} I h = record {
+  long = simp length-set (I .long);
+  at = put-more (λ u x. x ≡ topRank) row v topRank (omega (arith, I .long)) refl (I .at);
+}
 
 pub clear-end : {row : List ℕ} {count v : ℕ} → Cleared row v → count ≤ v → Cleared row count
 clear-end I h = record { long = I .long; at = λ u k. I .at u (omega arith) }

@@ -5,7 +5,8 @@ use mathlib.Core.Path.{sym, _∙_}
 use Prim.Native.Nat.{_-_, _≤_}
 use Rattle.section_file.proofs.Seen.{roots-at}
 use Rattle.cost_table.specs.inner.Settled.{RootsSettled}
-use Rattle.cost_table.proofs.Settling.{roots-start, root-lt, still-fits, roots-more, roots-end}
+use Rattle.passes.proofs.Ends.{root-lt}
+use Rattle.cost_table.proofs.Settling.{roots-start, still-fits, roots-more, roots-end}
 use Rattle.cost_table.proofs.settle_roots.Statement.{statement}
 use Rattle.cost_table.proofs.settle_roots.Tie as tie
 
@@ -38,7 +39,7 @@ mul-settled c =
     let turn = c .before .before in
     let head = turn .before in
     let entry = head .before .before .before .before in
-    search (needs, root-lt (entry .pre .0) (head .loop .inv .0) (turn .loop-test .taken) (c .wide .ensures .0))
+    search (needs, root-lt (entry .pre .0) (turn .loop-test .taken) (c .wide .ensures .0))
 
 slice-read-settled : tie.Need-slice-read-settled Inv-loop μ-loop
 slice-read-settled c =
@@ -46,7 +47,7 @@ slice-read-settled c =
     let turn = wide .before .before in
     let head = turn .before in
     let entry = head .before .before .before .before in
-    search (needs, root-lt (entry .pre .0) (head .loop .inv .0) (turn .loop-test .taken) (wide .wide .ensures .0), head .loop .inv .0 .long)
+    search (needs, root-lt (entry .pre .0) (turn .loop-test .taken) (wide .wide .ensures .0), head .loop .inv .0 .long)
 
 settled-requires : tie.Need-settled-requires Inv-loop μ-loop
 settled-requires c κs =
@@ -62,7 +63,7 @@ mul-row c =
     let turn = wide .before .before in
     let head = turn .before in
     let entry = head .before .before .before .before in
-    search (needs, root-lt (entry .pre .0) (head .loop .inv .0) (turn .loop-test .taken) (wide .wide .ensures .0))
+    search (needs, root-lt (entry .pre .0) (turn .loop-test .taken) (wide .wide .ensures .0))
 
 slice-write-row : tie.Need-slice-write-row Inv-loop μ-loop
 slice-write-row c =
@@ -70,7 +71,7 @@ slice-write-row c =
     let turn = wide .before .before in
     let head = turn .before in
     let entry = head .before .before .before .before in
-    search (needs, root-lt (entry .pre .0) (head .loop .inv .0) (turn .loop-test .taken) (wide .wide .ensures .0), head .loop .inv .0 .long)
+    search (needs, root-lt (entry .pre .0) (turn .loop-test .taken) (wide .wide .ensures .0), head .loop .inv .0 .long)
 
 add-v : tie.Need-add-v Inv-loop μ-loop
 add-v c = search needs
