@@ -1,5 +1,5 @@
 //! Decodes many small chains with the compiled `link_decode` and compares the answer and every place of the three buffers with a plain listing of all
-//! paths, written from document 01 alone; then long chains, the bounds on blocks, sections and states, and marked cases 7 and 8.
+//! paths, written from document 01 alone; then long chains, the bounds on blocks, sections and states, large distances, and marked cases 7 and 8.
 
 #[path = "../common/mod.rs"]
 mod common;
@@ -141,6 +141,39 @@ fn bounds(differing: &mut Differing) {
     tally.report("256 and 257 blocks, 16 and 17 sections, states 63 and 64");
 }
 
+/// Long chains of 8 symbols a block, received far from their words: distances up to 2,048, and states with no path beside them, whose words differ in
+/// no symbol from what is received.
+fn far_chains(differing: &mut Differing, numbers: &mut Numbers) {
+    let mut tally = Tally::default();
+    let table = Table {
+        q: 4,
+        n: 8,
+        states: 64,
+        words: vec![(0, 0, 0), (1, 0x5555, 1), (2, 0xFFFF, 63), (63, 0xFFFF, 63)],
+    };
+    for (blocks, end) in [64, 128, 129, 256]
+        .into_iter()
+        .flat_map(|b| [0, 1, 63].map(|end| (b, end)))
+    {
+        for (start, noisy) in [0, 1, 2, 63]
+            .into_iter()
+            .flat_map(|s| [false, true].map(|noisy| (s, noisy)))
+        {
+            let mut frame = copies(&table, 1, blocks, 0);
+            (frame.start, frame.end) = (start, end);
+            for received in frame.received.iter_mut().filter(|_| noisy) {
+                *received = [0, 0x5555, 0xFFFF, numbers.below(0x10000) as u16][numbers.below(4)];
+            }
+            let answer = tally.compare(differing, &frame, [64 * blocks, blocks, blocks], false);
+            if (start, end, noisy) == (1, 1, false) {
+                let wanted = Answer::new(0, &[8 * blocks]);
+                differing.compare(&wanted, &answer, || "each symbol wrong".to_string());
+            }
+        }
+    }
+    tally.report("distances up to 2,048");
+}
+
 /// Marked cases 7 and 8, with their answers as document 01 has them.
 fn marked_cases(differing: &mut Differing) {
     let table = Table {
@@ -170,6 +203,7 @@ fn main() {
     long_chains(&mut differing, &mut numbers);
     large_sections(&mut differing, &mut numbers);
     bounds(&mut differing);
+    far_chains(&mut differing, &mut numbers);
     marked_cases(&mut differing);
     differing.finish();
 }
