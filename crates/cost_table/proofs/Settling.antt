@@ -1,6 +1,7 @@
 -- From the last block to the first the costs behind a block are known. What a word of the block adds to them is below 512, so that it is the
--- remainder of the cost, which the note has, less the remainder of the cost behind. A state that is no root has the note of no path, which
--- is the mark for no path in a cost table too. Rows are settled root by root; roots ascend, so that no state is settled twice.
+-- remainder of the cost, which the note has, less the remainder of the cost behind. The note of no path leads to a place behind the states
+-- that has the mark for no path, and adds nothing to it; a state that is no root has that note, which is the mark itself. Rows are settled
+-- root by root; roots ascend, so that no state is settled twice.
 use mathlib.Core.Path.{_≡_, refl, sym, ap, subst, _∙_}
 use mathlib.Core.Logic.{inl, inr}
 use mathlib.Core.List.{List}
