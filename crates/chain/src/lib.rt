@@ -113,8 +113,8 @@ fn needed(blocks: usize, costs: usize, labels: usize, goals: usize) -> usize
     if goals < blocks { blocks } else { 0 }
 }
 
-// Backward over the blocks to the distance, with notes in the cost table; where there is a path from the start state, forward along the notes
-// to its words; and the notes turned into costs. K plays no part here, so the promise is for any.
+// Backward over the blocks to the distance, with notes in the cost table; where there is a path from the start state, forward along the
+// notes to its words; and the notes turned into costs. K plays no part here, so the promise is for any.
 fn decode_with(
     sections: &[u16],
     starts: &[usize; MOST_SECTIONS + 1],

@@ -1,7 +1,7 @@
--- From the last block to the first the costs behind a block are known. What a word of the block adds to them is below 512, so that it is the
--- remainder of the cost, which the note has, less the remainder of the cost behind. The note of no path leads to a place behind the states
--- that has the mark for no path, and adds nothing to it; a state that is no root has that note, which is the mark itself. Rows are settled
--- root by root; roots ascend, so that no state is settled twice.
+-- From the last block to the first the costs behind a block are known. What a word of the block adds to them is below 512, so that it is
+-- the remainder of the cost, which the note has, less the remainder of the cost behind. The note of no path leads to a place behind the
+-- states that has the mark for no path, and adds nothing to it; a state that is no root has that note, which is the mark itself. Rows are
+-- settled root by root; roots ascend, so that no state is settled twice.
 use mathlib.Core.Path.{_≡_, refl, sym, ap, subst, _∙_}
 use mathlib.Core.Logic.{inl, inr}
 use mathlib.Core.List.{List}
@@ -45,8 +45,8 @@ pub settled-fits : (behind : List ℕ) (note : ℕ) → settledCost behind note 
     → getD behind goal 0 + (note / distanceUnit + noteCycle - getD behind goal 0 % noteCycle) % noteCycle < 4294967296
 settled-fits behind note O g = let e = settled-by behind note g in omega arith
 
-module _ {C : Chain} {b s note : ℕ} {behind : List ℕ} (h : b < C .blocks) (K : Cheap C) (M : CostsBehind behind) (L : LeftAt C (suc b) behind)
-    (N : NoteAt C b s note) where
+module _ {C : Chain} {b s note : ℕ} {behind : List ℕ} (h : b < C .blocks) (K : Cheap C) (M : CostsBehind behind)
+    (L : LeftAt C (suc b) behind) (N : NoteAt C b s note) where
   -- what stands at the note's goal
   settled-of : {cost : ℕ} → getD behind (noteGoal note) 0 ≡ cost
       → settledCost behind note ≡ cost + (note / distanceUnit + noteCycle - cost % noteCycle) % noteCycle

@@ -1,5 +1,5 @@
--- The loop over the blocks: what is left to pay and the notes are those of whatever chain the blocks are, from block b on. One block more is
--- passed as the laws of a chain say, and its row is put in its place.
+-- The loop over the blocks: what is left to pay and the notes are those of whatever chain the blocks are, from block b on. One block more
+-- is passed as the laws of a chain say, and its row is put in its place.
 use mathlib.Core.Path.{_≡_, refl, sym, ap, subst, _∙_}
 use mathlib.Core.Logic.{inr}
 use mathlib.Core.List.{List}

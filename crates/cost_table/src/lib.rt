@@ -61,8 +61,8 @@ fn fill_block(
     pass_block(l, at, prices, left, notes, even, odd);
 }
 
-// `ends` has what is left to pay behind the last block: nothing in a state where a path may end. The notes go to the cost table, and what is
-// left to pay before the first block is the answer.
+// `ends` has what is left to pay behind the last block: nothing in a state where a path may end. The notes go to the cost table, and what
+// is left to pay before the first block is the answer.
 pub fn fill(
     sections: &[u16],
     starts: &[usize; MOST_SECTIONS + 1],

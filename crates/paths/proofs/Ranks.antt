@@ -1,6 +1,6 @@
 -- Numbers that rank the members of a list: a distance f, below it a key K that stays under 2^23, and both in one number F, cut off at the
--- top. A smaller distance gives a smaller number, so the least number has the least distance; and where keys ascend, it belongs to the first
--- member of that distance. A number below the top is cut off nowhere.
+-- top. A smaller distance gives a smaller number, so the least number has the least distance; and where keys ascend, it belongs to the
+-- first member of that distance. A number below the top is cut off nowhere; d is the distance with nothing cut off.
 use mathlib.Core.Path.{_≡_, refl, ap}
 use mathlib.Core.Bool.{Bool, true, false, cond}
 use mathlib.Core.Logic.{⊎-elim}
@@ -76,7 +76,8 @@ least-of {A} top F (x ∷ xs) h = go (decLe (F x) (minAll top F xs)) (least-of t
 
 module _ {A : Type 0} {f d F K : A → ℕ} where
   -- the distance of the least number is the least distance
-  pub least-front : (xs : List A) → ((x : A) → x ∈ xs → Ranks (f x) (d x) (F x) (K x)) → minAll topRank F xs / distanceUnit ≡ minAll 4294967295 f xs
+  pub least-front : (xs : List A) → ((x : A) → x ∈ xs → Ranks (f x) (d x) (F x) (K x))
+      → minAll topRank F xs / distanceUnit ≡ minAll 4294967295 f xs
   unfolding minAll
   least-front [] r = omega arith
   least-front (x ∷ xs) r =

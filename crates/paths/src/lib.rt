@@ -1,5 +1,5 @@
-// The theory of best paths: definitions in specs/, theorems in proofs/, and no code but what ranks and notes are made of as constants, one for
-// each definition of specs/inner/Ranked.
+// The theory of best paths: definitions in specs/, theorems in proofs/, and no code but what ranks and notes are made of as constants, one
+// for each definition of specs/inner/Ranked.
 pub const LABEL_UNIT: u64 = 128;
 
 pub const DISTANCE_UNIT: u64 = 8388608;

@@ -1,5 +1,5 @@
--- `cost_table::settle_roots` goes over the roots. The loop's invariant: the roots passed have their costs, and the other states what they had.
--- The measure is how many roots are left.
+-- `cost_table::settle_roots` goes over the roots. The loop's invariant: the roots passed have their costs, and the other states what they
+-- had. The measure is how many roots are left.
 use borrow.Author.Needs.{needs}
 use mathlib.Core.Path.{sym, _∙_}
 use Prim.Native.Nat.{_-_, _≤_}
@@ -55,7 +55,8 @@ settled-requires c κs =
     let turn = wide .before .before in
     let head = turn .before in
     let entry = head .before .before .before .before in
-    (entry .pre .1 .behindLong, still-fits (entry .pre .0) (head .loop .inv .0) (turn .loop-test .taken) (wide .wide .ensures .0) (entry .pre .1))
+    let O = entry .pre .1 in
+    (O .behindLong, still-fits (entry .pre .0) (head .loop .inv .0) (turn .loop-test .taken) (wide .wide .ensures .0) O)
 
 mul-row : tie.Need-mul-row Inv-loop μ-loop
 mul-row c =

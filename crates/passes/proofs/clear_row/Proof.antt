@@ -1,5 +1,5 @@
--- `passes::clear_row` writes the note of no path to every place of a row. The loop's invariant: the places passed have it. The measure is how
--- many are left.
+-- `passes::clear_row` writes the note of no path to every place of a row. The loop's invariant: the places passed have it. The measure is
+-- how many are left.
 use borrow.Author.Needs.{needs}
 use mathlib.Core.Path.{sym, _∙_}
 use Prim.Native.Nat.{_-_}

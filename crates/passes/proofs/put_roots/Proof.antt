@@ -32,7 +32,9 @@ mul-wide : tie.Need-mul-wide Inv-loop μ-loop
 mul-wide c = search (needs, roots-at (c .before .before .before .before .before .before .before .before .before .before .pre .0))
 
 shared-slice-read-wide : tie.Need-shared-slice-read-wide Inv-loop μ-loop
-shared-slice-read-wide c = search (needs, roots-at (c .before .before .before .before .before .before .before .before .before .before .before .pre .0))
+shared-slice-read-wide c =
+    let entry = c .before .before .before .before .before .before .before .before .before .before .before in
+    search (needs, roots-at (entry .pre .0))
 
 wide-requires : tie.Need-wide-requires Inv-loop μ-loop
 wide-requires c κs = search needs
@@ -105,12 +107,15 @@ loop-again c =
     let head = turn .before in
     let entry = head .before .before .before .before .before .before .before .before .before in
     let I = head .loop .inv in (
-      roots-more (entry .pre .0) (I .0) (turn .loop-test .taken) (wide .wide .ensures .0) refl (c .before .cost-of .ensures) (c .note-of .ensures),
+      roots-more (entry .pre .0) (I .0) (turn .loop-test .taken) (wide .wide .ensures .0) refl (c .before .cost-of .ensures)
+          (c .note-of .ensures),
       search needs,
     )
 
 same-length : tie.Need-same-length Inv-loop μ-loop
-same-length c = c .before .loop .inv .0 .notesLong ∙ sym (c .before .before .before .before .before .before .before .before .before .before .pre .1 .long)
+same-length c =
+    let entry = c .before .before .before .before .before .before .before .before .before .before in
+    c .before .loop .inv .0 .notesLong ∙ sym (entry .pre .1 .long)
 
 returns : tie.Need-returns Inv-loop μ-loop
 returns c =
