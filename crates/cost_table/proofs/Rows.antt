@@ -3,7 +3,7 @@ use mathlib.Core.Path.{_≡_, sym, ap, subst, _∙_}
 use mathlib.Core.Bool.{cond}
 use mathlib.Core.Logic.{⊎-elim}
 use mathlib.Core.List.{List, _++_}
-use Prim.Native.Nat.{ℕ, _+_, _-_, _≤_, _<_}
+use Prim.Native.Nat.{ℕ, _+_, _-_, _*_, _≤_, _<_}
 use native.Mathlib.Decide.{ℕ-discrete}
 use native.Mathlib.Omega.{arith}
 use lib.ListN.{length, getD, take, drop, set, length-set, length-append, length-take, length-drop, replicate}
@@ -29,6 +29,15 @@ ends-put {end} h = record { long = simp length-set (length-replicate {A = ℕ} m
     go s k (no e) =
         getD-set-other (replicate mostStates unreached) end s 0 0 e ∙ getD-replicate {A = ℕ} mostStates s unreached 0 k
         ∙ sym (ap (λ b. cond b 0 unreached) (ne-eqb s end e))
+
+-- ---- the row of the block before
+
+pub one-below : {b blocks : ℕ} → b ≤ blocks → 0 < b → b - 1 < blocks
+one-below h k = omega arith
+
+pub row-inside : {b blocks long new : ℕ} → b ≤ blocks → 0 < b → new ≡ long → costsABlock * blocks ≤ long
+    → costsABlock * (b - 1) + costsABlock ≤ new
+row-inside h k e l = omega arith
 
 -- ---- a row put back in its place
 

@@ -19,14 +19,13 @@ use Rattle.paths.specs.inner.Ranked.{labelUnit, distanceUnit, noteCycle, noteGo
 use Rattle.paths.proofs.Chain.{least-le}
 use Rattle.section_file.specs.inner.View.{Seen}
 use Rattle.section_file.specs.declared.View.{View}
-use Rattle.section_file.proofs.Seen.{roots-at}
 use Rattle.passes.specs.inner.Chains.{Chain, leastFrom, LeftAt, NoteAt, NotesFrom, CostsFrom, RowWritten}
-use Rattle.passes.proofs.Ends.{root-is, root-lt, root-alone, root-more, root-else}
+use Rattle.passes.proofs.Ends.{root-is, root-lt, root-alone, root-more, root-else, roots-all}
 use Rattle.passes.proofs.Passing.{rootOf, RootAt, root-at}
 use Rattle.passes.proofs.Chains.{left-last, costs-more}
 use Rattle.cost_table.specs.inner.Filled.{EndsAs, HeldBlocks, blockPart, Unrooted}
-use Rattle.cost_table.proofs.Tables.{BlockAt}
-use Rattle.cost_table.specs.inner.Settled.{CostsBehind, settledCost, RowOwed, RootsSettled, RowCopied, BlockSettled, Cheap, Settled}
+use Rattle.cost_table.proofs.Rows.{row-inside}
+use Rattle.cost_table.specs.inner.Settled.{CostsBehind, settledCost, RowFits, RootsSettled, RowCopied, BlockSettled, Cheap, Settled}
 
 -- ---- one note
 
@@ -79,7 +78,7 @@ module _ {C : Chain} {b s note : ℕ} {behind : List ℕ} (h : b < C .blocks) (K
 
 -- ---- one row, root by root
 
-pub roots-start : {l behind row : List ℕ} → RowOwed behind row → RootsSettled l behind row row 0
+pub roots-start : {l behind row : List ℕ} → RowFits behind row → RootsSettled l behind row row 0
 roots-start O = record { long = O .long; at = λ u h. absurd (not-suc-le-zero h); kept = λ s h. refl }
 
 module _ {l behind old row : List ℕ} {at : View} {v s : ℕ} (S : Seen l at) (I : RootsSettled l behind old row v)
@@ -88,7 +87,7 @@ module _ {l behind old row : List ℕ} {at : View} {v s : ℕ} (S : Seen l at) (
   note-there : getD row s 0 ≡ getD old s 0
   note-there = I .kept s (root-alone S h p)
 
-  pub still-fits : RowOwed behind old → settledCost behind (getD row s 0) ≤ unreached
+  pub still-fits : RowFits behind old → settledCost behind (getD row s 0) ≤ unreached
   still-fits O = subst (λ x. settledCost behind x ≤ unreached) (sym note-there) (O .small s (root-lt S h p))
 
   pub roots-more : {x : ℕ} → x ≡ settledCost behind (getD row s 0) → RootsSettled l behind old (set row s x) (v + 1)
@@ -101,10 +100,7 @@ module _ {l behind old row : List ℕ} {at : View} {v s : ℕ} (S : Seen l at) (
 
 pub roots-end : {l behind old row : List ℕ} {at : View} {v : ℕ} → Seen l at → RootsSettled l behind old row v → at .goals - at .roots ≤ v
     → v ≤ at .goals - at .roots → RootsSettled l behind old row (vertexCountOf l 0)
-roots-end {l} {behind} {old} {row} {v = v} S I h k =
-    let c = roots-at S .count-is in
-    let e : v ≡ vertexCountOf l 0 = omega arith in
-    subst (RootsSettled l behind old row) e I
+roots-end {l} {behind} {old} {row} S I h k = subst (RootsSettled l behind old row) (roots-all S h k) I
 
 -- ---- copied
 
@@ -159,9 +155,6 @@ pub last-is : {C : Chain} {blocks : ℕ} {ends old last : List ℕ} → C .block
     → LeftAt C blocks last
 last-is {C} {last = last} e E I = subst (λ b. LeftAt C b last) e (left-last C last (λ s k. I .at s k ∙ E .at s k))
 
-pub settle-below : {blocks : ℕ} {last old new behind : List ℕ} {b : ℕ} → InSettle blocks last old new behind b → 0 < b → b - 1 < blocks
-settle-below I h = omega (arith, I .b-le)
-
 -- a row as it is lent
 abbrev rowOf : ℕ → List ℕ → List ℕ
 rowOf first l = take (first + costsABlock - first) (drop first l)
@@ -173,9 +166,6 @@ module _ {blocks : ℕ} {last old mid behind : List ℕ} {b : ℕ} (I : InSettle
     (fits : costsABlock * blocks ≤ length old) where
   abbrev first : ℕ
   first = costsABlock * (b - 1)
-
-  pub row-in : first + costsABlock ≤ length mid
-  row-in = omega (arith, I .long, I .b-le)
 
   -- the notes of the block are still there
   row-is : (s : ℕ) → s < mostStates → getD (rowOf first mid) s 0 ≡ getD old (first + s) 0
@@ -191,17 +181,21 @@ module _ {blocks : ℕ} {last old mid behind : List ℕ} {b : ℕ} (I : InSettle
     note-at : (s : ℕ) → s < mostStates → NoteAt C (b - 1) s (getD (rowOf first mid) s 0)
     note-at s k = subst (NoteAt C (b - 1) s) (sym (row-is s k)) (N .at (b - 1) s (omega arith) in-chain k)
 
-    pub row-owed : RowOwed behind (rowOf first mid)
-    row-owed = record {
+    pub row-fits : RowFits behind (rowOf first mid)
+    row-fits = record {
       behindLong = I .marked .long;
-      long = simp (length-take, length-drop) (omega (arith, row-in));
+      long = simp (length-take, length-drop) (omega (arith, row-inside (I .b-le) h (I .long) fits));
       small = λ s k. note-fits in-chain K (I .marked) left-behind (note-at s k);
     }
 
-  module _ {H : HeldBlocks} (n : length (H .indices) ≡ blocks) (U : Unrooted H 0 old) {row new copy : List ℕ}
-      (B : BlockSettled (blockPart H (b - 1)) behind (rowOf first mid) row copy) (P : RowWritten first row mid new) where
+  -- `part` is the section as it is lent
+  module _ {H : HeldBlocks} (n : length (H .indices) ≡ blocks) (U : Unrooted H 0 old) {part row new copy : List ℕ}
+      (p : part ≡ blockPart H (b - 1)) (S : BlockSettled part behind (rowOf first mid) row copy) (P : RowWritten first row mid new) where
     abbrev l : List ℕ
     l = blockPart H (b - 1)
+
+    B : BlockSettled l behind (rowOf first mid) row copy
+    B = subst (λ x. BlockSettled x behind (rowOf first mid) row copy) p S
 
     module _ (C : Chain) (e : C .blocks ≡ blocks) (K : Cheap C) (L : LeftAt C blocks last) (N : NotesFrom C 0 old) where
       cost-at : (s : ℕ) → s < mostStates → getD row s 0 ≡ leastFrom C (b - 1) s
@@ -234,12 +228,6 @@ module _ {blocks : ℕ} {last old mid behind : List ℕ} {b : ℕ} (I : InSettle
       leftIs = λ C e K L N. record { at = λ s k. B .copied .at s k ∙ cost-at C e K L N s k };
       costs = costs-here;
     }
-
--- the section as it is lent
-pub settled-part : {H : HeldBlocks} {b i : ℕ} {behind old new copy : List ℕ} → BlockAt H b i
-    → BlockSettled (take (length (H .sections) - getD (H .starts) i 0) (drop (getD (H .starts) i 0) (H .sections))) behind old new copy
-    → BlockSettled (blockPart H b) behind old new copy
-settled-part {behind = behind} {old} {new} {copy} A B = subst (λ l. BlockSettled l behind old new copy) (A .part-is) B
 
 pub settle-end : {blocks : ℕ} {ends blank last old new behind : List ℕ} {b : ℕ} → RowCopied ends blank last mostStates
     → InSettle blocks last old new behind b → b ≤ 0 → Settled blocks ends old new

@@ -3,8 +3,8 @@
 use mathlib.Core.Path.{_≡_, refl, sym, ap, subst, _∙_}
 use mathlib.Core.Logic.{inr}
 use mathlib.Core.List.{List}
-use Prim.Native.Nat.{ℕ, suc, _+_, _-_, _*_, _≤_, _<_}
-use native.Mathlib.Decide.{decLt, ℕ-discrete}
+use Prim.Native.Nat.{ℕ, suc, _-_, _*_, _≤_, _<_}
+use native.Mathlib.Decide.{decLt}
 use native.Mathlib.Omega.{arith}
 use lib.ListN.{length, getD, take, drop, replicate, length-replicate, getD-replicate, List·getD-eq-default}
 use Rattle.trellis.specs.Bounds.{mostStates, mostWords, mostSections, costsABlock}
@@ -18,7 +18,8 @@ use Rattle.block.specs.Received.{symbolCost, blockDistance}
 use Rattle.block.specs.inner.Prices.{Prices}
 use Rattle.passes.specs.inner.Blocks.{BlockPassed}
 use Rattle.passes.specs.inner.Chains.{Chain, LeftAt, NotesFrom, RowWritten}
-use Rattle.passes.proofs.Chains.{Uses, left-last, left-more, note-more, notes-more}
+use Rattle.passes.proofs.Chains.{Uses, row-more, left-last, left-more, note-more, notes-more}
+use Rattle.cost_table.proofs.Rows.{one-below}
 use Rattle.sections.specs.inner.Found.{noView}
 use Rattle.cost_table.specs.inner.Filled.{Working, BlockFilled, EndsAs, HeldBlocks, blockPart, Ready, ChainOf, Unrooted, Filled}
 
@@ -87,27 +88,16 @@ block-at {H} {b} {i} R h e =
       few = omega (arith, R .many);
     }
 
-pub filled-part : {H : HeldBlocks} {b i received mask : ℕ} {left new notes : List ℕ} → BlockAt H b i
-    → BlockFilled (take (length (H .sections) - getD (H .starts) i 0) (drop (getD (H .starts) i 0) (H .sections))) received mask left new
-    notes
-    → BlockFilled (blockPart H b) received mask left new notes
-filled-part {received = received} {mask} {left} {new} {notes} A B =
-    subst (λ l. BlockFilled l received mask left new notes) (A .part-is) B
-
-pub fill-below : {H : HeldBlocks} {ends old notes left prices even odd : List ℕ} {b : ℕ} → InFill H ends old notes left prices even odd b
-    → 0 < b → b - 1 < length (H .indices)
-fill-below I h = omega (arith, I .b-le)
-
-pub row-at : {H : HeldBlocks} {ends old notes left prices even odd : List ℕ} {b : ℕ} → InFill H ends old notes left prices even odd b
-    → costsABlock * length (H .indices) ≤ length old → 0 < b → costsABlock * (b - 1) + costsABlock ≤ length notes
-row-at I c h = omega (arith, I .long, I .b-le)
-
-module _ {H : HeldBlocks} {ends old mid notes left newLeft prices newPrices even newEven odd newOdd row : List ℕ} {b : ℕ}
-    (I : InFill H ends old mid left prices even odd b) (h : 0 < b)
-    (B : BlockFilled (blockPart H (b - 1)) (getD (H .received) (b - 1) 0) (getD (H .erased) (b - 1) 0) left newLeft row)
+-- `l` is the section as it is lent
+module _ {H : HeldBlocks} {ends old mid notes left newLeft prices newPrices even newEven odd newOdd row l : List ℕ} {b : ℕ}
+    (I : InFill H ends old mid left prices even odd b) (h : 0 < b) (p : l ≡ blockPart H (b - 1))
+    (F : BlockFilled l (getD (H .received) (b - 1) 0) (getD (H .erased) (b - 1) 0) left newLeft row)
     (W : Working newLeft newPrices newEven newOdd) (P : RowWritten (costsABlock * (b - 1)) row mid notes) where
+  B : BlockFilled (blockPart H (b - 1)) (getD (H .received) (b - 1) 0) (getD (H .erased) (b - 1) 0) left newLeft row
+  B = subst (λ x. BlockFilled x (getD (H .received) (b - 1) 0) (getD (H .erased) (b - 1) 0) left newLeft row) p F
+
   below : b - 1 < length (H .indices)
-  below = omega (arith, I .b-le)
+  below = one-below (I .b-le) h
 
   next : b ≡ suc (b - 1)
   next = omega arith
@@ -136,16 +126,12 @@ module _ {H : HeldBlocks} {ends old mid notes left newLeft prices newPrices even
         notes-more C (subst (λ c. NotesFrom C c mid) next (I .noted C O E)) (note-more C in-chain uses behind (B .passed)) P
 
   unrooted-here : Unrooted H (b - 1) notes
-  unrooted-here = record { at = λ c s g k e n. go c s g k e n (ℕ-discrete c (b - 1)) }
-    where
-      go : (c s : ℕ) → b - 1 ≤ c → c < length (H .indices) → s < mostStates
-          → ((u : ℕ) → u < vertexCountOf (blockPart H c) 0 → rootState (blockPart H c) u ≡ s → ⊥) → Dec (c ≡ b - 1)
-          → getD notes (costsABlock * c + s) 0 ≡ unreached
-      go c s g k e n (yes z) =
-          ap (λ x. getD notes (costsABlock * x + s) 0) z ∙ P .at s e
-          ∙ B .passed .unrooted s e
-          (subst (λ x. (u : ℕ) → u < vertexCountOf (blockPart H x) 0 → rootState (blockPart H x) u ≡ s → ⊥) z n)
-      go c s g k e n (no z) = P .kept (costsABlock * c + s) (inr (omega arith)) ∙ I .unrooted .at c s (omega arith) k e n
+  unrooted-here = record {
+    at = λ c s g k e n.
+        row-more (λ c s x. c < length (H .indices)
+        → ((u : ℕ) → u < vertexCountOf (blockPart H c) 0 → rootState (blockPart H c) u ≡ s → ⊥) → x ≡ unreached) P
+        (λ s e k n. B .passed .unrooted s e n) (λ c s g e k n. I .unrooted .at c s (omega arith) k e n) c s g e k n;
+  }
 
   pub fill-more : InFill H ends old notes newLeft newPrices newEven newOdd (b - 1)
   fill-more = record {

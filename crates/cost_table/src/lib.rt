@@ -10,7 +10,7 @@ ghost use Rattle.paths.specs.Chain.{unreached};
 ghost use Rattle.paths.specs.inner.Ranked.{labelUnit};
 ghost use Rattle.section_file.specs.inner.View.{Seen};
 ghost use Rattle.cost_table.specs.inner.Filled.{EndRow, Working, BlockFilled, heldBlocks, Ready, Filled};
-ghost use Rattle.cost_table.specs.inner.Settled.{settledCost, RowOwed, RootsSettled, RowCopied, BlockSettled, Settling, Settled};
+ghost use Rattle.cost_table.specs.inner.Settled.{settledCost, RowFits, RootsSettled, RowCopied, BlockSettled, Settling, Settled};
 use block::put_prices;
 use numbers::wide;
 use numbers::widened;
@@ -119,7 +119,7 @@ fn settled(note: u32, behind: &[u32; GOALS]) -> u32
 
 // The costs of a block's roots. At every other state the note is that of no path, which is the cost too.
 fn settle_roots(l: &[u16], at: View, behind: &[u32; GOALS], row: &mut [u32])
-    requires { ⌜ Seen (now l) at × RowOwed (now behind) (now row) ⌝ }
+    requires { ⌜ Seen (now l) at × RowFits (now behind) (now row) ⌝ }
     ensures { λ _. ⌜ RootsSettled (now (l .entry)) (now (behind .entry)) (now (row .entry)) (now (row .exit))
         (vertexCountOf (now (l .entry)) 0) ⌝ }
 {
@@ -146,7 +146,7 @@ fn copy_row(row: &[u32], place: &mut [u32; GOALS])
 
 // One block: `behind` has the costs behind it, and then before it.
 fn settle_block(l: &[u16], at: View, behind: &mut [u32; GOALS], row: &mut [u32])
-    requires { ⌜ Seen (now l) at × RowOwed (now behind) (now row) ⌝ }
+    requires { ⌜ Seen (now l) at × RowFits (now behind) (now row) ⌝ }
     ensures { λ _. ⌜ BlockSettled (now (l .entry)) (now (behind .entry)) (now (row .entry)) (now (row .exit)) (now (behind .exit)) ⌝ }
 {
     settle_roots(l, at, behind, row);

@@ -25,6 +25,17 @@ use Rattle.passes.specs.inner.Blocks.{Costs, BlockPassed}
 use Rattle.passes.specs.inner.Chains.{Chain, leastFrom, pathFrom, LeftAt, NoteAt, NotesFrom, CostsFrom, Written, RowWritten}
 use Rattle.passes.specs.inner.Chains.{Followed, FollowedTo}
 
+-- a table filled from its last row on, one row more: `P c s x` is what is asked of the number x at state s of row c
+pub row-more : (P : ℕ → ℕ → ℕ → Type 0) {b : ℕ} {row old new : List ℕ} → RowWritten (costsABlock * b) row old new
+    → ((s : ℕ) → s < mostStates → P b s (getD row s 0))
+    → ((c s : ℕ) → suc b ≤ c → s < mostStates → P c s (getD old (costsABlock * c + s) 0))
+    → (c s : ℕ) → b ≤ c → s < mostStates → P c s (getD new (costsABlock * c + s) 0)
+row-more P {b} {row} {old} {new} R here behind c s g e = go (ℕ-discrete c b)
+  where
+    go : Dec (c ≡ b) → P c s (getD new (costsABlock * c + s) 0)
+    go (yes z) = subst (λ x. P x s (getD new (costsABlock * x + s) 0)) (sym z) (subst (P b s) (sym (R .at s e)) (here s e))
+    go (no z) = subst (P c s) (sym (R .kept (costsABlock * c + s) (inr (omega arith)))) (behind c s (omega arith) e)
+
 -- ---- backward
 
 module _ (C : Chain) where
@@ -94,24 +105,19 @@ module _ (C : Chain) where
         pathTo : ℕ → ℕ → List Word
         pathTo j s = chainTrace (C .words) (C .ends) (C .price) unreached j b s
 
-  -- the notes, a row more
+  -- the notes and the costs, a row more
   pub notes-more : {b : ℕ} {row old new : List ℕ} → NotesFrom C (suc b) old → ((s : ℕ) → s < mostStates → NoteAt C b s (getD row s 0))
       → RowWritten (costsABlock * b) row old new → NotesFrom C b new
-  notes-more {b} {row} {old} {new} F K R = record { at = λ c s g h e. go c s g h e (ℕ-discrete c b) }
-    where
-      go : (c s : ℕ) → b ≤ c → c < C .blocks → s < mostStates → Dec (c ≡ b) → NoteAt C c s (getD new (costsABlock * c + s) 0)
-      go c s g h e (yes z) =
-          subst (λ x. NoteAt C x s (getD new (costsABlock * x + s) 0)) (sym z) (subst (NoteAt C b s) (sym (R .at s e)) (K s e))
-      go c s g h e (no z) = subst (NoteAt C c s) (sym (R .kept (costsABlock * c + s) (inr (omega arith)))) (F .at c s (omega arith) h e)
+  notes-more {b} F K R = record {
+    at = λ c s g h e. row-more (λ c s x. c < C .blocks → NoteAt C c s x) R (λ s e h. K s e) (λ c s g e h. F .at c s g h e) c s g e h;
+  }
 
-  -- the cost table, a row more
   pub costs-more : {b : ℕ} {row old new : List ℕ} → CostsFrom C (suc b) old → LeftAt C b row → RowWritten (costsABlock * b) row old new
       → CostsFrom C b new
-  costs-more {b} {row} {old} {new} F L R = record { at = λ c s g h e. go c s g h e (ℕ-discrete c b) }
-    where
-      go : (c s : ℕ) → b ≤ c → c < C .blocks → s < mostStates → Dec (c ≡ b) → getD new (costsABlock * c + s) 0 ≡ leastFrom C c s
-      go c s g h e (yes z) = subst (λ x. getD new (costsABlock * x + s) 0 ≡ leastFrom C x s) (sym z) (R .at s e ∙ L .at s e)
-      go c s g h e (no z) = R .kept (costsABlock * c + s) (inr (omega arith)) ∙ F .at c s (omega arith) h e
+  costs-more {b} F L R = record {
+    at = λ c s g h e.
+        row-more (λ c s x. c < C .blocks → x ≡ leastFrom C c s) R (λ s e h. L .at s e) (λ c s g e h. F .at c s g h e) c s g e h;
+  }
 
 -- ---- forward
 
@@ -232,7 +238,6 @@ follow-start F = record {
 pub record Here (notes labels goals : List ℕ) (b s note : ℕ) : Type 0 where
   pub s-lt : s < mostStates
   pub place-lt : costsABlock * b + s < length notes
-  pub goal-lt : noteGoal note < mostStates
   pub labels-lt : b < length labels
   pub goals-lt : b < length goals
   pub few : b < 256
@@ -246,7 +251,6 @@ module _ {blocks start : ℕ} {notes labels newLabels goals newGoals : List ℕ}
       record {
         s-lt = W .state;
         place-lt = omega (arith, F .long, W .state);
-        goal-lt = O .goal-lt;
         labels-lt = omega (arith, I .labelsLong, F .labelsLong);
         goals-lt = omega (arith, I .goalsLong, F .goalsLong);
         few = omega (arith, F .few);

@@ -1,6 +1,6 @@
 -- The two ends of a block. The row of depth n takes what is left to pay in the states of the goals; what the row of depth 0 has goes to the
 -- states of the roots, which ascend, so that none is written twice.
-use mathlib.Core.Path.{_≡_, refl, sym, ap, subst, _∙_}
+use mathlib.Core.Path.{_≡_, sym, ap, subst, _∙_}
 use mathlib.Core.List.{List}
 use Prim.Native.Nat.{ℕ, _+_, _-_, _*_, _/_, _%_, _≤_, _<_}
 use native.Mathlib.Nat.{not-suc-le-zero}
@@ -16,9 +16,10 @@ use Rattle.paths.specs.inner.Ranked.{distanceUnit, topRank, ranked, rankedLeft,
 use Rattle.section_file.specs.inner.View.{Seen}
 use Rattle.section_file.specs.declared.View.{View}
 use Rattle.section_file.proofs.Seen.{States, roots-at, goals-at, header}
+use Rattle.sweep.specs.inner.Loops.{Cleared}
 use Rattle.sweep.specs.inner.Rows.{side}
 use Rattle.sweep.proofs.Sweeping.{side-even, side-odd}
-use Rattle.passes.specs.inner.Loops.{GoalsRanked, RowCleared, RootsPut}
+use Rattle.passes.specs.inner.Loops.{GoalsRanked, RootsPut}
 
 -- ---- one rank
 
@@ -71,18 +72,6 @@ goals-end S I h =
 
 -- ---- the states of the roots
 
-pub clear-start : {row : List ℕ} → length row ≡ mostStates → RowCleared row 0
-clear-start h = record { long = h; at = λ u k. absurd (not-suc-le-zero k) }
-
-pub clear-more : {row : List ℕ} {s : ℕ} → RowCleared row s → s < mostStates → RowCleared (set row s unreached) (s + 1)
-clear-more {row} {s} I h = record {
-  long = simp length-set (I .long);
-  at = put-more (λ u x. x ≡ unreached) row s unreached (omega (arith, I .long)) refl (I .at);
-}
-
-pub clear-end : {row : List ℕ} {s : ℕ} → RowCleared row s → mostStates ≤ s → RowCleared row mostStates
-clear-end I h = record { long = I .long; at = λ u k. I .at u (omega arith) }
-
 -- root v is in state s: no other root is, and what is written there stands for this root alone
 module _ {l : List ℕ} {at : View} {v s : ℕ} (S : Seen l at) (h : v < at .goals - at .roots) (p : s ≡ getD l (at .roots + v) 0) where
   A : States l (at .roots) (at .goals) (vertexCountOf l 0) (rootState l)
@@ -92,7 +81,7 @@ module _ {l : List ℕ} {at : View} {v s : ℕ} (S : Seen l at) (h : v < at .goa
   root-is = p ∙ A .at v
 
   pub root-lt : s < mostStates
-  root-lt = let k = A .small v (omega (arith, A .count-is)) in omega (arith, root-is)
+  root-lt = state-read A h p .s-lt
 
   pub root-alone : (u : ℕ) → u < v → rootState l u ≡ s → ⊥
   root-alone u k z = let m = S .sound .rootsAscend u v k (omega (arith, A .count-is)) in omega (arith, root-is)
@@ -112,7 +101,8 @@ module _ {l : List ℕ} {at : View} {v s : ℕ} (S : Seen l at) (h : v < at .goa
   pub root-else : (row : List ℕ) (x t : ℕ) → ((u : ℕ) → u < v + 1 → rootState l u ≡ t → ⊥) → getD (set row s x) t 0 ≡ getD row t 0
   root-else row x t k = getD-set-other row s t x 0 (λ z. k v (omega arith) (sym root-is ∙ sym z))
 
-pub roots-start : {l row notes : List ℕ} → RowCleared notes mostStates → RootsPut l row (replicate mostStates unreached) notes 0
+pub roots-start : {l row notes : List ℕ} → Cleared mostStates unreached notes mostStates
+    → RootsPut l row (replicate mostStates unreached) notes 0
 roots-start I = record {
   long = length-replicate {A = ℕ} mostStates unreached;
   notesLong = I .long;
@@ -135,12 +125,14 @@ roots-more {l} {row} {left} {notes} {at} {v} {s} {rank} {cost} {note} S I h p r 
       (root-else S h p left cost t e ∙ before .0, root-else S h p notes note t e ∙ before .1);
 }
 
+-- behind the last root
+pub roots-all : {l : List ℕ} {at : View} {v : ℕ} → Seen l at → at .goals - at .roots ≤ v → v ≤ at .goals - at .roots
+    → v ≡ vertexCountOf l 0
+roots-all S h k = let c = roots-at S .count-is in omega arith
+
 pub roots-end : {l row left notes : List ℕ} {at : View} {v : ℕ} → Seen l at → RootsPut l row left notes v → at .goals - at .roots ≤ v
     → v ≤ at .goals - at .roots → RootsPut l row left notes (vertexCountOf l 0)
-roots-end {l} {row} {left} {notes} {v = v} S I h k =
-    let c = roots-at S .count-is in
-    let e : v ≡ vertexCountOf l 0 = omega arith in
-    subst (RootsPut l row left notes) e I
+roots-end {l} {row} {left} {notes} S I h k = subst (RootsPut l row left notes) (roots-all S h k) I
 
 -- ---- the array of depth n's parity
 

@@ -7,12 +7,14 @@ ghost use Prim.Native.Nat.{_/_, _%_, _<_, _≤_};
 ghost use lib.ListN.{length};
 ghost use Rattle.trellis.specs.Bounds.{mostStates, mostWords};
 ghost use Rattle.trellis.specs.Layout.{nOf, vertexCountOf};
+ghost use Rattle.paths.specs.Chain.{unreached};
 ghost use Rattle.paths.specs.inner.Ranked.{labelUnit, distanceUnit, topRank, rankedLeft, noteUnit, noteGoal, PriceRoom};
 ghost use Rattle.section_file.specs.inner.View.{Seen};
+ghost use Rattle.sweep.specs.inner.Loops.{Cleared};
 ghost use Rattle.sweep.specs.inner.Rows.{side};
 ghost use Rattle.passes.specs.inner.Blocks.{BlockPassed};
 ghost use Rattle.passes.specs.inner.Chains.{Followed, FollowedTo};
-ghost use Rattle.passes.specs.inner.Loops.{GoalsRanked, RowCleared, RootsAsked, RootsPut};
+ghost use Rattle.passes.specs.inner.Loops.{GoalsRanked, RootsAsked, RootsPut};
 use numbers::wide;
 use numbers::widened;
 use paths::DISTANCE_UNIT;
@@ -87,7 +89,7 @@ fn note_of(rank: u64) -> u32
 // No path is noted in any state.
 fn clear_row(notes: &mut [u32])
     requires { ⌜ length (now notes) ≡ mostStates ⌝ }
-    ensures { λ _. ⌜ RowCleared (now (notes .exit)) mostStates ⌝ }
+    ensures { λ _. ⌜ Cleared mostStates unreached (now (notes .exit)) mostStates ⌝ }
 {
     let mut s: usize = 0;
     while s < COSTS_A_BLOCK {

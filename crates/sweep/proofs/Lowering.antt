@@ -17,23 +17,23 @@ use Rattle.trellis.specs.Own.{Edge}
 use Rattle.trellis.specs.Section.{leaving}
 use Rattle.trellis.proofs.Buffers.{put-more}
 use Rattle.paths.specs.inner.Costs.{minAll}
-use Rattle.paths.specs.inner.Ranked.{topRank}
 use Rattle.section_file.specs.inner.Answer.{edgeIn, heldEdge}
 use Rattle.section_file.specs.declared.Edge as code
 use Rattle.sweep.specs.inner.Loops.{Cleared, StepAsked, through, Lowered}
 
 -- ---- cleared
 
-pub clear-start : {row : List ℕ} → length row ≡ mostWords → Cleared row 0
+pub clear-start : {width value : ℕ} {row : List ℕ} → length row ≡ width → Cleared width value row 0
 clear-start h = record { long = h; at = λ u l. absurd (not-suc-le-zero l) }
 
-pub clear-more : {row : List ℕ} {v : ℕ} → Cleared row v → v < mostWords → Cleared (set row v topRank) (v + 1)
-clear-more {row} {v} I h = record {
+pub clear-more : {width value : ℕ} {row : List ℕ} {v : ℕ} → Cleared width value row v → v < width
+    → Cleared width value (set row v value) (v + 1)
+clear-more {width} {value} {row} {v} I h = record {
   long = simp length-set (I .long);
-  at = put-more (λ u x. x ≡ topRank) row v topRank (omega (arith, I .long)) refl (I .at);
+  at = put-more (λ u x. x ≡ value) row v value (omega (arith, I .long)) refl (I .at);
 }
 
-pub clear-end : {row : List ℕ} {count v : ℕ} → Cleared row v → count ≤ v → Cleared row count
+pub clear-end : {width value : ℕ} {row : List ℕ} {count v : ℕ} → Cleared width value row v → count ≤ v → Cleared width value row count
 clear-end I h = record { long = I .long; at = λ u k. I .at u (omega arith) }
 
 -- ---- lowered

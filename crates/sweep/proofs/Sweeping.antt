@@ -168,7 +168,8 @@ min-capped top f (x ∷ xs) h =
 -- ---- the row of a depth
 
 pub depth-done : {l : List ℕ} {at : View} {t before first count : ℕ} {prices behind old mid new : List ℕ} (S : Seen l at)
-    (A : RowAsked l t before prices behind old) → first ≡ getD l (3 + t) 0 → Cleared mid first → count ≡ getD l (4 + at .n + t) 0
+    (A : RowAsked l t before prices behind old) → first ≡ getD l (3 + t) 0 → Cleared mostWords topRank mid first
+    → count ≡ getD l (4 + at .n + t) 0
     → Lowered (pairs S A) (symbols S A) count (own S A) behind mid new → RowDone l t prices behind new
 unfolding vertexCountOf edgeCountOf
 depth-done {l} {at} {t} {before} {first} {count} {prices} {behind} {mid = mid} {new} S A f C c L =

@@ -6,6 +6,7 @@ ghost use Prim.Native.Nat.{suc, _+_, _*_, _<_, _≤_, min};
 ghost use lib.ListN.{length};
 ghost use Rattle.trellis.specs.Bounds.{mostWords};
 ghost use Rattle.section_file.specs.inner.View.{Seen};
+ghost use Rattle.paths.specs.inner.Ranked.{topRank};
 ghost use Rattle.sweep.specs.inner.Rows.{SweepAsked, Swept, side};
 ghost use Rattle.sweep.specs.inner.Loops.{Cleared, StepAsked, Lowered, RowAsked, RowDone};
 use numbers::wide;
@@ -23,7 +24,7 @@ fn lesser(x: u64, y: u64) -> u64
 // No path yet from the first vertices of a depth.
 fn clear(count: usize, row: &mut [u64; MOST_WORDS])
     requires { ⌜ (count ≤ mostWords) × (length (now row) ≡ mostWords) ⌝ }
-    ensures { λ _. ⌜ Cleared (now (row .exit)) count ⌝ }
+    ensures { λ _. ⌜ Cleared mostWords topRank (now (row .exit)) count ⌝ }
 {
     let mut v: usize = 0;
     while v < count {

@@ -4,8 +4,8 @@ use borrow.Author.Needs.{needs}
 use native.Mathlib.Omega.{arith}
 use lib.ListN.{length-take, length-drop}
 use Rattle.cost_table.specs.inner.Filled.{heldBlocks}
-use Rattle.cost_table.proofs.Tables.{InFill, fill-start, fill-below, block-at, row-at, filled-part, fill-more, fill-end}
-use Rattle.cost_table.proofs.Rows.{row-back}
+use Rattle.cost_table.proofs.Tables.{InFill, fill-start, block-at, fill-more, fill-end}
+use Rattle.cost_table.proofs.Rows.{one-below, row-inside, row-back}
 use Rattle.cost_table.proofs.fill.Statement.{statement}
 use Rattle.cost_table.proofs.fill.Tie as tie
 
@@ -33,7 +33,7 @@ mul-at c =
     let turn = c .before .before in
     let head = turn .before in
     let entry = head .before .before .before .before .before .before in
-    let B = block-at (entry .pre .0) (fill-below (head .loop .inv) (turn .loop-test .taken)) (c .widened .ensures .0) in
+    let B = block-at (entry .pre .0) (one-below (head .loop .inv .b-le) (turn .loop-test .taken)) (c .widened .ensures .0) in
     omega arith
 
 array-copy-out-at : tie.Need-array-copy-out-at Inv-loop μ-loop
@@ -41,7 +41,7 @@ array-copy-out-at c =
     let turn = c .before .before in
     let head = turn .before in
     let entry = head .before .before .before .before .before .before in
-    let B = block-at (entry .pre .0) (fill-below (head .loop .inv) (turn .loop-test .taken)) (c .widened .ensures .0) in
+    let B = block-at (entry .pre .0) (one-below (head .loop .inv .b-le) (turn .loop-test .taken)) (c .widened .ensures .0) in
     omega arith
 
 mul-start : tie.Need-mul-start Inv-loop μ-loop
@@ -49,7 +49,7 @@ mul-start c =
     let turn = c .before .before .before in
     let head = turn .before in
     let entry = head .before .before .before .before .before .before in
-    let B = block-at (entry .pre .0) (fill-below (head .loop .inv) (turn .loop-test .taken)) (c .before .widened .ensures .0) in
+    let B = block-at (entry .pre .0) (one-below (head .loop .inv .b-le) (turn .loop-test .taken)) (c .before .widened .ensures .0) in
     omega arith
 
 element-copy-out-start : tie.Need-element-copy-out-start Inv-loop μ-loop
@@ -57,7 +57,7 @@ element-copy-out-start c =
     let turn = c .before .before .before in
     let head = turn .before in
     let entry = head .before .before .before .before .before .before in
-    let B = block-at (entry .pre .0) (fill-below (head .loop .inv) (turn .loop-test .taken)) (c .before .widened .ensures .0) in
+    let B = block-at (entry .pre .0) (one-below (head .loop .inv .b-le) (turn .loop-test .taken)) (c .before .widened .ensures .0) in
     omega arith
 
 mul-word : tie.Need-mul-word Inv-loop μ-loop
@@ -66,7 +66,7 @@ mul-word c =
     let turn = widened .before .before in
     let head = turn .before in
     let entry = head .before .before .before .before .before .before in
-    let B = block-at (entry .pre .0) (fill-below (head .loop .inv) (turn .loop-test .taken)) (widened .widened .ensures .0) in
+    let B = block-at (entry .pre .0) (one-below (head .loop .inv .b-le) (turn .loop-test .taken)) (widened .widened .ensures .0) in
     omega arith
 
 shared-slice-read-word : tie.Need-shared-slice-read-word Inv-loop μ-loop
@@ -75,7 +75,7 @@ shared-slice-read-word c =
     let turn = widened .before .before in
     let head = turn .before in
     let entry = head .before .before .before .before .before .before in
-    let B = block-at (entry .pre .0) (fill-below (head .loop .inv) (turn .loop-test .taken)) (widened .widened .ensures .0) in
+    let B = block-at (entry .pre .0) (one-below (head .loop .inv .b-le) (turn .loop-test .taken)) (widened .widened .ensures .0) in
     omega (arith, head .loop .inv .b-le, entry .pre .0 .receivedLong, entry .pre .0 .erasedLong)
 
 shared-slice-read-mask : tie.Need-shared-slice-read-mask Inv-loop μ-loop
@@ -84,7 +84,7 @@ shared-slice-read-mask c =
     let turn = widened .before .before in
     let head = turn .before in
     let entry = head .before .before .before .before .before .before in
-    let B = block-at (entry .pre .0) (fill-below (head .loop .inv) (turn .loop-test .taken)) (widened .widened .ensures .0) in
+    let B = block-at (entry .pre .0) (one-below (head .loop .inv .b-le) (turn .loop-test .taken)) (widened .widened .ensures .0) in
     omega (arith, head .loop .inv .b-le, entry .pre .0 .receivedLong, entry .pre .0 .erasedLong)
 
 mul-first : tie.Need-mul-first Inv-loop μ-loop
@@ -93,7 +93,7 @@ mul-first c =
     let turn = widened .before .before in
     let head = turn .before in
     let entry = head .before .before .before .before .before .before in
-    let B = block-at (entry .pre .0) (fill-below (head .loop .inv) (turn .loop-test .taken)) (widened .widened .ensures .0) in
+    let B = block-at (entry .pre .0) (one-below (head .loop .inv .b-le) (turn .loop-test .taken)) (widened .widened .ensures .0) in
     omega arith
 
 add-next : tie.Need-add-next Inv-loop μ-loop
@@ -102,7 +102,7 @@ add-next c =
     let turn = widened .before .before in
     let head = turn .before in
     let entry = head .before .before .before .before .before .before in
-    let B = block-at (entry .pre .0) (fill-below (head .loop .inv) (turn .loop-test .taken)) (widened .widened .ensures .0) in
+    let B = block-at (entry .pre .0) (one-below (head .loop .inv .b-le) (turn .loop-test .taken)) (widened .widened .ensures .0) in
     omega arith
 
 mul-fill-block : tie.Need-mul-fill-block Inv-loop μ-loop
@@ -111,7 +111,7 @@ mul-fill-block c =
     let turn = widened .before .before in
     let head = turn .before in
     let entry = head .before .before .before .before .before .before in
-    let B = block-at (entry .pre .0) (fill-below (head .loop .inv) (turn .loop-test .taken)) (widened .widened .ensures .0) in
+    let B = block-at (entry .pre .0) (one-below (head .loop .inv .b-le) (turn .loop-test .taken)) (widened .widened .ensures .0) in
     omega arith
 
 sub-fill-block : tie.Need-sub-fill-block Inv-loop μ-loop
@@ -120,7 +120,7 @@ sub-fill-block c =
     let turn = widened .before .before in
     let head = turn .before in
     let entry = head .before .before .before .before .before .before in
-    let B = block-at (entry .pre .0) (fill-below (head .loop .inv) (turn .loop-test .taken)) (widened .widened .ensures .0) in
+    let B = block-at (entry .pre .0) (one-below (head .loop .inv .b-le) (turn .loop-test .taken)) (widened .widened .ensures .0) in
     omega arith
 
 part-fill-block-start : tie.Need-part-fill-block-start Inv-loop μ-loop
@@ -129,7 +129,7 @@ part-fill-block-start c =
     let turn = widened .before .before in
     let head = turn .before in
     let entry = head .before .before .before .before .before .before in
-    let B = block-at (entry .pre .0) (fill-below (head .loop .inv) (turn .loop-test .taken)) (widened .widened .ensures .0) in
+    let B = block-at (entry .pre .0) (one-below (head .loop .inv .b-le) (turn .loop-test .taken)) (widened .widened .ensures .0) in
     omega arith
 
 part-fill-block-end : tie.Need-part-fill-block-end Inv-loop μ-loop
@@ -141,7 +141,7 @@ mul-fill-block-2 c =
     let turn = widened .before .before in
     let head = turn .before in
     let entry = head .before .before .before .before .before .before in
-    let B = block-at (entry .pre .0) (fill-below (head .loop .inv) (turn .loop-test .taken)) (widened .widened .ensures .0) in
+    let B = block-at (entry .pre .0) (one-below (head .loop .inv .b-le) (turn .loop-test .taken)) (widened .widened .ensures .0) in
     omega arith
 
 sub-fill-block-2 : tie.Need-sub-fill-block-2 Inv-loop μ-loop
@@ -150,7 +150,7 @@ sub-fill-block-2 c =
     let turn = widened .before .before in
     let head = turn .before in
     let entry = head .before .before .before .before .before .before in
-    let B = block-at (entry .pre .0) (fill-below (head .loop .inv) (turn .loop-test .taken)) (widened .widened .ensures .0) in
+    let B = block-at (entry .pre .0) (one-below (head .loop .inv .b-le) (turn .loop-test .taken)) (widened .widened .ensures .0) in
     omega arith
 
 part-fill-block-start-2 : tie.Need-part-fill-block-start-2 Inv-loop μ-loop
@@ -158,7 +158,7 @@ part-fill-block-start-2 c =
     let turn = c .before .before .before .before .before .before .before .before in
     let head = turn .before in
     let entry = head .before .before .before .before .before .before in
-    let B = row-at (head .loop .inv) (entry .pre .2) (turn .loop-test .taken) in
+    let B = row-inside (head .loop .inv .b-le) (turn .loop-test .taken) (head .loop .inv .long) (entry .pre .2) in
     omega arith
 
 part-fill-block-end-2 : tie.Need-part-fill-block-end-2 Inv-loop μ-loop
@@ -166,7 +166,7 @@ part-fill-block-end-2 c =
     let turn = c .before .before .before .before .before .before .before .before in
     let head = turn .before in
     let entry = head .before .before .before .before .before .before in
-    let B = row-at (head .loop .inv) (entry .pre .2) (turn .loop-test .taken) in
+    let B = row-inside (head .loop .inv .b-le) (turn .loop-test .taken) (head .loop .inv .long) (entry .pre .2) in
     omega arith
 
 fill-block-requires : tie.Need-fill-block-requires Inv-loop μ-loop
@@ -174,10 +174,12 @@ fill-block-requires c κs =
     let widened = c .before .before .before .before .before .before .before .before .before .before in
     let turn = widened .before .before in
     let head = turn .before in
-    let entry = head .before .before .before .before .before .before in (
-      block-at (entry .pre .0) (fill-below (head .loop .inv) (turn .loop-test .taken)) (widened .widened .ensures .0) .seen,
-      simp (length-take, length-drop) (omega (arith, row-at (head .loop .inv) (entry .pre .2) (turn .loop-test .taken))),
-      head .loop .inv .working,
+    let entry = head .before .before .before .before .before .before in
+    let I = head .loop .inv in
+    let h = turn .loop-test .taken in (
+      block-at (entry .pre .0) (one-below (I .b-le) h) (widened .widened .ensures .0) .seen,
+      simp (length-take, length-drop) (omega (arith, row-inside (I .b-le) h (I .long) (entry .pre .2))),
+      I .working,
     )
 
 loop-less : tie.Need-loop-less Inv-loop μ-loop
@@ -192,10 +194,12 @@ loop-again c =
     let turn = widened .before .before in
     let head = turn .before in
     let entry = head .before .before .before .before .before .before in
+    let I = head .loop .inv in
+    let h = turn .loop-test .taken in
     let E = fill-block .fill-block .ensures in
-    fill-more (head .loop .inv) (turn .loop-test .taken) (filled-part (block-at (entry .pre .0)
-    (fill-below (head .loop .inv) (turn .loop-test .taken)) (widened .widened .ensures .0)) (E .0)) (E .1)
-    (row-back (E .0 .passed .notesLong) (row-at (head .loop .inv) (entry .pre .2) (turn .loop-test .taken)))
+    let A = block-at (entry .pre .0) (one-below (I .b-le) h) (widened .widened .ensures .0) in
+    fill-more I h (A .part-is) (E .0) (E .1)
+    (row-back (E .0 .passed .notesLong) (row-inside (I .b-le) h (I .long) (entry .pre .2)))
 
 same-length : tie.Need-same-length Inv-loop μ-loop
 same-length c = c .before .loop .inv .long

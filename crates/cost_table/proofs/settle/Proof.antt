@@ -4,10 +4,9 @@ use borrow.Author.Needs.{needs}
 use mathlib.Core.Path.{refl}
 use native.Mathlib.Omega.{arith}
 use lib.ListN.{length}
-use Rattle.cost_table.proofs.Rows.{row-back}
+use Rattle.cost_table.proofs.Rows.{one-below, row-inside, row-back}
 use Rattle.cost_table.proofs.Tables.{block-at}
-use Rattle.cost_table.proofs.Settling.{InSettle, settle-start, last-is, settle-below, row-in, row-owed, settled-part, settle-more}
-use Rattle.cost_table.proofs.Settling.{settle-end}
+use Rattle.cost_table.proofs.Settling.{InSettle, settle-start, last-is, row-fits, settle-more, settle-end}
 use Rattle.cost_table.proofs.settle.Statement.{statement}
 use Rattle.cost_table.proofs.settle.Tie as tie
 
@@ -40,7 +39,7 @@ mul-at c =
     let turn = c .before .before in
     let head = turn .before in
     let entry = head .before .before .before .before .before .before .before in
-    let B = block-at (entry .pre .ready) (settle-below (head .loop .inv) (turn .loop-test .taken)) (c .widened .ensures .0) in
+    let B = block-at (entry .pre .ready) (one-below (head .loop .inv .b-le) (turn .loop-test .taken)) (c .widened .ensures .0) in
     omega arith
 
 array-copy-out-at : tie.Need-array-copy-out-at Inv-loop μ-loop
@@ -48,7 +47,7 @@ array-copy-out-at c =
     let turn = c .before .before in
     let head = turn .before in
     let entry = head .before .before .before .before .before .before .before in
-    let B = block-at (entry .pre .ready) (settle-below (head .loop .inv) (turn .loop-test .taken)) (c .widened .ensures .0) in
+    let B = block-at (entry .pre .ready) (one-below (head .loop .inv .b-le) (turn .loop-test .taken)) (c .widened .ensures .0) in
     omega arith
 
 mul-start : tie.Need-mul-start Inv-loop μ-loop
@@ -57,7 +56,7 @@ mul-start c =
     let turn = widened .before .before in
     let head = turn .before in
     let entry = head .before .before .before .before .before .before .before in
-    let B = block-at (entry .pre .ready) (settle-below (head .loop .inv) (turn .loop-test .taken)) (widened .widened .ensures .0) in
+    let B = block-at (entry .pre .ready) (one-below (head .loop .inv .b-le) (turn .loop-test .taken)) (widened .widened .ensures .0) in
     omega arith
 
 element-copy-out-start : tie.Need-element-copy-out-start Inv-loop μ-loop
@@ -66,7 +65,7 @@ element-copy-out-start c =
     let turn = widened .before .before in
     let head = turn .before in
     let entry = head .before .before .before .before .before .before .before in
-    let B = block-at (entry .pre .ready) (settle-below (head .loop .inv) (turn .loop-test .taken)) (widened .widened .ensures .0) in
+    let B = block-at (entry .pre .ready) (one-below (head .loop .inv .b-le) (turn .loop-test .taken)) (widened .widened .ensures .0) in
     omega arith
 
 mul-row : tie.Need-mul-row Inv-loop μ-loop
@@ -75,7 +74,7 @@ mul-row c =
     let turn = widened .before .before in
     let head = turn .before in
     let entry = head .before .before .before .before .before .before .before in
-    let B = block-at (entry .pre .ready) (settle-below (head .loop .inv) (turn .loop-test .taken)) (widened .widened .ensures .0) in
+    let B = block-at (entry .pre .ready) (one-below (head .loop .inv .b-le) (turn .loop-test .taken)) (widened .widened .ensures .0) in
     omega arith
 
 add-next : tie.Need-add-next Inv-loop μ-loop
@@ -84,7 +83,7 @@ add-next c =
     let turn = widened .before .before in
     let head = turn .before in
     let entry = head .before .before .before .before .before .before .before in
-    let B = block-at (entry .pre .ready) (settle-below (head .loop .inv) (turn .loop-test .taken)) (widened .widened .ensures .0) in
+    let B = block-at (entry .pre .ready) (one-below (head .loop .inv .b-le) (turn .loop-test .taken)) (widened .widened .ensures .0) in
     omega arith
 
 mul-settle-block : tie.Need-mul-settle-block Inv-loop μ-loop
@@ -93,7 +92,7 @@ mul-settle-block c =
     let turn = widened .before .before in
     let head = turn .before in
     let entry = head .before .before .before .before .before .before .before in
-    let B = block-at (entry .pre .ready) (settle-below (head .loop .inv) (turn .loop-test .taken)) (widened .widened .ensures .0) in
+    let B = block-at (entry .pre .ready) (one-below (head .loop .inv .b-le) (turn .loop-test .taken)) (widened .widened .ensures .0) in
     omega arith
 
 sub-settle-block : tie.Need-sub-settle-block Inv-loop μ-loop
@@ -102,7 +101,7 @@ sub-settle-block c =
     let turn = widened .before .before in
     let head = turn .before in
     let entry = head .before .before .before .before .before .before .before in
-    let B = block-at (entry .pre .ready) (settle-below (head .loop .inv) (turn .loop-test .taken)) (widened .widened .ensures .0) in
+    let B = block-at (entry .pre .ready) (one-below (head .loop .inv .b-le) (turn .loop-test .taken)) (widened .widened .ensures .0) in
     omega arith
 
 part-settle-block-start : tie.Need-part-settle-block-start Inv-loop μ-loop
@@ -111,7 +110,7 @@ part-settle-block-start c =
     let turn = widened .before .before in
     let head = turn .before in
     let entry = head .before .before .before .before .before .before .before in
-    let B = block-at (entry .pre .ready) (settle-below (head .loop .inv) (turn .loop-test .taken)) (widened .widened .ensures .0) in
+    let B = block-at (entry .pre .ready) (one-below (head .loop .inv .b-le) (turn .loop-test .taken)) (widened .widened .ensures .0) in
     omega arith
 
 part-settle-block-end : tie.Need-part-settle-block-end Inv-loop μ-loop
@@ -123,7 +122,7 @@ mul-settle-block-2 c =
     let turn = widened .before .before in
     let head = turn .before in
     let entry = head .before .before .before .before .before .before .before in
-    let B = block-at (entry .pre .ready) (settle-below (head .loop .inv) (turn .loop-test .taken)) (widened .widened .ensures .0) in
+    let B = block-at (entry .pre .ready) (one-below (head .loop .inv .b-le) (turn .loop-test .taken)) (widened .widened .ensures .0) in
     omega arith
 
 sub-settle-block-2 : tie.Need-sub-settle-block-2 Inv-loop μ-loop
@@ -132,7 +131,7 @@ sub-settle-block-2 c =
     let turn = widened .before .before in
     let head = turn .before in
     let entry = head .before .before .before .before .before .before .before in
-    let B = block-at (entry .pre .ready) (settle-below (head .loop .inv) (turn .loop-test .taken)) (widened .widened .ensures .0) in
+    let B = block-at (entry .pre .ready) (one-below (head .loop .inv .b-le) (turn .loop-test .taken)) (widened .widened .ensures .0) in
     omega arith
 
 part-settle-block-start-2 : tie.Need-part-settle-block-start-2 Inv-loop μ-loop
@@ -140,7 +139,7 @@ part-settle-block-start-2 c =
     let turn = c .before .before .before .before .before .before in
     let head = turn .before in
     let entry = head .before .before .before .before .before .before .before in
-    let R = row-in (head .loop .inv) (turn .loop-test .taken) (entry .pre .long) in
+    let R = row-inside (head .loop .inv .b-le) (turn .loop-test .taken) (head .loop .inv .long) (entry .pre .long) in
     omega arith
 
 part-settle-block-end-2 : tie.Need-part-settle-block-end-2 Inv-loop μ-loop
@@ -148,7 +147,7 @@ part-settle-block-end-2 c =
     let turn = c .before .before .before .before .before .before in
     let head = turn .before in
     let entry = head .before .before .before .before .before .before .before in
-    let R = row-in (head .loop .inv) (turn .loop-test .taken) (entry .pre .long) in
+    let R = row-inside (head .loop .inv .b-le) (turn .loop-test .taken) (head .loop .inv .long) (entry .pre .long) in
     omega arith
 
 settle-block-requires : tie.Need-settle-block-requires Inv-loop μ-loop
@@ -158,8 +157,8 @@ settle-block-requires c κs =
     let head = turn .before in
     let entry = head .before .before .before .before .before .before .before in
     let S = entry .pre in (
-      block-at (S .ready) (settle-below (head .loop .inv) (turn .loop-test .taken)) (widened .widened .ensures .0) .seen,
-      row-owed (head .loop .inv) (turn .loop-test .taken) (S .long) (S .chain) (S .blocksIs) (S .cheap)
+      block-at (S .ready) (one-below (head .loop .inv .b-le) (turn .loop-test .taken)) (widened .widened .ensures .0) .seen,
+      row-fits (head .loop .inv) (turn .loop-test .taken) (S .long) (S .chain) (S .blocksIs) (S .cheap)
           (last-is (S .blocksIs) (S .endsAs) (head .before .copy-row .ensures)) (S .noted),
     )
 
@@ -176,10 +175,12 @@ loop-again c =
     let head = turn .before in
     let entry = head .before .before .before .before .before .before .before in
     let S = entry .pre in
+    let I = head .loop .inv in
+    let h = turn .loop-test .taken in
     let E = settle-block .settle-block .ensures in
-    let A = block-at (S .ready) (settle-below (head .loop .inv) (turn .loop-test .taken)) (widened .widened .ensures .0) in
-    settle-more (head .loop .inv) (turn .loop-test .taken) (S .long) refl (S .unrooted) (settled-part A E)
-    (row-back (E .settled .long) (row-in (head .loop .inv) (turn .loop-test .taken) (S .long)))
+    let A = block-at (S .ready) (one-below (I .b-le) h) (widened .widened .ensures .0) in
+    settle-more I h (S .long) refl (S .unrooted) (A .part-is) E
+    (row-back (E .settled .long) (row-inside (I .b-le) h (I .long) (S .long)))
 
 same-length : tie.Need-same-length Inv-loop μ-loop
 same-length c = c .before .loop .inv .long

@@ -24,7 +24,7 @@ settledCost behind note =
     getD behind (noteGoal note) 0 + (note / distanceUnit + noteCycle - getD behind (noteGoal note) 0 % noteCycle) % noteCycle
 
 -- a row of notes whose costs fit
-pub record RowOwed (behind row : List ℕ) : Type 0 where
+pub record RowFits (behind row : List ℕ) : Type 0 where
   pub behindLong : length behind ≡ labelUnit
   pub long : length row ≡ mostStates
   pub small : (s : ℕ) → s < mostStates → settledCost behind (getD row s 0) ≤ unreached

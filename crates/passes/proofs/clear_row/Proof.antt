@@ -4,13 +4,14 @@ use borrow.Author.Needs.{needs}
 use mathlib.Core.Path.{sym, _∙_}
 use Prim.Native.Nat.{_-_}
 use Rattle.trellis.specs.Bounds.{mostStates}
-use Rattle.passes.specs.inner.Loops.{RowCleared}
-use Rattle.passes.proofs.Ends.{clear-start, clear-more, clear-end}
+use Rattle.paths.specs.Chain.{unreached}
+use Rattle.sweep.specs.inner.Loops.{Cleared}
+use Rattle.sweep.proofs.Lowering.{clear-start, clear-more, clear-end}
 use Rattle.passes.proofs.clear_row.Statement.{statement}
 use Rattle.passes.proofs.clear_row.Tie as tie
 
 abbrev Inv-loop : tie.InvT-loop
-Inv-loop notes₀ s₀ notes s = RowCleared notes s
+Inv-loop notes₀ s₀ notes s = Cleared mostStates unreached notes s
 
 abbrev μ-loop : tie.MeasureT-loop
 μ-loop notes₀ s₀ notes s = mostStates - s

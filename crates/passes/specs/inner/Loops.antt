@@ -14,11 +14,6 @@ pub record GoalsRanked (l left row : List ℕ) (g : ℕ) : Type 0 where
   pub at : (h : ℕ) → h < g → getD row h 0 ≡ rankedLeft (getD left (goalState l h) 0) (goalState l h)
   pub small : (h : ℕ) → h < g → getD row h 0 ≤ topRank
 
--- the first s places of a row have the note of no path
-pub record RowCleared (row : List ℕ) (s : ℕ) : Type 0 where
-  pub long : length row ≡ mostStates
-  pub at : (u : ℕ) → u < s → getD row u 0 ≡ unreached
-
 -- ranks of the roots that are not above the top, and a note for each state
 pub record RootsAsked (l row notes : List ℕ) : Type 0 where
   pub long : length notes ≡ mostStates

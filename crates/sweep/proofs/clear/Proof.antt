@@ -2,13 +2,15 @@
 -- left.
 use borrow.Author.Needs.{needs}
 use Prim.Native.Nat.{_-_}
+use Rattle.trellis.specs.Bounds.{mostWords}
+use Rattle.paths.specs.inner.Ranked.{topRank}
 use Rattle.sweep.specs.inner.Loops.{Cleared}
 use Rattle.sweep.proofs.Lowering.{clear-start, clear-more, clear-end}
 use Rattle.sweep.proofs.clear.Statement.{statement}
 use Rattle.sweep.proofs.clear.Tie as tie
 
 abbrev Inv-loop : tie.InvT-loop
-Inv-loop count row₀ v₀ row v = Cleared row v
+Inv-loop count row₀ v₀ row v = Cleared mostWords topRank row v
 
 abbrev μ-loop : tie.MeasureT-loop
 μ-loop count row₀ v₀ row v = count - v

@@ -14,10 +14,10 @@ use Rattle.paths.specs.inner.Ranked.{topRank, PriceRoom}
 use Rattle.section_file.specs.inner.Answer.{edgeIn}
 use Rattle.sweep.specs.inner.Rows.{Priced, LeastRow}
 
--- the first v places have no path
-pub record Cleared (row : List ℕ) (v : ℕ) : Type 0 where
-  pub long : length row ≡ mostWords
-  pub at : (u : ℕ) → u < v → getD row u 0 ≡ topRank
+-- the first v places of a row of this width have this value
+pub record Cleared (width value : ℕ) (row : List ℕ) (v : ℕ) : Type 0 where
+  pub long : length row ≡ width
+  pub at : (u : ℕ) → u < v → getD row u 0 ≡ value
 
 -- the edges are there, lead from places to places of the rows by symbols that have prices, and no sum wraps
 pub record StepAsked (pairs symbols : List ℕ) (count : ℕ) (prices behind row : List ℕ) : Type 0 where
