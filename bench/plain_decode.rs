@@ -40,7 +40,7 @@ impl Heard {
     /// What each symbol of a step adds: its cost, and below it its place in the label.
     fn prices(self, n: usize, t: usize) -> [u64; 4] {
         [0, 1, 2, 3].map(|symbol| {
-            let cost = (self.is_erased(n, t) || self.symbol(n, t) != symbol) as u64;
+            let cost = (!self.is_erased(n, t) && self.symbol(n, t) != symbol) as u64;
             cost << WORD_BITS | (symbol as u64) << (2 * (n - 1 - t) + GOAL_BITS)
         })
     }

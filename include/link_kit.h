@@ -1,6 +1,6 @@
 /* The link kit for C and C++ on x86-64: link with liblink_kit.a, which `rt staticlib link_kit` writes. Table files, sections, frames and outcomes are
- * those of document 01, the customer's paper on tables, sections and outcomes; docs/FORMATS.md says all of them, with a worked table. The outcome
- * numbers are the LINK_ constants below.
+ * those of document 01, the customer's paper on tables, sections and outcomes, with what the requests of document 02 changed; docs/FORMATS.md says all
+ * of them, with a worked table. The outcome numbers are the LINK_ constants below.
  *
  * Each call returns an outcome number and puts the numbers returned with it into `values` in order, 0 in the places not used; one over 4,294,967,295
  * is stored as 4,294,967,295. Calls end for all contents of their arguments, keep nothing between them, and use no heap.
@@ -71,7 +71,8 @@ uint32_t link_read_back(const uint16_t *section, size_t section_len, uint8_t *fi
 
 /* Finds the first path of least distance through a chain of blocks over k sections, which stand one behind another in `sections`. Block b goes
  * through section indices[b]; received[b] is its received label and erased[b] its erasure mask of n bits, the first symbol highest; an erased
- * symbol has digit 0 in the label. Success returns the distance, and writes the labels and goals of the path and the cost table (64 places a block).
+ * symbol has digit 0 in the label and costs nothing, any other costs 1 where it differs. Success returns the distance, and writes the labels and goals
+ * of the path and the cost table (64 places a block).
  * Outcomes 0, 8, 9, 10 (cost table, labels, goals) and 11, checked in this order. */
 uint32_t link_decode(const uint16_t *sections, size_t sections_len, size_t k, const uint8_t *indices, size_t blocks,
                      const uint16_t *received, size_t received_len, const uint8_t *erased, size_t erased_len, uint8_t start, uint8_t end,

@@ -1,6 +1,7 @@
 //! The link kit for Rust: tables merged into trellis sections, sections read back, chains of blocks decoded, sizes listed. Safe calls of `liblink_kit.a`,
-//! whose every answer and every place of every buffer is proved to be what document 01 says, the customer's paper on tables, sections and outcomes.
-//! Formats and outcomes are in `docs/FORMATS.md`, with a worked table. Nothing here allocates or keeps anything between calls.
+//! whose every answer and every place of every buffer is proved to be what document 01 says, the customer's paper on tables, sections and outcomes, with
+//! what the requests of document 02 changed. Formats and outcomes are in `docs/FORMATS.md`, with a worked table. Nothing here allocates or keeps anything
+//! between calls.
 //!
 //! ```
 //! use link_kit::{ANY_SECTION, Decoded, Frame, Merged, Room};
@@ -53,7 +54,8 @@ pub struct Frame<'a> {
     pub indices: &'a [u8],
     /// The received label of each block.
     pub received: &'a [u16],
-    /// The erasure mask of each block: n bits, the first symbol highest. An erased symbol has digit 0 in the received label.
+    /// The erasure mask of each block: n bits, the first symbol highest. An erased symbol has digit 0 in the received label and costs nothing; any
+    /// other symbol costs 1 where it differs.
     pub erased: &'a [u8],
     /// The state before the first block.
     pub start: u8,
@@ -118,6 +120,20 @@ pub fn read_back(section: &[u16], file: &mut [u8]) -> ReadBack {
 /// let room = Room { costs: &mut costs, labels: &mut labels, goals: &mut goals };
 /// assert_eq!(link_kit::decode(&frame, room), Decoded::NoPath);
 /// assert_eq!((costs, labels, goals), ([NO_COST; 64], [9], [9]));
+/// ```
+///
+/// An erased symbol costs nothing, whatever the path has there:
+///
+/// ```
+/// use link_kit::{Decoded, Frame, Room};
+/// let section = [2, 1, 1, 1, 1, 1, 0, 0, 0, 0, 1]; // from state 0 to state 0 by the symbol 1
+/// for (mask, distance) in [(0, 1), (1, 0)] {
+///     let frame = Frame { sections: &section, k: 1, indices: &[0], received: &[0], erased: &[mask], start: 0, end: 0 };
+///     let (mut costs, mut labels, mut goals) = ([9; 64], [9; 1], [9; 1]);
+///     let room = Room { costs: &mut costs, labels: &mut labels, goals: &mut goals };
+///     assert_eq!(link_kit::decode(&frame, room), Decoded::Distance(distance));
+///     assert_eq!((costs[0], labels, goals), (distance as u32, [1], [0]));
+/// }
 /// ```
 pub fn decode(frame: &Frame, room: Room) -> Decoded {
     let mut values = [0; 4];

@@ -1,5 +1,6 @@
 //! Decodes many small chains with the compiled `link_decode` and compares the answer and every place of the three buffers with a plain listing of all
-//! paths, written from document 01 alone; then long chains, the bounds on blocks, sections and states, large distances, and marked cases 7 and 8.
+//! paths, written from documents 01 and 02 alone; then long chains, the bounds on blocks, sections and states, large distances, chains with most
+//! symbols erased, and marked cases 7 and 8.
 
 #[path = "../common/mod.rs"]
 mod common;
@@ -174,7 +175,36 @@ fn far_chains(differing: &mut Differing, numbers: &mut Numbers) {
     tally.report("distances up to 2,048");
 }
 
-/// Marked cases 7 and 8, with their answers as document 01 has them.
+/// Chains with most symbols erased. If an erased symbol cost 1, as document 01 had it, or 3, the winning path would have the same words, and its
+/// distance would be greater by that for each erased symbol.
+fn bursts(differing: &mut Differing, numbers: &mut Numbers) {
+    let (mut tally, mut erased) = (Tally::default(), 0);
+    for i in 0..4_000 {
+        let blocks = if i % 40 == 0 { 256 } else { 5 };
+        let most_paths = if blocks == 5 { 2000 } else { usize::MAX };
+        let k = numbers.from_to(1, 3);
+        let mut frame = frames::chain(k, blocks, most_paths, numbers);
+        frames::erase_most(&mut frame, numbers);
+        let lengths = frames::lengths_for(frame.indices.len(), numbers);
+        tally.compare(differing, &frame, lengths, blocks == 5);
+        let symbols: u32 = frame.erased.iter().map(|mask| mask.count_ones()).sum();
+        let best_by = |erasure| {
+            let blocks = decoding::blocks_by(erasure, &frame, &frames::buffers(lengths)).expect("no fault");
+            decoding::by_words(&blocks, frame.start, frame.end).best
+        };
+        for erasure in [1, 3] {
+            let dearer = best_by(0).map(|(distance, words)| (distance + erasure * symbols, words));
+            differing.compare(&dearer, &best_by(erasure), || {
+                format!("erasures at {erasure}: {frame:?}")
+            });
+        }
+        erased += symbols;
+    }
+    tally.report("bursts of erasures");
+    println!("{erased} symbols erased; at 1 or 3 for each the winning path is the same");
+}
+
+/// Marked cases 7 and 8, with their answers as documents 01 and 02 have them.
 fn marked_cases(differing: &mut Differing) {
     let table = Table {
         q: 2,
@@ -182,13 +212,15 @@ fn marked_cases(differing: &mut Differing) {
         states: 1,
         words: vec![(0, 0, 0), (0, 5, 0)],
     };
-    for (received, erased, labels) in [(vec![1, 5], vec![0, 0], vec![0, 5]), (vec![0], vec![1], vec![0])] {
+    for (received, erased, distance, labels) in
+        [(vec![1, 5], vec![0, 0], 1, vec![0, 5]), (vec![0], vec![1], 0, vec![0])]
+    {
         let mut frame = copies(&table, 1, labels.len(), 0);
         (frame.received, frame.erased, frame.start) = (received, erased, 0);
         let mut got = Buffers::new(64 * labels.len(), labels.len(), labels.len());
         let answer = archive::decode(&frame, &mut got);
         let goals = vec![0; labels.len()];
-        let wanted = (Answer::new(0, &[1]), labels, goals, 1);
+        let wanted = (Answer::new(0, &[distance]), labels, goals, distance as u32);
         let given = (answer, got.labels, got.goals, got.costs[0]);
         differing.compare(&wanted, &given, || format!("a marked case: {frame:?}"));
         Tally::default().compare(differing, &frame, [64 * wanted.1.len() + 5, 4, 5], true);
@@ -204,6 +236,7 @@ fn main() {
     large_sections(&mut differing, &mut numbers);
     bounds(&mut differing);
     far_chains(&mut differing, &mut numbers);
+    bursts(&mut differing, &mut numbers);
     marked_cases(&mut differing);
     differing.finish();
 }

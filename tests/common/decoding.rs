@@ -1,5 +1,6 @@
-//! Decoding as document 01 says it: the checks in order, then every path of the chain listed and measured. A second way, over the words of one block
-//! after another, serves chains whose paths are too many to list; on small chains it is held to the first.
+//! Decoding as document 01 says it, but that an erased symbol costs 0 (document 02, request 1): the checks in order, then every path of the chain listed
+//! and measured. A second way, over the words of one block after another, serves chains whose paths are too many to list; on small chains it is held to
+//! the first.
 
 use super::archive::{Answer, Buffers, Frame};
 use super::sections::{Section, usable};
@@ -24,13 +25,17 @@ fn erased(mask: u8, n: u8, t: u8) -> bool {
     mask >> (n - 1 - t) & 1 == 1
 }
 
-/// An erased symbol costs 1; another one costs 1 where it differs.
-fn distance(label: u16, received: u16, mask: u8, n: u8) -> u32 {
+/// An erased symbol costs `erasure`; another one costs 1 where it differs.
+fn distance(label: u16, received: u16, mask: u8, n: u8, erasure: u32) -> u32 {
     let pairs = symbols(label, n).into_iter().zip(symbols(received, n));
-    let costs = (0..n)
-        .zip(pairs)
-        .map(|(t, (sent, got))| erased(mask, n, t) || sent != got);
-    costs.filter(|&cost| cost).count() as u32
+    let cost = |(t, (sent, got))| {
+        if erased(mask, n, t) {
+            erasure
+        } else {
+            (sent != got) as u32
+        }
+    };
+    (0..n).zip(pairs).map(cost).sum()
 }
 
 /// Whether a label or a mask does not fit a section of q and n.
@@ -59,8 +64,8 @@ fn sections_of(frame: &Frame) -> Result<Vec<Section>, Answer> {
     }
 }
 
-/// The blocks' words with their distances, or refusal 8, 9 or 10.
-fn blocks_of(frame: &Frame, buffers: &Buffers) -> Result<Vec<Block>, Answer> {
+/// The blocks' words with their distances if an erased symbol costs `erasure`, or refusal 8, 9 or 10.
+pub fn blocks_by(erasure: u32, frame: &Frame, buffers: &Buffers) -> Result<Vec<Block>, Answer> {
     let sections = sections_of(frame)?;
     let count = frame.indices.len();
     let lengths_equal = frame.received.len() == count && frame.erased.len() == count;
@@ -87,7 +92,7 @@ fn blocks_of(frame: &Frame, buffers: &Buffers) -> Result<Vec<Block>, Answer> {
         let measured = |&w: &Word| {
             (
                 w,
-                distance(w.1, frame.received[b], frame.erased[b], sections[i].n as u8),
+                distance(w.1, frame.received[b], frame.erased[b], sections[i].n as u8, erasure),
             )
         };
         words[i].iter().map(measured).collect()
@@ -182,7 +187,7 @@ fn write(found: &Found, buffers: &mut Buffers) -> Answer {
 
 /// What decoding leaves in the buffers, its answer, and after every check is passed the blocks and what was found in them.
 pub fn decode(frame: &Frame, buffers: &mut Buffers) -> (Answer, Option<(Vec<Block>, Found)>) {
-    match blocks_of(frame, buffers) {
+    match blocks_by(0, frame, buffers) {
         Ok(blocks) => {
             let found = by_words(&blocks, frame.start, frame.end);
             (write(&found, buffers), Some((blocks, found)))

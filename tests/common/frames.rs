@@ -113,6 +113,24 @@ pub fn over(tables: &[Table], ends: [u8; 2], blocks: usize, most_paths: usize, n
     frame
 }
 
+/// Erases three of four symbols of a chain without faults, and in every third block all.
+pub fn erase_most(frame: &mut Frame, numbers: &mut Numbers) {
+    let (mut rest, mut symbols) = (&frame.sections[..], Vec::new());
+    while let Some((section, length)) = Section::read(rest) {
+        symbols.push(section.n);
+        rest = &rest[length..];
+    }
+    for b in 0..frame.indices.len() {
+        let all = numbers.one_in(3);
+        for place in 0..symbols[frame.indices[b] as usize] {
+            if all || !numbers.one_in(4) {
+                frame.erased[b] |= 1 << place;
+                frame.received[b] &= !(3 << (2 * place));
+            }
+        }
+    }
+}
+
 /// Replaces an element of a list, if it has any.
 fn put<T>(list: &mut [T], value: T, numbers: &mut Numbers) {
     if !list.is_empty() {

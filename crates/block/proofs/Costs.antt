@@ -13,7 +13,7 @@ use Rattle.trellis.specs.Bounds.{mostSymbols}
 use Rattle.trellis.specs.Lists.{one-if, sum}
 use Rattle.trellis.specs.Label.{symbol}
 use Rattle.paths.specs.inner.Ranked.{labelUnit, distanceUnit, topRank, ranked, rankedCost, PriceRoom}
-use Rattle.block.specs.Received.{erasedAt, costOver, symbolCost, blockDistance}
+use Rattle.block.specs.Received.{erasedAt, erasureCost, costOver, symbolCostBy, distanceBy, symbolCost, blockDistance}
 use Rattle.block.specs.inner.Prices.{Prices}
 
 -- what the symbols from t on add is there, and the next one's weight is known
@@ -95,12 +95,12 @@ price-is n t cost a weight e =
 pub prices-more : {n received mask t r weight c₀ c₁ c₂ c₃ w x y z : ℕ} {prices : List ℕ} {erased : Bool} → n ≤ mostSymbols
     → InPrices n received mask prices weight t → 0 < t
     → erased ≡ erasedAt n (t - 1) mask → r ≡ symbol n (t - 1) received
-    → c₀ ≡ costOver erased r 0 → (w ≡ c₀ * distanceUnit + 0 * weight) × (w ≤ topRank)
-    → c₁ ≡ costOver erased r 1 → (x ≡ c₁ * distanceUnit + 1 * weight) × (x ≤ topRank)
-    → c₂ ≡ costOver erased r 2 → (y ≡ c₂ * distanceUnit + 2 * weight) × (y ≤ topRank)
-    → c₃ ≡ costOver erased r 3 → (z ≡ c₃ * distanceUnit + 3 * weight) × (z ≤ topRank)
+    → c₀ ≡ costOver erasureCost erased r 0 → (w ≡ c₀ * distanceUnit + 0 * weight) × (w ≤ topRank)
+    → c₁ ≡ costOver erasureCost erased r 1 → (x ≡ c₁ * distanceUnit + 1 * weight) × (x ≤ topRank)
+    → c₂ ≡ costOver erasureCost erased r 2 → (y ≡ c₂ * distanceUnit + 2 * weight) × (y ≤ topRank)
+    → c₃ ≡ costOver erasureCost erased r 3 → (z ≡ c₃ * distanceUnit + 3 * weight) × (z ≤ topRank)
     → InPrices n received mask (four prices (4 * (t - 1)) w x y z) (weight * 4) (t - 1)
-unfolding symbolCost rankedCost
+unfolding symbolCostBy rankedCost
 prices-more {n} {received} {mask} {t} {r} {weight} {w = w} {x} {y} {z} {prices} {erased} few I h p q c₀-is a c₁-is b c₂-is c c₃-is d =
     record {
       t-le = omega (arith, I .t-le);
@@ -129,11 +129,11 @@ prices-more {n} {received} {mask} {t} {r} {weight} {w = w} {x} {y} {z} {prices} 
     heavy : weight ≡ 4 ^ (n - suc (t - 1)) * labelUnit
     heavy = let e : n - t ≡ n - suc (t - 1) = omega arith in I .weightIs ∙ ap (λ k. 4 ^ k * labelUnit) e
 
-    is : (s : ℕ) {k : ℕ} → k ≡ costOver erased r s → k * distanceUnit + s * weight ≡ rankedCost n (symbolCost n received mask) (t - 1) s
+    is : (s : ℕ) {k : ℕ} → k ≡ costOver erasureCost erased r s → k * distanceUnit + s * weight ≡ rankedCost n (symbolCost n received mask) (t - 1) s
     is s {k} k-is =
         price-is n (t - 1) k s weight heavy
         ∙ ap (λ k. ranked k (s * 4 ^ (n - suc (t - 1))) 0)
-        (k-is ∙ ap (λ e. costOver e r s) p ∙ ap (λ k. costOver (erasedAt n (t - 1) mask) k s) q)
+        (k-is ∙ ap (λ e. costOver erasureCost e r s) p ∙ ap (λ k. costOver erasureCost (erasedAt n (t - 1) mask) k s) q)
 
     here : (s : ℕ) → s < 4
         → getD (four prices (4 * (t - 1)) w x y z) (4 * (t - 1) + s) 0 ≡ rankedCost n (symbolCost n received mask) (t - 1) s
@@ -164,10 +164,10 @@ symbol-least symbol weight h k = let m : symbol * weight ≤ 3 * distanceUnit = 
 -- ---- the distance of a label: each symbol costs 1 at most
 
 pub block-at-most : (n received mask label : ℕ) → blockDistance n received mask label ≤ n
-unfolding blockDistance symbolCost sum
+unfolding distanceBy symbolCostBy sum
 block-at-most n received mask label = each n 0
   where
-    one : (b : Bool) (r a : ℕ) → costOver b r a ≤ 1
+    one : (b : Bool) (r a : ℕ) → costOver erasureCost b r a ≤ 1
     one true r a = omega arith
     one false r a = go (eqb a r)
       where
@@ -175,6 +175,6 @@ block-at-most n received mask label = each n 0
         go true = omega arith
         go false = omega arith
 
-    each : (k t : ℕ) → sum (λ u. costOver (erasedAt n u mask) (symbol n u received) (symbol n u label)) t k ≤ k
+    each : (k t : ℕ) → sum (λ u. costOver erasureCost (erasedAt n u mask) (symbol n u received) (symbol n u label)) t k ≤ k
     each zero t = omega arith
     each (suc k) t = let h = each k (suc t) in let l = one (erasedAt n t mask) (symbol n t received) (symbol n t label) in omega arith

@@ -1,3 +1,4 @@
 -- Laws of a block's symbols, lowest first.
 pub mod Masks
 pub mod Costs
+pub mod Erasures

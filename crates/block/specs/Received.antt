@@ -10,22 +10,33 @@ use Rattle.trellis.specs.Label.{symbol, isLabel}
 unfoldable pub erasedAt : ℕ → ℕ → ℕ → Bool
 erasedAt n t mask = eqb (mask / 2 ^ (n - suc t) % 2) 1
 
--- what an erased symbol costs, whatever it is
-abbrev pub erasureCost : ℕ
-erasureCost = 1
+-- how many of the n symbols are erased
+unfoldable pub erasedIn : ℕ → ℕ → ℕ
+erasedIn n mask = sum (λ t. one-if (erasedAt n t mask)) 0 n
 
--- what the symbol a costs where r was received: 1 where they differ
-abbrev pub costOver : Bool → ℕ → ℕ → ℕ
-costOver erased r a = cond erased erasureCost (one-if (not (eqb a r)))
+-- what an erased symbol costs, whatever it is: it is evidence of nothing (document 02, request 1; document 01 had 1)
+abbrev pub erasureCost : ℕ
+erasureCost = 0
+
+-- what the symbol a costs where r was received, if an erased symbol costs c: an unerased one costs 1 where they differ
+abbrev pub costOver : ℕ → Bool → ℕ → ℕ → ℕ
+costOver c erased r a = cond erased c (one-if (not (eqb a r)))
 
 module _ (n received mask : ℕ) where
-  -- the cost of the symbol a as symbol t of the block
-  unfoldable pub symbolCost : ℕ → ℕ → ℕ
-  symbolCost t a = costOver (erasedAt n t mask) (symbol n t received) a
+  -- the cost of the symbol a as symbol t of the block, if an erased symbol costs c
+  unfoldable pub symbolCostBy : ℕ → ℕ → ℕ → ℕ
+  symbolCostBy c t a = costOver c (erasedAt n t mask) (symbol n t received) a
 
-  -- the distance of a label: the cost of all its symbols
-  unfoldable pub blockDistance : ℕ → ℕ
-  blockDistance label = sum (λ t. symbolCost t (symbol n t label)) 0 n
+  -- the distance of a label, if an erased symbol costs c: the cost of all its symbols
+  unfoldable pub distanceBy : ℕ → ℕ → ℕ
+  distanceBy c label = sum (λ t. symbolCostBy c t (symbol n t label)) 0 n
+
+  abbrev pub symbolCost : ℕ → ℕ → ℕ
+  symbolCost = symbolCostBy erasureCost
+
+  -- so the distance of a label is the number of unerased symbols that differ
+  abbrev pub blockDistance : ℕ → ℕ
+  blockDistance = distanceBy erasureCost
 
   -- whether symbol t is erased and yet not 0 in the received label
   unfoldable pub stray : ℕ → Bool

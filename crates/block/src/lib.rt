@@ -4,15 +4,13 @@ ghost use Prim.Native.Nat.{_+_, _*_, _^_, _<_, _≤_};
 ghost use lib.Dec.{ltb, eqb};
 ghost use Rattle.trellis.specs.Bounds.{mostSymbols};
 ghost use Rattle.trellis.specs.Lists.{first};
-ghost use Rattle.block.specs.Received.{erasedAt, costOver, stray, fitsBlock};
+ghost use Rattle.block.specs.Received.{erasedAt, erasureCost, costOver, stray, fitsBlock};
 ghost use Rattle.paths.specs.inner.Ranked.{distanceUnit, topRank, PriceRoom};
 ghost use Rattle.block.specs.inner.Prices.{Prices};
 use paths::DISTANCE_UNIT;
 use paths::LABEL_UNIT;
 use trellis::MOST_Q;
 use trellis::MOST_SYMBOLS;
-
-const ERASURE_COST: u32 = 1;
 
 // Whether symbol t of n is erased.
 fn is_erased(mask: u8, n: usize, t: usize) -> bool
@@ -68,11 +66,12 @@ pub fn fits(q: u16, n: usize, received: u16, mask: u8) -> bool
     is_clear(received, mask, n)
 }
 
+// An erased symbol costs nothing, whatever it is.
 fn symbol_cost(erased: bool, received: u16, symbol: u16) -> u32
-    ensures { λ r. ⌜ (r ≡ costOver erased received symbol) × (r ≤ 1) ⌝ }
+    ensures { λ r. ⌜ (r ≡ costOver erasureCost erased received symbol) × (r ≤ 1) ⌝ }
 {
     if erased {
-        return ERASURE_COST;
+        return 0;
     }
     if symbol == received { 0 } else { 1 }
 }

@@ -18,10 +18,10 @@ use Rattle.read_back.specs.TableBytes.{tableBytes}
 use Rattle.read_back.specs.ReadingBack.{isSection, readingBack}
 use Rattle.paths.specs.Choice.{choose, best, paidOr}
 use Rattle.paths.specs.Chain.{rootedAt, chainPaths, pathDistance, bestPath, costTable}
-use Rattle.block.specs.Received.{erasedAt, symbolCost, blockDistance, stray, fitsBlock}
+use Rattle.block.specs.Received.{erasedAt, symbolCostBy, distanceBy, stray, fitsBlock}
 use Rattle.sections.specs.Sections.{sectionStart, sectionAt, unusable, sectionsBad, badSectionOf}
-use Rattle.chain.specs.Frame.{frameBad, blockWords, wordDistance, blockBad}
-use Rattle.chain.specs.Decoding.{neededOf, bestOf, tableOf, found, fitted, framed, decoding}
+use Rattle.chain.specs.Frame.{frameBad, blockWords, wordDistanceBy, blockBad}
+use Rattle.chain.specs.Decoding.{neededOf, bestBy, tableOf, found, fitted, framed, decoding}
 use Rattle.cases.specs.Marked.{left, shown, AllShown}
 
 pub all-shown : AllShown
@@ -32,6 +32,6 @@ unfolding run sum first isIn keep rank insert ascending lower alike symbol front
     wordOutside wordBad orderBad tableFile mapOf written merged mergedTable mergedFile merging sectionLength all any within stepEdge
     whole sizesRight edgesInside countsRight rising statesRight edgesAscend onward inward noTwinsReached noTwinsLeading usable
     tableBytes isSection readingBack choose best paidOr rootedAt chainPaths pathDistance bestPath costTable erasedAt
-    symbolCost blockDistance stray fitsBlock sectionStart sectionAt unusable sectionsBad badSectionOf frameBad blockWords wordDistance
-    blockBad neededOf bestOf tableOf found fitted framed decoding left shown flatMap
+    symbolCostBy distanceBy stray fitsBlock sectionStart sectionAt unusable sectionsBad badSectionOf frameBad blockWords wordDistanceBy
+    blockBad neededOf bestBy tableOf found fitted framed decoding left shown flatMap
 all-shown = refl

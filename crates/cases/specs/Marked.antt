@@ -141,7 +141,8 @@ twoThirdsMerged = merge twoThirds 64 114
 abbrev crossedMerged : Call
 crossedMerged = merge crossed 6 19
 
--- case 7: received 01 and 11, none erased; case 8: received 00, the second symbol erased
+-- case 7: received 01 and 11, none erased; case 8: received 00, the second symbol erased, at distance 0 since document
+-- 02's request 1
 abbrev twoBlocks : Call
 twoBlocks = decode twoWordsMerged (1 ∷ 5 ∷ []) (0 ∷ 0 ∷ [])
 
@@ -192,8 +193,9 @@ cases =
     ∷ case 7 twoBlocks wholeLabels (0 ∷ 5 ∷ [])
     ∷ case 7 twoBlocks wholeGoals (0 ∷ 0 ∷ [])
     ∷ case 7 twoBlocks wholeCosts ((1 ∷ elsewhere) ++ (0 ∷ elsewhere))
-    ∷ case 8 oneBlock answer (0 ∷ 1 ∷ [])
+    ∷ case 8 oneBlock answer (0 ∷ 0 ∷ [])
     ∷ case 8 oneBlock wholeLabels (0 ∷ [])
+    ∷ case 8 oneBlock wholeCosts (0 ∷ elsewhere)
     ∷ case 9 twoThirdsMerged answer (0 ∷ 114 ∷ [])
     ∷ case 9 twoThirdsMerged vertices (4 ∷ 8 ∷ 8 ∷ 4 ∷ [])
     ∷ case 9 twoThirdsMerged edges (8 ∷ 16 ∷ 8 ∷ [])

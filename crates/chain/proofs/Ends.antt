@@ -31,8 +31,8 @@ use Rattle.block.proofs.Costs.{block-at-most}
 use Rattle.passes.specs.inner.Chains.{Chain, leastFrom, pathFrom, NotesFrom, Written, Followed, FollowedTo}
 use Rattle.cost_table.specs.inner.Filled.{EndRow, EndsAs, HeldBlocks, heldBlocks, blockPart, viewAt, Ready, ChainOf, Filled}
 use Rattle.cost_table.specs.inner.Settled.{Cheap, Settling, Settled}
-use Rattle.chain.specs.Frame.{Frame, frame, blockCount, blockSection, blockWords, wordDistance}
-use Rattle.chain.specs.Decoding.{left, bestOf, tableOf, found, fitted}
+use Rattle.chain.specs.Frame.{Frame, frame, blockCount, blockSection, blockWords, wordDistanceBy, wordDistance}
+use Rattle.chain.specs.Decoding.{left, bestBy, tableOf, found, fitted}
 use Rattle.chain.specs.inner.Checked.{FrameChecked, Checked, Room}
 use Rattle.chain.proofs.Faults.{past-room}
 
@@ -89,7 +89,7 @@ module _ {f : Frame} {starts : List ℕ} {views : List View} (K : FrameChecked f
   }
 
   chain-of : ChainOf heldOf (chainOf f)
-  unfolding blockWords wordDistance
+  unfolding blockWords wordDistanceBy
   chain-of = record {
     blocksIs = refl;
     wordsAre = λ b h. ap sectionWords (sym (part-is b));
@@ -98,7 +98,7 @@ module _ {f : Frame} {starts : List ℕ} {views : List View} (K : FrameChecked f
 
   -- no distance is above 8
   distance-to : (b : ℕ) (w : Word) → wordDistance f b w ≤ mostSymbols
-  unfolding wordDistance
+  unfolding wordDistanceBy
   distance-to b w =
       omega (arith, block-at-most (nOf (blockSection f b)) (getD (f .received) b 0) (getD (f .erased) b 0) (w .label), sound-at b .nTo)
 
@@ -169,7 +169,7 @@ module _ {f : Frame} {starts : List ℕ} {views : List View} (K : FrameChecked f
 
     pub ends-none : getD toPay (f .start) 0 ≡ unreached → {new : List ℕ} → Settled (blockCount f) ends notes new
         → left noPath new labels goals ≡ fitted f costs labels goals
-    unfolding found bestOf
+    unfolding found bestBy
     ends-none e S =
         let z = sub-zero (blockCount f) in
         let t : costTable (blockWords f) (endsIn (f .end)) (wordDistance f) (blockCount f) 0 (f .start) ≡ unreached
@@ -229,7 +229,7 @@ module _ {f : Frame} {starts : List ℕ} {views : List View} (K : FrameChecked f
       pub ends-path : {new newLabels newGoals : List ℕ} → FollowedTo (blockCount f) (f .start) notes labels newLabels goals newGoals
           → Settled (blockCount f) ends notes new
           → left (success (getD toPay (f .start) 0)) new newLabels newGoals ≡ fitted f costs labels goals
-      unfolding found bestOf
+      unfolding found bestBy
       ends-path {new} {newLabels} {newGoals} T S =
           past-room f costs labels goals (R .none-short)
           (whole (table-over S)
@@ -248,7 +248,7 @@ module _ {f : Frame} {starts : List ℕ} {views : List View} (K : FrameChecked f
 pub any-k : (sections indices received erased : List ℕ) (start end i j : ℕ) (costs labels goals : List ℕ)
     → fitted (frame sections i indices received erased start end) costs labels goals
     ≡ fitted (frame sections j indices received erased start end) costs labels goals
-unfolding fitted found bestOf tableOf blockWords wordDistance
+unfolding fitted found bestBy tableOf blockWords wordDistanceBy
 any-k sections indices received erased start end i j costs labels goals = refl
 
 -- ---- as the code has it: the states are widened, and K is any

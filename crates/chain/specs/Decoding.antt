@@ -11,8 +11,9 @@ use Rattle.trellis.specs.Word.{Word}
 use Rattle.trellis.specs.Outcome.{Outcome, success, badSection, badBlock, shortBuffer, noPath}
 use Rattle.paths.specs.Choice.{Choice, none, some}
 use Rattle.paths.specs.Chain.{bestPath, costTable, endsIn}
+use Rattle.block.specs.Received.{erasureCost}
 use Rattle.sections.specs.Sections.{sectionsBad, badSectionOf}
-use Rattle.chain.specs.Frame.{Frame, blockCount, frameBad, blockWords, wordDistance, blockBad}
+use Rattle.chain.specs.Frame.{Frame, blockCount, frameBad, blockWords, wordDistanceBy, wordDistance, blockBad}
 use Rattle.chain.specs.declared.Decoded.{Decoded}
 use Rattle.chain.specs.declared.Decoded.the-variants.{Distance, Section, Block, Short, NoPath}
 
@@ -39,9 +40,12 @@ neededOf blocks costs labels goals =
     cond (ltb costs (costsABlock * blocks)) (costsABlock * blocks) (cond (ltb labels blocks) blocks (cond (ltb goals blocks) blocks 0))
 
 module _ (f : Frame) where
-  -- the first path of least distance from the start state to the end state
-  unfoldable pub bestOf : Choice (List Word)
-  bestOf = bestPath (blockWords f) (endsIn (f .end)) (wordDistance f) (blockCount f) 0 (f .start)
+  -- the first path of least distance from the start state to the end state, if an erased symbol costs c
+  unfoldable pub bestBy : ℕ → Choice (List Word)
+  bestBy c = bestPath (blockWords f) (endsIn (f .end)) (wordDistanceBy f c) (blockCount f) 0 (f .start)
+
+  abbrev pub bestOf : Choice (List Word)
+  bestOf = bestBy erasureCost
 
   -- block after block, for each state s the least distance from s before the block to the end state after the last block
   unfoldable pub tableOf : List ℕ

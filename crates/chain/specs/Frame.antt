@@ -9,7 +9,7 @@ use Rattle.trellis.specs.Bounds.{mostStates, mostBlocks}
 use Rattle.trellis.specs.Word.{Word}
 use Rattle.trellis.specs.Layout.{qOf, nOf, sectionWords}
 use Rattle.trellis.specs.Lists.{within}
-use Rattle.block.specs.Received.{blockDistance, fitsBlock}
+use Rattle.block.specs.Received.{erasureCost, distanceBy, fitsBlock}
 use Rattle.sections.specs.Sections.{sectionAt}
 
 pub record Frame : Type 0 where
@@ -45,8 +45,12 @@ module _ (f : Frame) where
   unfoldable pub blockWords : ℕ → List Word
   blockWords b = sectionWords (blockSection b)
 
-  unfoldable pub wordDistance : ℕ → Word → ℕ
-  wordDistance b w = blockDistance (nOf (blockSection b)) (getD (f .received) b 0) (getD (f .erased) b 0) (w .label)
+  -- the distance of a word in block b, if an erased symbol costs c
+  unfoldable pub wordDistanceBy : ℕ → ℕ → Word → ℕ
+  wordDistanceBy c b w = distanceBy (nOf (blockSection b)) (getD (f .received) b 0) (getD (f .erased) b 0) c (w .label)
+
+  abbrev pub wordDistance : ℕ → Word → ℕ
+  wordDistance = wordDistanceBy erasureCost
 
   -- the index of block b is not below K, or what was received does not fit its section: a bad digit, or a mask bit at or above 2^n
   unfoldable pub blockBad : ℕ → Bool

@@ -14,7 +14,7 @@ use Rattle.paths.specs.Chain.{unreached}
 use Rattle.paths.specs.inner.OneBlock.{wordPrice}
 use Rattle.paths.specs.inner.Ranked.{topRank, PriceRoom}
 use Rattle.section_file.specs.inner.View.{Seen}
-use Rattle.block.specs.Received.{symbolCost, blockDistance}
+use Rattle.block.specs.Received.{symbolCost, distanceBy}
 use Rattle.block.specs.inner.Prices.{Prices}
 use Rattle.passes.specs.inner.Blocks.{BlockPassed}
 use Rattle.passes.specs.inner.Chains.{Chain, LeftAt, NotesFrom, RowWritten}
@@ -107,7 +107,7 @@ module _ {H : HeldBlocks} {ends old mid notes left newLeft prices newPrices even
     in-chain = omega (arith, O .blocksIs, below)
 
     uses : Uses C (b - 1) (blockPart H (b - 1)) (B .prices)
-    unfolding blockDistance wordPrice
+    unfolding distanceBy wordPrice
     uses = record {
       cost = symbolCost (nOf (blockPart H (b - 1))) (getD (H .received) (b - 1) 0) (getD (H .erased) (b - 1) 0);
       wordsAre = O .wordsAre (b - 1) below;

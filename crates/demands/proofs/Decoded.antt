@@ -25,7 +25,7 @@ use Rattle.section_file.proofs.Words.{words-ascend}
 use Rattle.sections.specs.Sections.{sectionsBad}
 use Rattle.sections.proofs.Sections.{sections-usable}
 use Rattle.chain.specs.Frame.{Frame, blockCount, frameBad, blockSection, blockWords, wordDistance, blockBad}
-use Rattle.chain.specs.Decoding.{Decoding, neededOf, bestOf, tableOf, found, decoding}
+use Rattle.chain.specs.Decoding.{Decoding, neededOf, bestBy, bestOf, tableOf, found, decoding}
 use Rattle.chain.proofs.Checks.{FramePassed, index-good}
 use Rattle.chain.proofs.Faults.{ends-section, ends-frame, ends-block, ends-short, past-sections, past-frame, past-room}
 use Rattle.demands.specs.Decoded.{leastDistance, Tabled, NoneFound, Won, Meaning}
@@ -120,7 +120,7 @@ module _ (f : Frame) (costs labels goals : List ℕ) where
   -- ---- no path
 
   none-right : best ≡ none → NoneFound f (foundWith none)
-  unfolding found bestOf
+  unfolding found bestBy
   none-right e = record {
     none = λ p I.
         let a = none-listed words (endsIn (f .end)) dist (blockCount f) 0 (f .start) e in
@@ -145,7 +145,7 @@ module _ (f : Frame) (costs labels goals : List ℕ) where
 
   some-right : Passed → {d : ℕ} {ws : List Word} → best ≡ some d ws
       → Won f d (foundWith (some d ws))
-  unfolding found bestOf blockWords
+  unfolding found bestBy blockWords
   some-right P {d} {ws} e =
       let I = best-right words (endsIn (f .end)) dist (blockCount f) 0 (f .start) e in
       let l = I .long in

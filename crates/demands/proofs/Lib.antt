@@ -1,6 +1,7 @@
--- Why the demands are met.
+-- Why the demands are met, and why an erased symbol's cost leaves the winning path alone.
 pub mod Ends
 pub mod SameDrawing
 pub mod Demanded
 pub mod Decoded
+pub mod Erasures
 pub mod Demands

@@ -1,18 +1,20 @@
 -- What decoding a chain comes to, for all arguments: "The decoder names a path of least distance, the first such in word order, and says
--- there is none only when there is none."
+-- there is none only when there is none." And what becomes of it if an erased symbol costs something.
 use mathlib.Core.Path.{_≡_}
 use mathlib.Core.Logic.{_↔_}
 use mathlib.Core.List.{List}
 use Prim.Native.Nat.{ℕ, suc, _+_, _-_, _*_, _<_}
 use lib.ListN.{getD}
 use Rattle.trellis.specs.Bounds.{mostStates, costsABlock}
-use Rattle.trellis.specs.Lists.{_∈_}
+use Rattle.trellis.specs.Lists.{_∈_, sum}
 use Rattle.trellis.specs.Word.{Word, wordAt}
-use Rattle.trellis.specs.Layout.{sectionWords}
+use Rattle.trellis.specs.Layout.{nOf, sectionWords}
 use Rattle.trellis.specs.Outcome.{success, noPath}
+use Rattle.paths.specs.Choice.{Choice, none, some}
 use Rattle.paths.specs.Chain.{endsIn, chainPaths, pathDistance, costTable, IsChainPath, Winner}
+use Rattle.block.specs.Received.{erasedIn}
 use Rattle.chain.specs.Frame.{Frame, blockCount, blockSection, blockWords, wordDistance}
-use Rattle.chain.specs.Decoding.{Decoding}
+use Rattle.chain.specs.Decoding.{Decoding, bestBy, bestOf}
 
 module _ (f : Frame) where
   -- a path takes a word of each block's section, a word's goal is the next one's root, and it goes from the start state to the end state
@@ -60,3 +62,20 @@ module _ (f : Frame) where
     pub paths : (p : List Word) → IsFramePath p ↔ (p ∈ framePaths)
     pub none : r .answer ≡ noPath → NoneFound r
     pub best : (d : ℕ) → r .answer ≡ success d → Won d r
+
+-- ---- document 02, request 1: "The winning path is untouched, since every path paid the same."
+
+-- the same for d more
+unfoldable pub dearer : {P : Type 0} → ℕ → Choice P → Choice P
+dearer d none = none
+dearer d (some c p) = some (d + c) p
+
+module _ (f : Frame) where
+  -- how many symbols of the frame are erased
+  unfoldable pub erasures : ℕ
+  erasures = sum (λ b. erasedIn (nOf (blockSection f b)) (getD (f .erased) b 0)) 0 (blockCount f)
+
+  -- If an erased symbol costs c, the first path of least distance is the same words, or there is none as before; its distance is c times the
+  -- erased symbols more. Document 01's c is 1.
+  abbrev pub Untouched : Type 0
+  Untouched = (c : ℕ) → bestBy f c ≡ dearer (c * erasures) (bestOf f)

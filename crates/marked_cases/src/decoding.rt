@@ -46,7 +46,7 @@ fn case_7() {
     run_case(b"case 7\n", &section, b"\x00\x00", &received, b"\x00\x00");
 }
 
-// Received 00, the second symbol erased.
+// Received 00, the second symbol erased: distance 0, by document 02's request 1.
 fn case_8() {
     let mut section = [9u16; 22];
     merge_two_words(&mut section);

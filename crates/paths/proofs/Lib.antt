@@ -11,6 +11,7 @@ pub mod Packed
 pub mod Words
 pub mod Chain
 pub mod Winner
+pub mod Dearer
 pub mod Block
 pub mod Blocks
 pub mod Ranks

@@ -7,7 +7,7 @@ use mathlib.Core.List.{List, [], _∷_, _++_, map, flatMap, append-assoc, List·
 use mathlib.Core.List.{List·Memᴰ·cases-cons}
 use Prim.Native.Nat.{ℕ, zero, suc, _+_, _-_, _*_, _≤_, _<_}
 use native.Mathlib.Omega.{arith}
-use native.Mathlib.Nat.{not-suc-le-zero, add-zero, add-suc, suc-add, zero-add, le-antisymm, le-of-eq}
+use native.Mathlib.Nat.{not-suc-le-zero, add-zero, add-suc, suc-add, zero-add, mul-zero, mul-add, le-antisymm, le-of-eq}
 use native.Mathlib.Decide.{decLt}
 use lib.ListN.{length, getD, take, drop, length-append, length-drop}
 use lib.Seq.{take-all}
@@ -177,6 +177,11 @@ pub sum-add : (f g : ℕ → ℕ) (t k : ℕ) → sum (λ u. f u + g u) t k ≡ 
 unfolding sum
 sum-add f g t zero = refl
 sum-add f g t (suc k) = let h = sum-add f g (suc t) k in omega arith
+
+pub sum-mul : (c : ℕ) (f : ℕ → ℕ) (t k : ℕ) → sum (λ u. c * f u) t k ≡ c * sum f t k
+unfolding sum
+sum-mul c f t zero = sym (mul-zero c)
+sum-mul c f t (suc k) = ap (λ x. c * f t + x) (sum-mul c f (suc t) k) ∙ sym (mul-add c (f t) (sum f (suc t) k))
 
 pub sum-le : (f g : ℕ → ℕ) (t k : ℕ) → ((u : ℕ) → t ≤ u → u < t + k → f u ≤ g u) → sum f t k ≤ sum g t k
 unfolding sum
