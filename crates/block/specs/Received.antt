@@ -31,10 +31,11 @@ module _ (n received mask : ℕ) where
   unfoldable pub distanceBy : ℕ → ℕ → ℕ
   distanceBy c label = sum (λ t. symbolCostBy c t (symbol n t label)) 0 n
 
+  -- and at what an erased symbol does cost: the cost of a symbol
   abbrev pub symbolCost : ℕ → ℕ → ℕ
   symbolCost = symbolCostBy erasureCost
 
-  -- so the distance of a label is the number of unerased symbols that differ
+  -- the distance of a label, which is the number of unerased symbols that differ
   abbrev pub blockDistance : ℕ → ℕ
   blockDistance = distanceBy erasureCost
 
