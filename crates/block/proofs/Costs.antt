@@ -129,7 +129,8 @@ prices-more {n} {received} {mask} {t} {r} {weight} {w = w} {x} {y} {z} {prices} 
     heavy : weight ≡ 4 ^ (n - suc (t - 1)) * labelUnit
     heavy = let e : n - t ≡ n - suc (t - 1) = omega arith in I .weightIs ∙ ap (λ k. 4 ^ k * labelUnit) e
 
-    is : (s : ℕ) {k : ℕ} → k ≡ costOver erasureCost erased r s → k * distanceUnit + s * weight ≡ rankedCost n (symbolCost n received mask) (t - 1) s
+    is : (s : ℕ) {k : ℕ} → k ≡ costOver erasureCost erased r s
+        → k * distanceUnit + s * weight ≡ rankedCost n (symbolCost n received mask) (t - 1) s
     is s {k} k-is =
         price-is n (t - 1) k s weight heavy
         ∙ ap (λ k. ranked k (s * 4 ^ (n - suc (t - 1))) 0)

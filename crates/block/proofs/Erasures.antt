@@ -1,5 +1,5 @@
--- If an erased symbol costs c, a label's distance is c for each erased symbol and, whatever c is, 1 for each unerased one that differs: so it
--- is symbol by symbol, and sums add up. The first part is the same for every label.
+-- If an erased symbol costs c, a label's distance is c for each erased symbol and, whatever c is, 1 for each unerased one that differs: so
+-- it is symbol by symbol, and sums add up. The first part is the same for every label.
 use mathlib.Core.Path.{_≡_, ap, _∙_}
 use mathlib.Core.Bool.{Bool, true, false}
 use Prim.Native.Nat.{ℕ, _+_, _*_}

@@ -1,6 +1,6 @@
 -- The winning path is untouched by what an erased symbol costs: c for each erased symbol of a block is the same for every word of it
--- (`distance-by`), a number that all words of a block cost more leaves the first path of least distance where it was (`best-path-dearer`), and
--- over all blocks it comes to c times the frame's erased symbols.
+-- (`distance-by`), a number that all words of a block cost more leaves the first path of least distance where it was
+-- (`best-path-dearer`), and over all blocks it comes to c times the frame's erased symbols.
 use mathlib.Core.Path.{_≡_, refl, ap, _∙_}
 use Prim.Native.Nat.{ℕ, _+_, _*_}
 use lib.ListN.{getD}

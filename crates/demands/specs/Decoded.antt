@@ -75,7 +75,7 @@ module _ (f : Frame) where
   unfoldable pub erasures : ℕ
   erasures = sum (λ b. erasedIn (nOf (blockSection f b)) (getD (f .erased) b 0)) 0 (blockCount f)
 
-  -- If an erased symbol costs c, the first path of least distance is the same words, or there is none as before; its distance is c times the
-  -- erased symbols more. Document 01's c is 1.
+  -- If an erased symbol costs c, the first path of least distance is the same words, or there is none as before; its distance is c times
+  -- the erased symbols more. Document 01's c is 1.
   abbrev pub Untouched : Type 0
   Untouched = (c : ℕ) → bestBy f c ≡ dearer (c * erasures) (bestOf f)
