@@ -113,7 +113,7 @@ pub fn over(tables: &[Table], ends: [u8; 2], blocks: usize, most_paths: usize, n
     frame
 }
 
-/// Erases three of four symbols of a chain without faults, and in every third block all.
+/// Erases about three of four symbols of a chain without faults, and in about a third of its blocks all.
 pub fn erase_most(frame: &mut Frame, numbers: &mut Numbers) {
     let (mut rest, mut symbols) = (&frame.sections[..], Vec::new());
     while let Some((section, length)) = Section::read(rest) {
