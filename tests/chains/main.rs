@@ -201,7 +201,7 @@ fn bursts(differing: &mut Differing, numbers: &mut Numbers) {
         erased += symbols;
     }
     tally.report("bursts of erasures");
-    println!("{erased} symbols erased; at 1 or 3 for each the winning path is the same");
+    println!("{erased} symbols erased; the winning path compared with those at 1 and at 3 for each");
 }
 
 /// Marked cases 7 and 8, with their answers as documents 01 and 02 have them.

@@ -46,7 +46,7 @@ fn bad_block(received: u16, mask: u8, q: u16, n: u8) -> bool {
 }
 
 /// The K sections, or refusal 8.
-fn sections_of(frame: &Frame) -> Result<Vec<Section>, Answer> {
+pub fn sections_of(frame: &Frame) -> Result<Vec<Section>, Answer> {
     if !(1..=16).contains(&frame.k) {
         return Err(Answer::new(8, &[frame.k]));
     }

@@ -2,6 +2,7 @@
 
 use super::Numbers;
 use super::archive::{Buffers, Frame};
+use super::decoding::sections_of;
 use super::merging::{section_of, witness};
 use super::sections::Section;
 use super::tables::{Table, Word, drawn, scattered, symbols};
@@ -115,18 +116,13 @@ pub fn over(tables: &[Table], ends: [u8; 2], blocks: usize, most_paths: usize, n
 
 /// Erases about three of four symbols of a chain without faults, and in about a third of its blocks all.
 pub fn erase_most(frame: &mut Frame, numbers: &mut Numbers) {
-    let (mut rest, mut symbols) = (&frame.sections[..], Vec::new());
-    while let Some((section, length)) = Section::read(rest) {
-        symbols.push(section.n);
-        rest = &rest[length..];
-    }
+    let sections = sections_of(frame).expect("usable sections");
     for b in 0..frame.indices.len() {
         let all = numbers.one_in(3);
-        for place in 0..symbols[frame.indices[b] as usize] {
-            if all || !numbers.one_in(4) {
-                frame.erased[b] |= 1 << place;
-                frame.received[b] &= !(3 << (2 * place));
-            }
+        let symbols = 0..sections[frame.indices[b] as usize].n;
+        for place in symbols.filter(|_| all || !numbers.one_in(4)) {
+            frame.erased[b] |= 1 << place;
+            frame.received[b] &= !(3 << (2 * place));
         }
     }
 }

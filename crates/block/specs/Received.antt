@@ -31,11 +31,11 @@ module _ (n received mask : ℕ) where
   unfoldable pub distanceBy : ℕ → ℕ → ℕ
   distanceBy c label = sum (λ t. symbolCostBy c t (symbol n t label)) 0 n
 
-  -- and at what an erased symbol does cost: the cost of a symbol
+  -- what a symbol costs: an erased one `erasureCost`
   abbrev pub symbolCost : ℕ → ℕ → ℕ
   symbolCost = symbolCostBy erasureCost
 
-  -- the distance of a label, which is the number of unerased symbols that differ
+  -- the distance of a label: the number of unerased symbols that differ
   abbrev pub blockDistance : ℕ → ℕ
   blockDistance = distanceBy erasureCost
 

@@ -1,5 +1,6 @@
--- Document 01's marked cases, one list under one statement: what each case shows, worked out from the definitions, is what the paper says
--- it shows. Bytes and numbers are written as the paper writes them; a buffer is full of nines before the call.
+-- Document 01's marked cases, case 8 as document 02's request 1 has it, one list under one statement: what each case shows, worked out from
+-- the definitions, is what the paper says it shows. Bytes and numbers are written as the paper writes them; a buffer is full of nines
+-- before the call.
 use mathlib.Core.Path.{_≡_}
 use mathlib.Core.List.{List, [], _∷_, _++_, map, flatMap}
 use Prim.Native.Nat.{ℕ, suc, _-_, _*_}
@@ -141,8 +142,7 @@ twoThirdsMerged = merge twoThirds 64 114
 abbrev crossedMerged : Call
 crossedMerged = merge crossed 6 19
 
--- case 7: received 01 and 11, none erased; case 8: received 00, the second symbol erased, at distance 0 since document
--- 02's request 1
+-- case 7: received 01 and 11, none erased; case 8: received 00, the second symbol erased
 abbrev twoBlocks : Call
 twoBlocks = decode twoWordsMerged (1 ∷ 5 ∷ []) (0 ∷ 0 ∷ [])
 

@@ -44,7 +44,7 @@ module _ (f : Frame) where
   unfoldable pub bestBy : ℕ → Choice (List Word)
   bestBy c = bestPath (blockWords f) (endsIn (f .end)) (wordDistanceBy f c) (blockCount f) 0 (f .start)
 
-  -- and at what it does cost: the path that decoding names
+  -- the path that decoding names: an erased symbol costs nothing
   abbrev pub bestOf : Choice (List Word)
   bestOf = bestBy erasureCost
 

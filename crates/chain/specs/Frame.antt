@@ -49,7 +49,7 @@ module _ (f : Frame) where
   unfoldable pub wordDistanceBy : ℕ → ℕ → Word → ℕ
   wordDistanceBy c b w = distanceBy (nOf (blockSection b)) (getD (f .received) b 0) (getD (f .erased) b 0) c (w .label)
 
-  -- and at what it does cost
+  -- the distance of a word in block b: an erased symbol costs nothing
   abbrev pub wordDistance : ℕ → Word → ℕ
   wordDistance = wordDistanceBy erasureCost
 
