@@ -4,17 +4,17 @@
 
 use super::access::Access;
 use super::plain_section::Section;
-use link_kit::{COSTS_A_BLOCK, Decoded, Frame, NO_COST, Room};
+use link_kit::{COSTS_A_BLOCK, Decoded, Frame, MOST_STATES, NO_COST, Room};
 
-/// A number is distance·2^23 + label·2^7 + goal.
-const WORD_BITS: usize = 23;
-const GOAL_BITS: usize = 7;
+/// Below the distance a number has 16 bits for the label, and then one more than a state has for the goal.
+const GOAL_BITS: u32 = (2 * MOST_STATES).ilog2();
+const WORD_BITS: u32 = GOAL_BITS + 16;
 
 /// The number of no path: what a block adds to it stays above all others, and below 2^64. Its low 32 bits are those of a place with no cost.
-const NO_PATH: u64 = (1 << 55) - 1;
+const NO_PATH: u64 = (1 << (32 + WORD_BITS)) - 1;
 
 /// A note has the remainder of a distance by this.
-const CYCLE: u32 = 512;
+const CYCLE: u32 = 1 << (32 - WORD_BITS);
 
 /// What was received over one block.
 #[derive(Clone, Copy)]
@@ -41,7 +41,7 @@ impl Heard {
     fn prices(self, n: usize, t: usize) -> [u64; 4] {
         [0, 1, 2, 3].map(|symbol| {
             let cost = (!self.is_erased(n, t) && self.symbol(n, t) != symbol) as u64;
-            cost << WORD_BITS | (symbol as u64) << (2 * (n - 1 - t) + GOAL_BITS)
+            cost << WORD_BITS | (symbol as u64) << (2 * (n - 1 - t) as u32 + GOAL_BITS)
         })
     }
 }
@@ -118,7 +118,8 @@ fn sections_of<'a>(frame: &Frame<'a>) -> Result<[Option<Section<'a>>; 16], Decod
 fn check(frame: &Frame, room: &Room, sections: &[Option<Section>; 16]) -> Result<(), Decoded> {
     let blocks = frame.indices.len();
     let lengths = frame.received.len() == blocks && frame.erased.len() == blocks;
-    if !(1..=256).contains(&blocks) || !lengths || frame.start >= 64 || frame.end >= 64 {
+    let ends_outside = frame.start.max(frame.end) as usize >= MOST_STATES;
+    if !(1..=256).contains(&blocks) || !lengths || ends_outside {
         return Err(Decoded::Block(blocks));
     }
     for b in 0..blocks {

@@ -1,5 +1,7 @@
 //! A section's parts in plain Rust, and whether it is usable by document 01's conditions: what decoding begins with.
 
+use link_kit::MOST_STATES;
+
 const NO_VERTEX: u16 = u16::MAX;
 
 /// The parts of a section at the front of some numbers.
@@ -26,7 +28,7 @@ impl<'a> Section<'a> {
     pub fn split(numbers: &'a [u16]) -> Option<Section<'a>> {
         let sizes = numbers.get(..3)?;
         let n = sizes[1] as usize;
-        if !within(&sizes[..1], 2, 4) || !within(&sizes[1..2], 1, 8) || !within(&sizes[2..], 1, 64) {
+        if !within(&sizes[..1], 2, 4) || !within(&sizes[1..2], 1, 8) || !within(&sizes[2..], 1, MOST_STATES as u16) {
             return None;
         }
         let counts = numbers.get(3..4 + 2 * n).filter(|counts| within(counts, 1, 1024))?;

@@ -54,8 +54,7 @@ fn chain(table: &Table) -> [Frame; 2] {
 }
 
 fn room_for(frame: &Frame) -> Buffers {
-    let blocks = frame.indices.len();
-    Buffers::new(64 * blocks, blocks, blocks)
+    frames::buffers(frames::lengths_of(frame.indices.len()))
 }
 
 fn decode_jobs(frame: &Frame) -> [Job; 3] {

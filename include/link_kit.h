@@ -50,7 +50,8 @@ extern "C" {
 /* Lengths that are enough for every table. */
 #define LINK_ANY_FILE LINK_FILE_LEN(LINK_MOST_WORDS)                  /* 4,101 bytes */
 #define LINK_ANY_MAP LINK_MAP_LEN(LINK_MOST_WORDS, LINK_MOST_SYMBOLS) /* 9,216 numbers */
-#define LINK_ANY_SECTION 24724u                                       /* numbers */
+/* the sizes, all states as roots and as goals, and as many edges as words at each step: 24,724 numbers */
+#define LINK_ANY_SECTION (4u + 2u * LINK_MOST_SYMBOLS + 2u * LINK_MOST_STATES + 3u * LINK_MOST_SYMBOLS * LINK_MOST_WORDS)
 #define LINK_ANY_TEXT 1024u                                           /* bytes */
 
 /* Stack, in bytes: what a call takes of its thread's stack, with all that it calls. A program whose loader binds memcpy and memset only when they are
@@ -72,7 +73,7 @@ uint32_t link_read_back(const uint16_t *section, size_t section_len, uint8_t *fi
 /* Finds the first path of least distance through a chain of blocks over k sections, which stand one behind another in `sections`. Block b goes
  * through section indices[b]; received[b] is its received label and erased[b] its erasure mask of n bits, the first symbol highest; an erased
  * symbol has digit 0 in the label and costs nothing, any other costs 1 where it differs. Success returns the distance, and writes the labels and goals
- * of the path and the cost table (64 places a block).
+ * of the path and the cost table (LINK_COSTS_LEN(blocks) places).
  * Outcomes 0, 8, 9, 10 (cost table, labels, goals) and 11, checked in this order. */
 uint32_t link_decode(const uint16_t *sections, size_t sections_len, size_t k, const uint8_t *indices, size_t blocks,
                      const uint16_t *received, size_t received_len, const uint8_t *erased, size_t erased_len, uint8_t start, uint8_t end,

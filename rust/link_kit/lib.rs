@@ -4,7 +4,7 @@
 //! between calls.
 //!
 //! ```
-//! use link_kit::{ANY_SECTION, Decoded, Frame, Merged, Room};
+//! use link_kit::{ANY_SECTION, COSTS_A_BLOCK, Decoded, Frame, Merged, Room};
 //!
 //! // q 2, n 2, S 1 and the words 00 and 11: pairs (root, goal), then labels, low byte first.
 //! let file = [2, 2, 1, 2, 0, 0, 0, 0, 0, 0, 0, 5, 0];
@@ -13,7 +13,7 @@
 //!
 //! // Two blocks received as 01 and 11: the best path is 00, 11.
 //! let frame = Frame { sections: &section[..22], k: 1, indices: &[0, 0], received: &[1, 5], erased: &[0, 0], start: 0, end: 0 };
-//! let (mut costs, mut labels, mut goals) = ([0; 128], [0; 2], [0; 2]);
+//! let (mut costs, mut labels, mut goals) = ([0; 2 * COSTS_A_BLOCK], [0; 2], [0; 2]);
 //! let room = Room { costs: &mut costs, labels: &mut labels, goals: &mut goals };
 //! assert_eq!(link_kit::decode(&frame, room), Decoded::Distance(1));
 //! assert_eq!((labels, goals), ([0, 5], [0, 0]));
@@ -30,16 +30,18 @@ pub use answers::{Decoded, Listed, Merged, ReadBack};
 pub const ANY_FILE: usize = 5 + 4 * 1024;
 /// A map long enough for every table: 1,024 words at nine depths.
 pub const ANY_MAP: usize = 9 * 1024;
-/// A section buffer long enough for every table.
-pub const ANY_SECTION: usize = 24_724;
+/// A section buffer long enough for every table: the sizes, all states as roots and as goals, and 1,024 edges at each of eight steps.
+pub const ANY_SECTION: usize = 4 + 2 * 8 + 2 * MOST_STATES + 3 * 8 * 1024;
 /// A text buffer long enough for every listing.
 pub const ANY_TEXT: usize = 1024;
+/// The most states of a table or section. The ends of a chain are below it.
+pub const MOST_STATES: usize = 64;
 /// The most sections of a chain.
 pub const MOST_SECTIONS: usize = 16;
 /// The most blocks of a chain.
 pub const MOST_BLOCKS: usize = 256;
 /// The places of the cost table for one block, one for each state.
-pub const COSTS_A_BLOCK: usize = 64;
+pub const COSTS_A_BLOCK: usize = MOST_STATES;
 /// In the cost table: no path from here.
 pub const NO_COST: u32 = u32::MAX;
 
@@ -57,16 +59,16 @@ pub struct Frame<'a> {
     /// The erasure mask of each block: n bits, the first symbol highest. An erased symbol has digit 0 in the received label and costs nothing; any
     /// other symbol costs 1 where it differs.
     pub erased: &'a [u8],
-    /// The state before the first block.
+    /// The state before the first block, below [`MOST_STATES`].
     pub start: u8,
-    /// The state after the last block.
+    /// The state after the last block, below [`MOST_STATES`].
     pub end: u8,
 }
 
 /// What decoding writes to.
 #[derive(Debug)]
 pub struct Room<'a> {
-    /// 64·B places: at 64·b + s the least distance from state s before block b to the end, [`NO_COST`] where none.
+    /// [`COSTS_A_BLOCK`]·B places: at `COSTS_A_BLOCK`·b + s the least distance from state s before block b to the end, [`NO_COST`] where none.
     pub costs: &'a mut [u32],
     /// B places for the labels of the path.
     pub labels: &'a mut [u16],
@@ -113,23 +115,23 @@ pub fn read_back(section: &[u16], file: &mut [u8]) -> ReadBack {
 /// Finds the first path of least distance through a chain of blocks. The crate's front page has an example; here the one word goes elsewhere:
 ///
 /// ```
-/// use link_kit::{Decoded, Frame, NO_COST, Room};
+/// use link_kit::{COSTS_A_BLOCK, Decoded, Frame, NO_COST, Room};
 /// let section = [2, 1, 2, 1, 1, 1, 0, 1, 0, 0, 0]; // from state 0 to state 1 by the symbol 0
 /// let frame = Frame { sections: &section, k: 1, indices: &[0], received: &[0], erased: &[0], start: 0, end: 0 };
-/// let (mut costs, mut labels, mut goals) = ([0; 64], [9; 1], [9; 1]);
+/// let (mut costs, mut labels, mut goals) = ([0; COSTS_A_BLOCK], [9; 1], [9; 1]);
 /// let room = Room { costs: &mut costs, labels: &mut labels, goals: &mut goals };
 /// assert_eq!(link_kit::decode(&frame, room), Decoded::NoPath);
-/// assert_eq!((costs, labels, goals), ([NO_COST; 64], [9], [9]));
+/// assert_eq!((costs, labels, goals), ([NO_COST; COSTS_A_BLOCK], [9], [9]));
 /// ```
 ///
 /// An erased symbol costs nothing, whatever the path has there:
 ///
 /// ```
-/// use link_kit::{Decoded, Frame, Room};
+/// use link_kit::{COSTS_A_BLOCK, Decoded, Frame, Room};
 /// let section = [2, 1, 1, 1, 1, 1, 0, 0, 0, 0, 1]; // from state 0 to state 0 by the symbol 1
 /// for (mask, distance) in [(0, 1), (1, 0)] {
 ///     let frame = Frame { sections: &section, k: 1, indices: &[0], received: &[0], erased: &[mask], start: 0, end: 0 };
-///     let (mut costs, mut labels, mut goals) = ([9; 64], [9; 1], [9; 1]);
+///     let (mut costs, mut labels, mut goals) = ([9; COSTS_A_BLOCK], [9; 1], [9; 1]);
 ///     let room = Room { costs: &mut costs, labels: &mut labels, goals: &mut goals };
 ///     assert_eq!(link_kit::decode(&frame, room), Decoded::Distance(distance));
 ///     assert_eq!((costs[0], labels, goals), (distance as u32, [1], [0]));

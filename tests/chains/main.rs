@@ -5,13 +5,16 @@
 #[path = "../common/mod.rs"]
 mod common;
 
-use common::archive::{self, Answer, Buffers, Frame};
+use common::archive::{self, Answer, Frame};
 use common::decoding;
 use common::frames;
 use common::merging::section_of;
 use common::tables::{Table, large_tables};
-use common::{Differing, Numbers};
+use common::{Differing, MOST_STATES, Numbers};
 use std::collections::BTreeMap;
+
+/// The last state.
+const LAST: u8 = MOST_STATES as u8 - 1;
 
 #[derive(Default)]
 struct Tally {
@@ -91,19 +94,19 @@ fn large_sections(differing: &mut Differing, numbers: &mut Numbers) {
             for received in &mut frame.received {
                 *received = table.words[numbers.below(1024)].1 ^ numbers.below(2) as u16;
             }
-            tally.compare(differing, &frame, [384, 6, 6], false);
+            tally.compare(differing, &frame, frames::lengths_of(6), false);
         }
     }
     tally.report("sections of 1,024 words");
 }
 
-/// A table of one symbol between 64 states, each leading to two, for the bounds on states.
+/// A table of one symbol between as many states as there can be, each leading to two, for the bounds on states.
 fn wide_table() -> Table {
-    let words = (0..64).flat_map(|s| [(s, 0, 63 - s), (s, 1, s)]).collect();
+    let words = (0..=LAST).flat_map(|s| [(s, 0, LAST - s), (s, 1, s)]).collect();
     Table {
         q: 2,
         n: 1,
-        states: 64,
+        states: LAST + 1,
         words,
     }
 }
@@ -116,7 +119,7 @@ fn copies(table: &Table, k: usize, blocks: usize, received: u16) -> Frame {
         indices: (0..blocks).map(|b| (b % k) as u8).collect(),
         received: vec![received; blocks],
         erased: vec![0; blocks],
-        start: 63,
+        start: LAST,
         end: 0,
     }
 }
@@ -124,22 +127,24 @@ fn copies(table: &Table, k: usize, blocks: usize, received: u16) -> Frame {
 fn bounds(differing: &mut Differing) {
     let mut tally = Tally::default();
     let table = wide_table();
-    let lengths = [64 * 257 + 3, 260, 259];
+    let lengths = [MOST_STATES * 257 + 3, 260, 259];
     for (k, blocks, start, end, number, value) in [
-        (1, 256, 63, 0, 0, 1),
-        (1, 257, 63, 0, 9, 257),
-        (16, 256, 63, 63, 0, 0),
-        (17, 256, 63, 0, 8, 17),
-        (16, 3, 64, 0, 9, 3),
-        (16, 3, 0, 64, 9, 3),
-        (16, 0, 63, 0, 9, 0),
+        (1, 256, LAST, 0, 0, 1),
+        (1, 257, LAST, 0, 9, 257),
+        (16, 256, LAST, LAST, 0, 0),
+        (17, 256, LAST, 0, 8, 17),
+        (16, 3, LAST + 1, 0, 9, 3),
+        (16, 3, 0, LAST + 1, 9, 3),
+        (16, 0, LAST, 0, 9, 0),
     ] {
         let mut frame = copies(&table, k, blocks, 1);
         (frame.start, frame.end) = (start, end);
         let answer = tally.compare(differing, &frame, lengths, false);
         differing.compare(&Answer::new(number, &[value]), &answer, || "a bound".to_string());
     }
-    tally.report("256 and 257 blocks, 16 and 17 sections, states 63 and 64");
+    tally.report(&format!(
+        "256 and 257 blocks, 16 and 17 sections, states {LAST} and {MOST_STATES}"
+    ));
 }
 
 /// Long chains of 8 symbols a block, received far from their words: distances up to 2,048, and states with no path beside them, whose words differ in
@@ -149,14 +154,14 @@ fn far_chains(differing: &mut Differing, numbers: &mut Numbers) {
     let table = Table {
         q: 4,
         n: 8,
-        states: 64,
-        words: vec![(0, 0, 0), (1, 0x5555, 1), (2, 0xFFFF, 63), (63, 0xFFFF, 63)],
+        states: LAST + 1,
+        words: vec![(0, 0, 0), (1, 0x5555, 1), (2, 0xFFFF, LAST), (LAST, 0xFFFF, LAST)],
     };
     for (blocks, end) in [64, 128, 129, 256]
         .into_iter()
-        .flat_map(|b| [0, 1, 63].map(|end| (b, end)))
+        .flat_map(|b| [0, 1, LAST].map(|end| (b, end)))
     {
-        for (start, noisy) in [0, 1, 2, 63]
+        for (start, noisy) in [0, 1, 2, LAST]
             .into_iter()
             .flat_map(|s| [false, true].map(|noisy| (s, noisy)))
         {
@@ -165,7 +170,7 @@ fn far_chains(differing: &mut Differing, numbers: &mut Numbers) {
             for received in frame.received.iter_mut().filter(|_| noisy) {
                 *received = [0, 0x5555, 0xFFFF, numbers.below(0x10000) as u16][numbers.below(4)];
             }
-            let answer = tally.compare(differing, &frame, [64 * blocks, blocks, blocks], false);
+            let answer = tally.compare(differing, &frame, frames::lengths_of(blocks), false);
             if (start, end, noisy) == (1, 1, false) {
                 let wanted = Answer::new(0, &[8 * blocks]);
                 differing.compare(&wanted, &answer, || "each symbol wrong".to_string());
@@ -217,13 +222,13 @@ fn marked_cases(differing: &mut Differing) {
     {
         let mut frame = copies(&table, 1, labels.len(), 0);
         (frame.received, frame.erased, frame.start) = (received, erased, 0);
-        let mut got = Buffers::new(64 * labels.len(), labels.len(), labels.len());
+        let mut got = frames::buffers(frames::lengths_of(labels.len()));
         let answer = archive::decode(&frame, &mut got);
         let goals = vec![0; labels.len()];
         let wanted = (Answer::new(0, &[distance]), labels, goals, distance as u32);
         let given = (answer, got.labels, got.goals, got.costs[0]);
         differing.compare(&wanted, &given, || format!("a marked case: {frame:?}"));
-        Tally::default().compare(differing, &frame, [64 * wanted.1.len() + 5, 4, 5], true);
+        Tally::default().compare(differing, &frame, [MOST_STATES * wanted.1.len() + 5, 4, 5], true);
     }
     println!("marked cases 7 and 8");
 }

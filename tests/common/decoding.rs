@@ -2,6 +2,7 @@
 //! and measured. A second way, over the words of one block after another, serves chains whose paths are too many to list; on small chains it is held to
 //! the first.
 
+use super::MOST_STATES;
 use super::archive::{Answer, Buffers, Frame};
 use super::sections::{Section, usable};
 use super::tables::{Word, symbols};
@@ -69,7 +70,8 @@ pub fn blocks_by(erasure: u32, frame: &Frame, buffers: &Buffers) -> Result<Vec<B
     let sections = sections_of(frame)?;
     let count = frame.indices.len();
     let lengths_equal = frame.received.len() == count && frame.erased.len() == count;
-    if !(1..=256).contains(&count) || !lengths_equal || frame.start >= 64 || frame.end >= 64 {
+    let ends_outside = frame.start.max(frame.end) as usize >= MOST_STATES;
+    if !(1..=256).contains(&count) || !lengths_equal || ends_outside {
         return Err(Answer::new(9, &[count]));
     }
     for b in 0..count {
@@ -79,7 +81,7 @@ pub fn blocks_by(erasure: u32, frame: &Frame, buffers: &Buffers) -> Result<Vec<B
         }
     }
     let lengths = [
-        (buffers.costs.len(), 64 * count),
+        (buffers.costs.len(), MOST_STATES * count),
         (buffers.labels.len(), count),
         (buffers.goals.len(), count),
     ];
@@ -122,7 +124,7 @@ fn paths(blocks: &[Block], state: u8, end: u8) -> Vec<(u32, Vec<Word>)> {
 pub fn by_paths(blocks: &[Block], start: u8, end: u8) -> Found {
     let least = |b: usize, s: u8| paths(&blocks[b..], s, end).iter().map(|p| p.0).min().unwrap_or(NONE);
     let costs = (0..blocks.len())
-        .flat_map(|b| (0..64).map(move |s| least(b, s)))
+        .flat_map(|b| (0..MOST_STATES).map(move |s| least(b, s as u8)))
         .collect();
     let all = paths(blocks, start, end);
     let best = all.iter().min().cloned();
@@ -134,16 +136,21 @@ pub fn by_paths(blocks: &[Block], start: u8, end: u8) -> Found {
     }
 }
 
+/// The place of a state before a block in the cost table.
+fn place(block: usize, state: u8) -> usize {
+    MOST_STATES * block + state as usize
+}
+
 /// The same by words: the cost table from the last block to the first, then in each block the first word that keeps to the least distance.
 pub fn by_words(blocks: &[Block], start: u8, end: u8) -> Found {
     let count = blocks.len();
-    let mut costs = vec![NONE; 64 * (count + 1)];
-    let mut ways = vec![0usize; 64 * (count + 1)];
-    costs[64 * count + end as usize] = 0;
-    ways[64 * count + end as usize] = 1;
+    let mut costs = vec![NONE; MOST_STATES * (count + 1)];
+    let mut ways = vec![0usize; MOST_STATES * (count + 1)];
+    costs[place(count, end)] = 0;
+    ways[place(count, end)] = 1;
     for b in (0..count).rev() {
         for &(word, distance) in &blocks[b] {
-            let (here, after) = (64 * b + word.0 as usize, 64 * (b + 1) + word.2 as usize);
+            let (here, after) = (place(b, word.0), place(b + 1, word.2));
             let cost = costs[after].saturating_add(distance);
             let ways_here = if cost < costs[here] { 0 } else { ways[here] };
             if cost <= costs[here] && cost != NONE {
@@ -154,9 +161,8 @@ pub fn by_words(blocks: &[Block], start: u8, end: u8) -> Found {
     }
     let (mut state, mut words) = (start, Vec::new());
     for b in 0..count {
-        let here = costs[64 * b + state as usize];
-        let keeps =
-            |&&(w, d): &&(Word, u32)| w.0 == state && costs[64 * (b + 1) + w.2 as usize].saturating_add(d) == here;
+        let here = costs[place(b, state)];
+        let keeps = |&&(w, d): &&(Word, u32)| w.0 == state && costs[place(b + 1, w.2)].saturating_add(d) == here;
         let Some(&(word, _)) = blocks[b].iter().find(keeps).filter(|_| here != NONE) else {
             break;
         };
@@ -164,7 +170,7 @@ pub fn by_words(blocks: &[Block], start: u8, end: u8) -> Found {
         state = word.2;
     }
     let distance = costs[start as usize];
-    costs.truncate(64 * count);
+    costs.truncate(MOST_STATES * count);
     Found {
         costs,
         best: (distance != NONE).then_some((distance, words)),

@@ -1,11 +1,11 @@
 //! Chains made at random: their sections, what is received over them, and faults put into them.
 
-use super::Numbers;
 use super::archive::{Buffers, Frame};
 use super::decoding::sections_of;
 use super::merging::{section_of, witness};
 use super::sections::Section;
 use super::tables::{Table, Word, drawn, scattered, symbols};
+use super::{MOST_STATES, Numbers};
 use std::collections::BTreeSet;
 
 /// Ascending states that stand for 0, 1, 2 ..; neighbours of a chain meet only if they share them.
@@ -15,7 +15,7 @@ pub fn some_states(count: usize, numbers: &mut Numbers) -> Vec<u8> {
     }
     let mut states = BTreeSet::new();
     while states.len() < count {
-        states.insert(numbers.below(64) as u8);
+        states.insert(numbers.below(MOST_STATES) as u8);
     }
     states.into_iter().collect()
 }
@@ -25,7 +25,7 @@ pub fn move_states(table: &mut Table, states: &[u8], numbers: &mut Numbers) {
     let moved = |w: &Word| (states[w.0 as usize], w.1, states[w.2 as usize]);
     table.words = table.words.iter().map(moved).collect();
     let highest = table.words.iter().map(|w| w.0.max(w.2)).max().expect("a word");
-    table.states = numbers.from_to(highest as usize + 1, 64) as u8;
+    table.states = numbers.from_to(highest as usize + 1, MOST_STATES) as u8;
 }
 
 /// A rectangular table of at most `most` words over some states.
@@ -159,9 +159,14 @@ pub fn spoil(frame: &mut Frame, lengths: &mut [usize; 3], numbers: &mut Numbers)
     }
 }
 
+/// The lengths that the three buffers need.
+pub fn lengths_of(blocks: usize) -> [usize; 3] {
+    [MOST_STATES * blocks, blocks, blocks]
+}
+
 /// Lengths of buffers for some blocks, some places longer than needed.
 pub fn lengths_for(blocks: usize, numbers: &mut Numbers) -> [usize; 3] {
-    [64 * blocks, blocks, blocks].map(|needed| needed + numbers.below(10))
+    lengths_of(blocks).map(|needed| needed + numbers.below(10))
 }
 
 pub fn buffers(lengths: [usize; 3]) -> Buffers {

@@ -1,10 +1,10 @@
 //! Tables that are hard to refuse: families of them, each table given by a few numbers, so that a search can draw and change these and a table that
 //! was hard is kept by them.
 
-use super::Numbers;
 use super::codes::{Sum, full_linear};
 use super::shapes::{one_in, one_out};
 use super::tables::{Table, Word};
+use super::{MOST_STATES, Numbers};
 use std::collections::BTreeSet;
 
 /// What each number of a family is from and to, and the table that some numbers give.
@@ -26,7 +26,7 @@ pub const FAMILIES: [Family; 8] = [
     },
     Family {
         name: "one more",
-        bounds: &[(2, 64), (1, 511)],
+        bounds: &[(2, MOST_STATES), (1, 511)],
         table: |x| one_more(x[0], x[1]),
     },
     Family {
@@ -72,7 +72,7 @@ fn largest(words: Vec<Word>) -> Table {
     Table {
         q: 4,
         n: 8,
-        states: 64,
+        states: MOST_STATES as u8,
         words,
     }
 }
@@ -106,7 +106,7 @@ fn one_more(beginnings: usize, run: usize) -> Table {
 fn beginning(depth: usize, layout: usize, b: usize) -> Option<(u8, u16)> {
     let fronts = 1 << (2 * depth);
     let (down, front) = match (layout % 3, b) {
-        (0, _) => (b % 64, b / 64),
+        (0, _) => (b % MOST_STATES, b / MOST_STATES),
         (1, _) => (b / fronts, b % fronts),
         (_, 0) => (0, 3),
         _ => {
@@ -114,18 +114,18 @@ fn beginning(depth: usize, layout: usize, b: usize) -> Option<(u8, u16)> {
             (1 + place / (fronts / 4 * 3), place / 3 % (fronts / 4) * 4 + place % 3)
         }
     };
-    (down < 64 && front < fronts).then(|| ((63 - down) as u8, (fronts - 1 - front) as u16))
+    (down < MOST_STATES && front < fronts).then(|| ((MOST_STATES - 1 - down) as u8, (fronts - 1 - front) as u16))
 }
 
 /// The ending of a number in one of two layouts: endings differ in their goals first, or in their symbols first.
 fn ending(depth: usize, layout: usize, number: usize) -> (u16, u8) {
     let rests = 1 << (2 * (8 - depth));
     let (rest, goal) = if layout < 3 {
-        (number / 64, number)
+        (number / MOST_STATES, number)
     } else {
         (number, number / rests)
     };
-    ((rest % rests) as u16, (goal % 64) as u8)
+    ((rest % rests) as u16, (goal % MOST_STATES) as u8)
 }
 
 /// The table with these runs of endings, by their numbers, at a depth; of too many runs, or words, those at the end.

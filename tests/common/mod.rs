@@ -13,6 +13,9 @@ pub mod sections;
 pub mod shapes;
 pub mod tables;
 
+/// The bound on states of a table, of a section and of a chain's ends; the cost table has as many places a block.
+pub const MOST_STATES: usize = 64;
+
 /// A fixed sequence of numbers with no pattern (xorshift).
 pub struct Numbers(u64);
 

@@ -1,8 +1,8 @@
 //! Sections as document 01 says them, slowly: the layout, each rule of a usable section, and the words read off the paths one by one.
 
-use super::Numbers;
 use super::archive::Answer;
 use super::tables::{Table, Word};
+use super::{MOST_STATES, Numbers};
 use std::collections::{BTreeMap, BTreeSet};
 
 /// From, symbol, to: their order is the edges' order.
@@ -88,7 +88,7 @@ impl Section {
         let mut rules = vec![
             (Rule::Q, (2..=4).contains(&self.q)),
             (Rule::N, (1..=8).contains(&self.n)),
-            (Rule::States, (1..=64).contains(&self.states)),
+            (Rule::States, (1..=MOST_STATES).contains(&(self.states as usize))),
             (Rule::VertexCount, self.vertices.iter().all(|c| (1..=1024).contains(c))),
             (
                 Rule::EdgeCount,

@@ -1,8 +1,8 @@
 //! Tables of many shapes: small linear codes, products of beginnings and endings, words closed under completion, and near misses of these by one word.
 
-use super::Numbers;
 use super::codes::{Code, Sum};
 use super::tables::{Table, Word, all_words, scattered};
+use super::{MOST_STATES, Numbers};
 use std::collections::{BTreeMap, BTreeSet};
 
 /// A linear code of some small size.
@@ -21,7 +21,11 @@ pub fn linear(numbers: &mut Numbers) -> Table {
 
 /// Groups of beginnings and of endings at one depth, each beginning of a group with each ending of it. At other depths it may not be rectangular.
 pub fn product(numbers: &mut Numbers) -> Table {
-    let (q, n, states) = (numbers.from_to(2, 4), numbers.from_to(2, 8), numbers.from_to(1, 64));
+    let (q, n, states) = (
+        numbers.from_to(2, 4),
+        numbers.from_to(2, 8),
+        numbers.from_to(1, MOST_STATES),
+    );
     let depth = numbers.from_to(1, n - 1);
     let symbols =
         |count: usize, numbers: &mut Numbers| (0..count).fold(0, |label, _| 4 * label + numbers.below(q) as u16);

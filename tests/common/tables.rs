@@ -1,6 +1,6 @@
 //! Small tables: their files, and the many that the programs run over.
 
-use super::Numbers;
+use super::{MOST_STATES, Numbers};
 use std::collections::BTreeSet;
 
 /// Root, label, goal: their order is the words' order.
@@ -35,7 +35,7 @@ pub fn size_outside(file: &[u8], count: usize) -> Option<usize> {
     let sizes = [
         (file[0] as usize, 2, 4),
         (file[1] as usize, 1, 8),
-        (file[2] as usize, 1, 64),
+        (file[2] as usize, 1, MOST_STATES),
         (count, 1, 1024),
     ];
     sizes.iter().position(|&(x, least, most)| x < least || x > most)

@@ -6,8 +6,9 @@
 mod common;
 
 use common::Numbers;
-use common::archive::{self, Answer, Buffers, Frame};
+use common::archive::{self, Answer, Frame};
 use common::codes::case_9;
+use common::frames;
 use common::hard::hard;
 use common::merging::section_of;
 use common::sections::{Edge, Section, gather, spread, usable};
@@ -80,7 +81,7 @@ fn decode(numbers: Vec<u16>, blocks: usize) -> Answer {
         start: section.roots[section.roots.len() - 1] as u8,
         end: section.goals[section.goals.len() - 1] as u8,
     };
-    archive::decode(&frame, &mut Buffers::new(64 * blocks, blocks, blocks))
+    archive::decode(&frame, &mut frames::buffers(frames::lengths_of(blocks)))
 }
 
 fn main() {

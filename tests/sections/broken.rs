@@ -1,6 +1,7 @@
 //! Sections that break the rules of a usable section one at a time: each is refused with 8 and 0, and the buffer stays as it was.
 
 use super::Tally;
+use super::common::MOST_STATES;
 use super::common::archive::Answer;
 use super::common::sections::{Edge, Rule, Section, gather, spread};
 use std::collections::BTreeSet;
@@ -60,7 +61,7 @@ fn sizes_and_states() -> Vec<(Section, Vec<Rule>)> {
         (two_paths(0), vec![Rule::N]),
         (two_paths(9), vec![Rule::N]),
         (changed(|s| s.states = 0), vec![Rule::States, Rule::StateBelow]),
-        (changed(|s| s.states = 65), vec![Rule::States]),
+        (changed(|s| s.states = MOST_STATES as u16 + 1), vec![Rule::States]),
         (changed(|s| s.roots = vec![0, 4]), vec![Rule::StateBelow]),
         (changed(|s| s.goals = vec![0, 4]), vec![Rule::StateBelow]),
         (changed(|s| s.roots = vec![2, 2]), vec![Rule::StatesAscend]),

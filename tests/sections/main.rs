@@ -8,7 +8,7 @@ mod broken;
 
 use common::sections::{self, Section};
 use common::tables::{Table, large_tables, small_tables};
-use common::{Differing, Numbers, archive, merging};
+use common::{Differing, MOST_STATES, Numbers, archive, merging};
 use std::collections::BTreeMap;
 
 #[derive(Default)]
@@ -113,7 +113,7 @@ fn with_words(n: u16, roots: u16, first: u16, goals: u16) -> Section {
     Section {
         q: 4,
         n,
-        states: 64,
+        states: MOST_STATES as u16,
         vertices: [vec![roots], inner, vec![goals]].concat(),
         roots: (0..roots).collect(),
         goals: (0..goals).collect(),

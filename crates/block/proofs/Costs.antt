@@ -159,8 +159,8 @@ prices-end I h = record { room = I .room; at = λ u a k. I .at u a (omega arith)
 
 -- ---- the size of a price
 
-pub symbol-least : (symbol weight : ℕ) → symbol ≤ 3 → weight ≤ distanceUnit → symbol * weight ≤ 25165824
-symbol-least symbol weight h k = let m : symbol * weight ≤ 3 * distanceUnit = mul-le-mul h k in m
+pub symbol-least : (symbol weight : ℕ) → symbol ≤ 3 → weight ≤ distanceUnit → symbol * weight ≤ 3 * distanceUnit
+symbol-least symbol weight h k = mul-le-mul h k
 
 -- ---- the distance of a label: each symbol costs 1 at most
 

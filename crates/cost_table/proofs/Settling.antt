@@ -1,4 +1,4 @@
--- From the last block to the first the costs behind a block are known. What a word of the block adds to them is below 512, so that it is
+-- From the last block to the first the costs behind a block are known. What a word of the block adds is below `noteCycle`, so that it is
 -- the remainder of the cost, which the note has, less the remainder of the cost behind. The note of no path leads to a place behind the
 -- states that has the mark for no path, and adds nothing to it; a state that is no root has that note, which is the mark itself. Rows are
 -- settled root by root; roots ascend, so that no state is settled twice.
@@ -15,7 +15,7 @@ use Rattle.trellis.specs.Bounds.{mostStates, costsABlock}
 use Rattle.trellis.specs.Layout.{vertexCountOf, rootState}
 use Rattle.trellis.proofs.Buffers.{put-more}
 use Rattle.paths.specs.Chain.{unreached}
-use Rattle.paths.specs.inner.Ranked.{labelUnit, distanceUnit, noteCycle, noteGoal, noteWord}
+use Rattle.paths.specs.inner.Ranked.{labelUnit, distanceUnit, noteCycle, noGoal, noteGoal, noteWord}
 use Rattle.paths.proofs.Chain.{least-le}
 use Rattle.section_file.specs.inner.View.{Seen}
 use Rattle.section_file.specs.declared.View.{View}
@@ -29,7 +29,7 @@ use Rattle.cost_table.specs.inner.Settled.{CostsBehind, settledCost, Row
 
 -- ---- one note
 
--- what is added below 512 is told by the two remainders
+-- what is added below `noteCycle` is told by the two remainders
 difference : (cost added : ℕ) → added < noteCycle
     → cost + ((cost + added) % noteCycle + noteCycle - cost % noteCycle) % noteCycle ≡ cost + added
 difference cost added h = omega arith
@@ -121,7 +121,7 @@ copy-end {row} {old} {place} {s} I h k = let e : s ≡ mostStates = omega arith 
 
 -- the mark behind the states stays
 behind-copied : {row old place : List ℕ} → CostsBehind old → RowCopied row old place mostStates → CostsBehind place
-behind-copied M I = record { long = I .long; none = I .kept 127 (omega arith) ∙ M .none }
+behind-copied M I = record { long = I .long; none = I .kept noGoal (omega arith) ∙ M .none }
 
 -- ---- block by block
 
@@ -142,7 +142,7 @@ settle-start I = record {
   long = refl;
   marked = behind-copied (record {
     long = length-replicate {A = ℕ} labelUnit unreached;
-    none = getD-replicate {A = ℕ} labelUnit 127 unreached 0 (omega arith);
+    none = getD-replicate {A = ℕ} labelUnit noGoal unreached 0 (omega arith);
   }) I;
   kept = λ i k. refl;
   unsettled = λ i k. refl;

@@ -3,10 +3,11 @@ use crate::print::put_buffer;
 use crate::print::put_bytes;
 use crate::print::put_costs;
 use crate::print::put_outcome;
+use trellis::COSTS_A_BLOCK;
 
 // One section for each block, from state 0 to state 0. The buffers have a place more than two blocks take.
 fn run_case(name: &[u8], section: &[u16], indices: &[u8], received: &[u16], erased: &[u8]) {
-    let mut costs = [9u32; 129];
+    let mut costs = [9u32; 2 * COSTS_A_BLOCK + 1];
     let mut labels = [9u16; 3];
     let mut goals = [9u8; 3];
     io::write_all(1, name);
@@ -68,7 +69,7 @@ fn tie() {
 fn run_bound(name: &[u8], indices: &[u8], received: &[u16], erased: &[u8]) {
     let mut section = [9u16; 22];
     merge_two_words(&mut section);
-    let mut costs = [0u32; 16448];
+    let mut costs = [0u32; 257 * COSTS_A_BLOCK];
     let mut labels = [0u16; 257];
     let mut goals = [0u8; 257];
     io::write_all(1, name);

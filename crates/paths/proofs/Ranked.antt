@@ -1,9 +1,9 @@
--- One number for a distance and a word. Label and goal together stay below 2^23, so the number divided by it is the distance, and
+-- One number for a distance and a word. Label and goal together stay below `distanceUnit`, so the number divided by it is the distance, and
 -- a smaller distance always gives a smaller number. Symbol by symbol the costs add up to the distance, and the symbols, each at its
 -- place, to the label; what is added behind the block brings the goal. So the least number over the words of a root has the least
 -- distance; among the words of that distance it belongs to the one with the least label and goal, and as the words ascend, that is the
 -- first of them: the word that the distances name. A number below the top is some word's own, with nothing cut off, so that its note tells
--- the word and the distance's remainder; the top's note ends in 127, which is no goal.
+-- the word and the distance's remainder; the top's note ends in `noGoal`.
 use mathlib.Core.Path.{_≡_, refl, sym, ap, subst, _∙_}
 use mathlib.Core.Option.{some as just}
 use mathlib.Core.List.{List, _∷_, map, Memᴰ·of-map}

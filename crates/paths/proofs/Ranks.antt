@@ -1,6 +1,6 @@
--- Numbers that rank the members of a list: a distance f, below it a key K that stays under 2^23, and both in one number F, cut off at the
--- top. A smaller distance gives a smaller number, so the least number has the least distance; and where keys ascend, it belongs to the
--- first member of that distance. A number below the top is cut off nowhere; d is the distance with nothing cut off.
+-- Numbers that rank the members of a list: a distance f, below it a key K that stays under `distanceUnit`, and both in one number F, cut
+-- off at the top. A smaller distance gives a smaller number, so the least number has the least distance; and where keys ascend, it belongs
+-- to the first member of that distance. A number below the top is cut off nowhere; d is the distance with nothing cut off.
 use mathlib.Core.Path.{_≡_, refl, ap}
 use mathlib.Core.Bool.{Bool, true, false, cond}
 use mathlib.Core.Logic.{⊎-elim}

@@ -1,5 +1,5 @@
--- Notes turned into the costs of a cost table. The costs behind a block are known, and a block adds less than 512 to them; so the remainder
--- by 512 that a note has tells what the block adds.
+-- Notes turned into the costs of a cost table. The costs behind a block are known, and a block adds less than `noteCycle` to them; so the
+-- remainder by it that a note has tells what the block adds.
 use mathlib.Core.Path.{_≡_}
 use mathlib.Core.List.{List}
 use Prim.Native.Nat.{ℕ, _+_, _-_, _*_, _/_, _%_, _≤_, _<_}
@@ -8,15 +8,15 @@ use Rattle.trellis.specs.Bounds.{mostStates, costsABlock}
 use Rattle.trellis.specs.Word.{Word}
 use Rattle.trellis.specs.Layout.{vertexCountOf, rootState}
 use Rattle.paths.specs.Chain.{unreached}
-use Rattle.paths.specs.inner.Ranked.{labelUnit, distanceUnit, noteCycle, noteGoal}
+use Rattle.paths.specs.inner.Ranked.{labelUnit, distanceUnit, noteCycle, noGoal, noteGoal}
 use Rattle.section_file.specs.declared.View.{View}
 use Rattle.passes.specs.inner.Chains.{Chain, NotesFrom, CostsFrom}
 use Rattle.cost_table.specs.inner.Filled.{EndsAs, heldBlocks, Ready, Unrooted}
 
--- the costs behind a block, a place for each goal that a note can have. The note of no path has the goal 127, and there is no path there
+-- the costs behind a block, a place for each goal that a note can have. The note of no path has `noGoal`, and there is no path there
 pub record CostsBehind (behind : List ℕ) : Type 0 where
   pub long : length behind ≡ labelUnit
-  pub none : getD behind 127 0 ≡ unreached
+  pub none : getD behind noGoal 0 ≡ unreached
 
 -- the cost of which a note has the remainder
 unfoldable pub settledCost : List ℕ → ℕ → ℕ
@@ -35,7 +35,7 @@ pub record RootsSettled (l behind old new : List ℕ) (v : ℕ) : Type 0 where
   pub at : (u : ℕ) → u < v → getD new (rootState l u) 0 ≡ settledCost behind (getD old (rootState l u) 0)
   pub kept : (s : ℕ) → ((u : ℕ) → u < v → rootState l u ≡ s → ⊥) → getD new s 0 ≡ getD old s 0
 
--- the first s numbers of a row of 64 are copied, and the places beyond are as they were
+-- the first s numbers of a row are copied, and the places beyond are as they were
 pub record RowCopied (row old new : List ℕ) (s : ℕ) : Type 0 where
   pub long : length new ≡ labelUnit
   pub at : (u : ℕ) → u < s → getD new u 0 ≡ getD row u 0
@@ -46,7 +46,7 @@ pub record BlockSettled (l behind old new copy : List ℕ) : Type 0 where
   pub settled : RootsSettled l behind old new (vertexCountOf l 0)
   pub copied : RowCopied new behind copy mostStates
 
--- no word costs 512 or more
+-- no word costs `noteCycle` or more
 pub record Cheap (C : Chain) : Type 0 where
   pub below : (b : ℕ) → b < C .blocks → (w : Word) → C .price b w < noteCycle
 

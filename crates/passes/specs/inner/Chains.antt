@@ -56,7 +56,7 @@ module _ (C : Chain) where
     pub labelsKept : (i : ℕ) → b ≤ i → getD newLabels i 0 ≡ getD labels i 0
     pub goalsKept : (i : ℕ) → b ≤ i → getD newGoals i 0 ≡ getD goals i 0
 
--- a row of 64 numbers is written from one place on, and the other places are as they were
+-- a block's row is written from one place on, and the other places are as they were
 pub record RowWritten (first : ℕ) (row old new : List ℕ) : Type 0 where
   pub long : length new ≡ length old
   pub at : (s : ℕ) → s < costsABlock → getD new (first + s) 0 ≡ getD row s 0

@@ -11,19 +11,19 @@ use Rattle.trellis.specs.Word.{Word, word}
 use Rattle.paths.specs.Chain.{unreached}
 use Rattle.paths.specs.inner.OneBlock.{leastOver, firstOver}
 
--- the goal takes 7 bits, one more than a state has, the label the 16 above them, the distance what is above both
+-- the goal takes one bit more than a state has, the label the 16 above these, the distance what is above both
 abbrev pub labelUnit : ℕ
-labelUnit = 128
+labelUnit = 2 * mostStates
 
 abbrev pub distanceUnit : ℕ
-distanceUnit = 8388608
+distanceUnit = labelUnit * 65536
 
 unfoldable pub ranked : ℕ → ℕ → ℕ → ℕ
 ranked d label goal = d * distanceUnit + (label * labelUnit + goal)
 
--- no path: its distance is 4294967295. Numbers up to it have 55 bits, so that no sum of two of them wraps
+-- no path: its distance is 4294967295, and all bits below are set. It is small enough that no sum of two numbers up to it wraps
 abbrev pub topRank : ℕ
-topRank = 36028797018963967
+topRank = (unreached + 1) * distanceUnit - 1
 
 -- what the symbol a adds as symbol t of n: its cost, and its place in the label
 unfoldable pub rankedCost : ℕ → (ℕ → ℕ → ℕ) → ℕ → ℕ → ℕ
@@ -38,13 +38,16 @@ pub record PriceRoom (prices : List ℕ) : Type 0 where
   pub long : length prices ≡ 32
   pub small : (i : ℕ) → getD prices i 0 ≤ topRank
 
--- A note is the low 32 bits of a rank: the distance's remainder by 512, the label and the goal. The note of no path is 4294967295, as in a
--- cost table; no word has it, since its goal would be 127.
+-- A note is the low 32 bits of a rank: the distance's remainder by `noteCycle`, the label and the goal. The note of no path is 4294967295,
+-- as in a cost table; no word has it, since its goal would be `noGoal`, which is no state.
 abbrev pub noteUnit : ℕ
 noteUnit = 4294967296
 
 abbrev pub noteCycle : ℕ
-noteCycle = 512
+noteCycle = noteUnit / distanceUnit
+
+abbrev pub noGoal : ℕ
+noGoal = labelUnit - 1
 
 abbrev pub noteGoal : ℕ → ℕ
 noteGoal note = note % labelUnit
