@@ -129,8 +129,9 @@ module _ {f : Frame} {starts : List ℕ} {views : List View} (K : FrameChecked f
     noted : NotesFrom (chainOf f) 0 notes
     noted = F .noted (chainOf f) chain-of ends-as
 
-    pub settling : Settling (f .sections) starts views (f .indices) ends notes
+    pub settling : Settling (f .sections) starts (f .indices) ends notes
     settling = record {
+      views = views;
       received = f .received;
       erased = f .erased;
       ready = ready;
@@ -260,7 +261,7 @@ module _ {sections starts : List ℕ} {views : List View} {indices received eras
   E-end : EndRow end ends
   E-end = subst (λ x. EndRow x ends) q E
 
-  pub with-notes : Settling sections starts views indices ends notes
+  pub with-notes : Settling sections starts indices ends notes
   with-notes = settling (C .checks) E-end R F
 
   pub with-none : getD toPay from 0 ≡ unreached → {new : List ℕ} → Settled (length indices) ends notes new

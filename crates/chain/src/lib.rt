@@ -148,11 +148,11 @@ fn decode_with(
     );
     let distance = to_pay[from];
     if distance == NO_PATH {
-        settle(sections, starts, views, indices, ends, costs);
+        settle(sections, starts, indices, ends, costs);
         return Decoded::NoPath;
     }
     follow(indices.len(), from, costs, labels, goals);
-    settle(sections, starts, views, indices, ends, costs);
+    settle(sections, starts, indices, ends, costs);
     Decoded::Distance(distance)
 }
 

@@ -12,15 +12,16 @@ use native.Mathlib.Omega.{arith}
 use lib.ListN.{length, getD, take, drop, set, length-set, length-take, length-drop, replicate, length-replicate, getD-replicate}
 use lib.Seq.{getD-set-other, getD-take, getD-drop}
 use Rattle.trellis.specs.Bounds.{mostStates, costsABlock}
-use Rattle.trellis.specs.Layout.{vertexCountOf, rootState}
+use Rattle.trellis.specs.Layout.{vertexCountOf, rootsPlace, goalsPlace, rootState}
 use Rattle.trellis.proofs.Buffers.{put-more}
 use Rattle.paths.specs.Chain.{unreached}
 use Rattle.paths.specs.inner.Ranked.{labelUnit, distanceUnit, noteCycle, noGoal, noteGoal, noteWord}
 use Rattle.paths.proofs.Chain.{least-le}
-use Rattle.section_file.specs.inner.View.{Seen}
-use Rattle.section_file.specs.declared.View.{View}
+use Rattle.section_file.specs.inner.Sound.{Sound}
+use Rattle.section_file.specs.inner.View.{viewOf, Seen}
+use Rattle.section_file.proofs.Seen.{header, roots-at}
 use Rattle.passes.specs.inner.Chains.{Chain, leastFrom, LeftAt, NoteAt, NotesFrom, CostsFrom, RowWritten}
-use Rattle.passes.proofs.Ends.{root-is, root-lt, root-alone, root-more, root-else, roots-all}
+use Rattle.passes.proofs.Ends.{root-is, root-lt, root-alone, root-more, root-else}
 use Rattle.passes.proofs.Passing.{rootOf, RootAt, root-at}
 use Rattle.passes.proofs.Chains.{left-last, costs-more}
 use Rattle.cost_table.specs.inner.Filled.{EndsAs, HeldBlocks, blockPart, Unrooted}
@@ -78,17 +79,51 @@ module _ {C : Chain} {b s note : ℕ} {behind : List ℕ} (h : b < C .blocks) (K
 
 -- ---- one row, root by root
 
+-- a section's roots by its own counts, where its view has them
+pub record RootsRead (l : List ℕ) (roots count : ℕ) : Type 0 where
+  pub seen : Seen l (viewOf l)
+  pub roots-is : roots ≡ viewOf l .roots
+  pub count-is : count ≡ viewOf l .goals - viewOf l .roots
+  pub all : count ≡ vertexCountOf l 0
+  pub inside : roots + count ≤ length l
+  pub near : roots + count ≤ 30000
+
+pub counts-there : {l : List ℕ} → Sound l → 4 ≤ length l
+counts-there {l} s =
+    let S : Seen l (viewOf l) = record { sound = s; is = refl } in let i = header S .inside in omega arith
+
+pub roots-read : {l : List ℕ} {n count : ℕ} → Sound l → n ≡ getD l 1 0 → count ≡ getD l 3 0 → RootsRead l (4 + 2 * n) count
+unfolding viewOf rootsPlace goalsPlace vertexCountOf
+roots-read {l} {n} {count} s p q =
+    let S : Seen l (viewOf l) = record { sound = s; is = refl } in
+    let A = roots-at S in
+    let i = A .inside in
+    let r = A .near in
+    record { seen = S; roots-is = omega arith; count-is = omega arith; all = q; inside = omega arith; near = omega arith }
+
 pub roots-start : {l behind row : List ℕ} → RowFits behind row → RootsSettled l behind row row 0
 roots-start O = record { long = O .long; at = λ u h. absurd (not-suc-le-zero h); kept = λ s h. refl }
 
-module _ {l behind old row : List ℕ} {at : View} {v s : ℕ} (S : Seen l at) (I : RootsSettled l behind old row v)
-    (h : v < at .goals - at .roots) (p : s ≡ getD l (at .roots + v) 0) where
+module _ {l behind old row : List ℕ} {roots count v s : ℕ} (R : RootsRead l roots count) (I : RootsSettled l behind old row v)
+    (below : v < count) (read : s ≡ getD l (roots + v) 0) where
+  S : Seen l (viewOf l)
+  S = R .seen
+
+  h : v < viewOf l .goals - viewOf l .roots
+  h = omega (arith, R .count-is)
+
+  p : s ≡ getD l (viewOf l .roots + v) 0
+  p = read ∙ ap (λ x. getD l (x + v) 0) (R .roots-is)
+
+  pub state-lt : s < mostStates
+  state-lt = root-lt S h p
+
   -- the note of the next root is still there
   note-there : getD row s 0 ≡ getD old s 0
   note-there = I .kept s (root-alone S h p)
 
   pub still-fits : RowFits behind old → settledCost behind (getD row s 0) ≤ unreached
-  still-fits O = subst (λ x. settledCost behind x ≤ unreached) (sym note-there) (O .small s (root-lt S h p))
+  still-fits O = subst (λ x. settledCost behind x ≤ unreached) (sym note-there) (O .small s state-lt)
 
   pub roots-more : {x : ℕ} → x ≡ settledCost behind (getD row s 0) → RootsSettled l behind old (set row s x) (v + 1)
   roots-more {x} q = record {
@@ -98,9 +133,10 @@ module _ {l behind old row : List ℕ} {at : View} {v s : ℕ} (S : Seen l at) (
     kept = λ t k. root-else S h p row x t k ∙ I .kept t (λ u m. k u (omega arith));
   }
 
-pub roots-end : {l behind old row : List ℕ} {at : View} {v : ℕ} → Seen l at → RootsSettled l behind old row v → at .goals - at .roots ≤ v
-    → v ≤ at .goals - at .roots → RootsSettled l behind old row (vertexCountOf l 0)
-roots-end {l} {behind} {old} {row} S I h k = subst (RootsSettled l behind old row) (roots-all S h k) I
+pub roots-end : {l behind old row : List ℕ} {roots count v : ℕ} → RootsRead l roots count → RootsSettled l behind old row v → count ≤ v
+    → v ≤ count → RootsSettled l behind old row (vertexCountOf l 0)
+roots-end {l} {behind} {old} {row} {v = v} R I h k =
+    let e : v ≡ vertexCountOf l 0 = omega (arith, R .all) in subst (RootsSettled l behind old row) e I
 
 -- ---- copied
 

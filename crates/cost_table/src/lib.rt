@@ -8,6 +8,7 @@ ghost use Rattle.trellis.specs.Bounds.{mostStates, costsABlock};
 ghost use Rattle.trellis.specs.Layout.{vertexCountOf};
 ghost use Rattle.paths.specs.Chain.{unreached};
 ghost use Rattle.paths.specs.inner.Ranked.{labelUnit};
+ghost use Rattle.section_file.specs.inner.Sound.{Sound};
 ghost use Rattle.section_file.specs.inner.View.{Seen};
 ghost use Rattle.cost_table.specs.inner.Filled.{EndRow, Working, BlockFilled, heldBlocks, Ready, Filled};
 ghost use Rattle.cost_table.specs.inner.Settled.{settledCost, RowFits, RootsSettled, RowCopied, BlockSettled, Settling, Settled};
@@ -117,14 +118,15 @@ fn settled(note: u32, behind: &[u32; GOALS]) -> u32
     cost + (note / (DISTANCE_UNIT as u32) + NOTE_CYCLE - cost % NOTE_CYCLE) % NOTE_CYCLE
 }
 
-// The costs of a block's roots. At every other state the note is that of no path, which is the cost too.
-fn settle_roots(l: &[u16], at: View, behind: &[u32; GOALS], row: &mut [u32])
-    requires { ⌜ Seen (now l) at × RowFits (now behind) (now row) ⌝ }
+// The costs of a block's roots. At every other state the note is that of no path, which is the cost too. Where the roots stand is read off
+// the section itself, so that settling takes no views.
+fn settle_roots(l: &[u16], behind: &[u32; GOALS], row: &mut [u32])
+    requires { ⌜ Sound (now l) × RowFits (now behind) (now row) ⌝ }
     ensures { λ _. ⌜ RootsSettled (now (l .entry)) (now (behind .entry)) (now (row .entry)) (now (row .exit))
         (vertexCountOf (now (l .entry)) 0) ⌝ }
 {
-    let roots = at.roots;
-    let count = at.goals - roots;
+    let roots = 4 + 2 * wide(l[1]);
+    let count = wide(l[3]);
     let mut v: usize = 0;
     while v < count {
         let s = wide(l[roots + v]);
@@ -145,11 +147,11 @@ fn copy_row(row: &[u32], place: &mut [u32; GOALS])
 }
 
 // One block: `behind` has the costs behind it, and then before it.
-fn settle_block(l: &[u16], at: View, behind: &mut [u32; GOALS], row: &mut [u32])
-    requires { ⌜ Seen (now l) at × RowFits (now behind) (now row) ⌝ }
+fn settle_block(l: &[u16], behind: &mut [u32; GOALS], row: &mut [u32])
+    requires { ⌜ Sound (now l) × RowFits (now behind) (now row) ⌝ }
     ensures { λ _. ⌜ BlockSettled (now (l .entry)) (now (behind .entry)) (now (row .entry)) (now (row .exit)) (now (behind .exit)) ⌝ }
 {
-    settle_roots(l, at, behind, row);
+    settle_roots(l, behind, row);
     copy_row(row, behind);
 }
 
@@ -157,12 +159,11 @@ fn settle_block(l: &[u16], at: View, behind: &mut [u32; GOALS], row: &mut [u32])
 pub fn settle(
     sections: &[u16],
     starts: &[usize; MOST_SECTIONS + 1],
-    views: [View; MOST_SECTIONS],
     indices: &[u8],
     ends: [u32; COSTS_A_BLOCK],
     costs: &mut [u32],
 )
-    requires { ⌜ Settling (now sections) (now starts) views (now indices) ends (now costs) ⌝ }
+    requires { ⌜ Settling (now sections) (now starts) (now indices) ends (now costs) ⌝ }
     ensures { λ _. ⌜ Settled (length (now (indices .entry))) ends (now (costs .entry)) (now (costs .exit)) ⌝ }
 {
     let mut behind = [NO_PATH; GOALS];
@@ -171,10 +172,9 @@ pub fn settle(
     while b > 0 {
         b -= 1;
         let i = widened(indices[b]);
-        let at = views[i];
         let start = starts[i];
         let row = COSTS_A_BLOCK * b;
         let next = row + COSTS_A_BLOCK;
-        settle_block(&sections[start..], at, &mut behind, &mut costs[row..next]);
+        settle_block(&sections[start..], &mut behind, &mut costs[row..next]);
     }
 }

@@ -11,10 +11,10 @@ use Rattle.cost_table.proofs.settle.Statement.{statement}
 use Rattle.cost_table.proofs.settle.Tie as tie
 
 abbrev Inv-loop : tie.InvT-loop
-Inv-loop sections starts indices costs₀ views behind₀ b₀ costs behind b = InSettle (length indices) behind₀ costs₀ costs behind b
+Inv-loop sections starts indices costs₀ behind₀ b₀ costs behind b = InSettle (length indices) behind₀ costs₀ costs behind b
 
 abbrev μ-loop : tie.MeasureT-loop
-μ-loop sections starts indices costs₀ views behind₀ b₀ costs behind b = b
+μ-loop sections starts indices costs₀ behind₀ b₀ costs behind b = b
 
 slice-aggregate-copy-row : tie.Need-slice-aggregate-copy-row Inv-loop μ-loop
 slice-aggregate-copy-row c = search needs
@@ -34,43 +34,25 @@ shared-slice-read-widened c = search (needs, c .before .before .loop .inv .b-le)
 widened-requires : tie.Need-widened-requires Inv-loop μ-loop
 widened-requires c κs = search needs
 
-mul-at : tie.Need-mul-at Inv-loop μ-loop
-mul-at c =
-    let turn = c .before .before in
-    let head = turn .before in
-    let entry = head .before .before .before .before .before .before .before in
-    let B = block-at (entry .pre .ready) (one-below (head .loop .inv .b-le) (turn .loop-test .taken)) (c .widened .ensures .0) in
-    omega arith
-
-array-copy-out-at : tie.Need-array-copy-out-at Inv-loop μ-loop
-array-copy-out-at c =
-    let turn = c .before .before in
-    let head = turn .before in
-    let entry = head .before .before .before .before .before .before .before in
-    let B = block-at (entry .pre .ready) (one-below (head .loop .inv .b-le) (turn .loop-test .taken)) (c .widened .ensures .0) in
-    omega arith
-
 mul-start : tie.Need-mul-start Inv-loop μ-loop
 mul-start c =
-    let widened = c .before in
-    let turn = widened .before .before in
+    let turn = c .before .before in
     let head = turn .before in
     let entry = head .before .before .before .before .before .before .before in
-    let B = block-at (entry .pre .ready) (one-below (head .loop .inv .b-le) (turn .loop-test .taken)) (widened .widened .ensures .0) in
+    let B = block-at (entry .pre .ready) (one-below (head .loop .inv .b-le) (turn .loop-test .taken)) (c .widened .ensures .0) in
     omega arith
 
 element-copy-out-start : tie.Need-element-copy-out-start Inv-loop μ-loop
 element-copy-out-start c =
-    let widened = c .before in
-    let turn = widened .before .before in
+    let turn = c .before .before in
     let head = turn .before in
     let entry = head .before .before .before .before .before .before .before in
-    let B = block-at (entry .pre .ready) (one-below (head .loop .inv .b-le) (turn .loop-test .taken)) (widened .widened .ensures .0) in
+    let B = block-at (entry .pre .ready) (one-below (head .loop .inv .b-le) (turn .loop-test .taken)) (c .widened .ensures .0) in
     omega arith
 
 mul-row : tie.Need-mul-row Inv-loop μ-loop
 mul-row c =
-    let widened = c .before .before in
+    let widened = c .before in
     let turn = widened .before .before in
     let head = turn .before in
     let entry = head .before .before .before .before .before .before .before in
@@ -79,7 +61,7 @@ mul-row c =
 
 add-next : tie.Need-add-next Inv-loop μ-loop
 add-next c =
-    let widened = c .before .before in
+    let widened = c .before in
     let turn = widened .before .before in
     let head = turn .before in
     let entry = head .before .before .before .before .before .before .before in
@@ -88,7 +70,7 @@ add-next c =
 
 mul-settle-block : tie.Need-mul-settle-block Inv-loop μ-loop
 mul-settle-block c =
-    let widened = c .before .before in
+    let widened = c .before in
     let turn = widened .before .before in
     let head = turn .before in
     let entry = head .before .before .before .before .before .before .before in
@@ -97,7 +79,7 @@ mul-settle-block c =
 
 sub-settle-block : tie.Need-sub-settle-block Inv-loop μ-loop
 sub-settle-block c =
-    let widened = c .before .before in
+    let widened = c .before in
     let turn = widened .before .before in
     let head = turn .before in
     let entry = head .before .before .before .before .before .before .before in
@@ -106,7 +88,7 @@ sub-settle-block c =
 
 part-settle-block-start : tie.Need-part-settle-block-start Inv-loop μ-loop
 part-settle-block-start c =
-    let widened = c .before .before in
+    let widened = c .before in
     let turn = widened .before .before in
     let head = turn .before in
     let entry = head .before .before .before .before .before .before .before in
@@ -118,7 +100,7 @@ part-settle-block-end c = search needs
 
 mul-settle-block-2 : tie.Need-mul-settle-block-2 Inv-loop μ-loop
 mul-settle-block-2 c =
-    let widened = c .before .before .before .before in
+    let widened = c .before .before .before in
     let turn = widened .before .before in
     let head = turn .before in
     let entry = head .before .before .before .before .before .before .before in
@@ -127,7 +109,7 @@ mul-settle-block-2 c =
 
 sub-settle-block-2 : tie.Need-sub-settle-block-2 Inv-loop μ-loop
 sub-settle-block-2 c =
-    let widened = c .before .before .before .before in
+    let widened = c .before .before .before in
     let turn = widened .before .before in
     let head = turn .before in
     let entry = head .before .before .before .before .before .before .before in
@@ -136,7 +118,7 @@ sub-settle-block-2 c =
 
 part-settle-block-start-2 : tie.Need-part-settle-block-start-2 Inv-loop μ-loop
 part-settle-block-start-2 c =
-    let turn = c .before .before .before .before .before .before in
+    let turn = c .before .before .before .before .before in
     let head = turn .before in
     let entry = head .before .before .before .before .before .before .before in
     let R = row-inside (head .loop .inv .b-le) (turn .loop-test .taken) (head .loop .inv .long) (entry .pre .long) in
@@ -144,7 +126,7 @@ part-settle-block-start-2 c =
 
 part-settle-block-end-2 : tie.Need-part-settle-block-end-2 Inv-loop μ-loop
 part-settle-block-end-2 c =
-    let turn = c .before .before .before .before .before .before in
+    let turn = c .before .before .before .before .before in
     let head = turn .before in
     let entry = head .before .before .before .before .before .before .before in
     let R = row-inside (head .loop .inv .b-le) (turn .loop-test .taken) (head .loop .inv .long) (entry .pre .long) in
@@ -152,25 +134,25 @@ part-settle-block-end-2 c =
 
 settle-block-requires : tie.Need-settle-block-requires Inv-loop μ-loop
 settle-block-requires c κs =
-    let widened = c .before .before .before .before .before in
+    let widened = c .before .before .before .before in
     let turn = widened .before .before in
     let head = turn .before in
     let entry = head .before .before .before .before .before .before .before in
     let S = entry .pre in (
-      block-at (S .ready) (one-below (head .loop .inv .b-le) (turn .loop-test .taken)) (widened .widened .ensures .0) .seen,
+      block-at (S .ready) (one-below (head .loop .inv .b-le) (turn .loop-test .taken)) (widened .widened .ensures .0) .seen .sound,
       row-fits (head .loop .inv) (turn .loop-test .taken) (S .long) (S .chain) (S .blocksIs) (S .cheap)
           (last-is (S .blocksIs) (S .endsAs) (head .before .copy-row .ensures)) (S .noted),
     )
 
 loop-less : tie.Need-loop-less Inv-loop μ-loop
 loop-less c =
-    let turn = c .before .before .before .before .before .before .before .before .before .before in
+    let turn = c .before .before .before .before .before .before .before .before .before in
     omega (arith, turn .loop-test .taken)
 
 loop-again : tie.Need-loop-again Inv-loop μ-loop
 loop-again c =
     let settle-block = c .before .before in
-    let widened = settle-block .before .before .before .before .before .before in
+    let widened = settle-block .before .before .before .before .before in
     let turn = widened .before .before in
     let head = turn .before in
     let entry = head .before .before .before .before .before .before .before in
@@ -200,8 +182,6 @@ settle-spec =
     sub-b
     shared-slice-read-widened
     widened-requires
-    mul-at
-    array-copy-out-at
     mul-start
     element-copy-out-start
     mul-row

@@ -51,7 +51,8 @@ pub record Cheap (C : Chain) : Type 0 where
   pub below : (b : ℕ) → b < C .blocks → (w : Word) → C .price b w < noteCycle
 
 -- notes of a chain of cheap words, over these sections; what was received plays no part
-pub record Settling (sections starts : List ℕ) (views : List View) (indices ends notes : List ℕ) : Type 0 where
+pub record Settling (sections starts indices ends notes : List ℕ) : Type 0 where
+  pub views : List View
   pub received : List ℕ
   pub erased : List ℕ
   pub ready : Ready (heldBlocks sections starts views indices received erased)
