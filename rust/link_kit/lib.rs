@@ -35,7 +35,7 @@ pub const ANY_SECTION: usize = 4 + 2 * 8 + 2 * MOST_STATES + 3 * 8 * 1024;
 /// A text buffer long enough for every listing.
 pub const ANY_TEXT: usize = 1024;
 /// The most states of a table or section. The ends of a chain are below it.
-pub const MOST_STATES: usize = 64;
+pub const MOST_STATES: usize = 16;
 /// The most sections of a chain.
 pub const MOST_SECTIONS: usize = 16;
 /// The most blocks of a chain.

@@ -120,11 +120,11 @@ pub fn case_9() -> Table {
     })
 }
 
-/// The convolutional code of rate 1/2 with 64 states and generators 133 and 171 in octal.
+/// The convolutional code of rate 1/2 with 16 states and generators 23 and 35 in octal.
 fn rate_1_2() -> Table {
-    encoder(2, 64, 2, |state, input| {
-        let register = input << 6 | state;
-        let sent = parity(register & 0o133) << 1 | parity(register & 0o171);
+    encoder(2, 16, 2, |state, input| {
+        let register = input << 4 | state;
+        let sent = parity(register & 0o23) << 1 | parity(register & 0o35);
         (sent, register >> 1)
     })
 }
@@ -143,8 +143,8 @@ pub fn benchmarked() -> [(&'static str, Table); 5] {
     let mut numbers = Numbers::new();
     [
         ("case 9", case_9()),
-        ("rate 1/2, S 64, n 2", rate_1_2()),
-        ("linear, S 64, n 8", full_linear(2, 8, 6, Sum::Modulo, 10, &mut numbers)),
+        ("rate 1/2, S 16, n 2", rate_1_2()),
+        ("linear, S 16, n 8", full_linear(2, 8, 4, Sum::Modulo, 10, &mut numbers)),
         ("q 4, S 16, n 8", full_linear(4, 8, 2, Sum::Bits, 10, &mut numbers)),
         ("rate 7/8, S 8, n 8", rate_7_8()),
     ]

@@ -21,12 +21,12 @@ const LAYOUT: (usize, usize) = (0, 5);
 pub const FAMILIES: [Family; 8] = [
     Family {
         name: "late",
-        bounds: &[(1, 244), (1, 1021)],
+        bounds: &[(1, 4 * (MOST_STATES - 3)), (1, 1021)],
         table: |x| late(x[0], x[1]),
     },
     Family {
         name: "one more",
-        bounds: &[(2, MOST_STATES), (1, 511)],
+        bounds: &[(2, 4 * MOST_STATES), (1, 511)],
         table: |x| one_more(x[0], x[1]),
     },
     Family {
@@ -77,15 +77,21 @@ fn largest(words: Vec<Word>) -> Table {
     }
 }
 
+/// A word of the beginning b at depth 1, four of them from each root, and the ending e.
+fn with_first_symbol(b: usize, e: usize) -> Word {
+    ((b / 4) as u8, (b % 4 * 16_384 + e) as u16, 0)
+}
+
 /// 1,024 words of which depth 1 refuses only the last three. Before them stand beginnings with the same `run` endings, as many as there is room for,
 /// and in front of these words with endings of their own.
 fn late(beginnings: usize, run: usize) -> Table {
     let beginnings = beginnings.min(1021 / run);
     let mut words: Vec<Word> = (0..1021 - beginnings * run).map(|i| (0, i as u16, 1)).collect();
     for b in 0..beginnings {
-        words.extend((0..run).map(|e| ((1 + b / 4) as u8, (b % 4 * 16_384 + e) as u16, 0)));
+        words.extend((0..run).map(|e| with_first_symbol(4 + b, e)));
     }
-    words.extend([(62, 16_000, 9), (62, 16_001, 9), (63, 16_000, 9)]);
+    let last = MOST_STATES as u8 - 1;
+    words.extend([(last - 1, 16_000, 9), (last - 1, 16_001, 9), (last, 16_000, 9)]);
     largest(words)
 }
 
@@ -95,9 +101,9 @@ fn one_more(beginnings: usize, run: usize) -> Table {
     let beginnings = beginnings.min(1023 / run);
     let mut words: Vec<Word> = Vec::new();
     for b in 0..beginnings {
-        words.extend((0..run).map(|e| (b as u8, e as u16, 0)));
+        words.extend((0..run).map(|e| with_first_symbol(b, e)));
     }
-    words.push((beginnings as u8 - 1, run as u16, 0));
+    words.push(with_first_symbol(beginnings - 1, run));
     largest(words)
 }
 
@@ -254,7 +260,7 @@ fn groups(x: &[usize]) -> Vec<Vec<usize>> {
 
 /// 1,024 words of a random linear code.
 fn linear(kind: usize, seed: usize) -> Table {
-    let (q, ends, sum, rows) = [(2, 6, Sum::Modulo, 10), (4, 2, Sum::Bits, 10), (4, 3, Sum::Modulo, 5)][kind];
+    let (q, ends, sum, rows) = [(2, 4, Sum::Modulo, 10), (4, 2, Sum::Bits, 10), (4, 2, Sum::Modulo, 5)][kind];
     full_linear(q, 8, ends, sum, rows, &mut Numbers::seeded(seed))
 }
 

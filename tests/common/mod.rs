@@ -1,5 +1,5 @@
 //! What the running programs share: calls of the kit, tables and chains of many kinds, and merging, sections, decoding and the listing written plainly
-//! from document 01, the customer's paper on tables, sections and outcomes.
+//! from document 01, the customer's paper on tables, sections and outcomes, with what document 02's requests changed.
 #![allow(dead_code)]
 
 pub mod archive;
@@ -14,7 +14,7 @@ pub mod shapes;
 pub mod tables;
 
 /// The bound on states of a table, of a section and of a chain's ends; the cost table has as many places a block.
-pub const MOST_STATES: usize = 64;
+pub const MOST_STATES: usize = 16;
 
 /// A fixed sequence of numbers with no pattern (xorshift).
 pub struct Numbers(u64);

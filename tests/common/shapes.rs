@@ -8,10 +8,10 @@ use std::collections::{BTreeMap, BTreeSet};
 /// A linear code of some small size.
 pub fn linear(numbers: &mut Numbers) -> Table {
     let (q, sum, most_ends, most_rows) = [
-        (2, Sum::Modulo, 6, 6),
-        (3, Sum::Modulo, 3, 4),
-        (4, Sum::Modulo, 3, 3),
-        (4, Sum::Bits, 3, 6),
+        (2, Sum::Modulo, 4, 6),
+        (3, Sum::Modulo, 2, 4),
+        (4, Sum::Modulo, 2, 3),
+        (4, Sum::Bits, 2, 6),
     ][numbers.below(4)];
     let n = numbers.from_to(1, 8) as u8;
     let ends = numbers.from_to(0, most_ends);

@@ -133,13 +133,14 @@ pub fn small_tables(numbers: &mut Numbers) -> Small {
     }
 }
 
-/// Tables of 1,024 words with n 8 and with 64 states, for the largest sections that merging leaves.
+/// Tables of 1,024 words with n 8 and with 16 states, for the largest sections that merging leaves. With 16 states the last three symbols are the first
+/// three, so that depth 3 has a vertex for each word.
 pub fn large_tables() -> [Table; 2] {
     let mut long = all_words(2, 8, 4);
     long.retain(|w| w.0 == w.2);
-    let mut wide = all_words(4, 2, 64);
-    wide.retain(|w| w.0 as usize / 4 == w.2 as usize % 16 && w.1 as usize >> 2 == w.2 as usize / 16);
-    [(2, 8, 4, long), (4, 2, 64, wide)].map(|(q, n, states, mut words)| {
+    let mut wide = all_words(4, 6, 16);
+    wide.retain(|w| w.1 >> 6 == w.1 % 64 && w.1 % 16 == (w.0 ^ w.2) as u16);
+    [(2, 8, 4, long), (4, 6, 16, wide)].map(|(q, n, states, mut words)| {
         words.truncate(1024);
         Table { q, n, states, words }
     })

@@ -1,10 +1,11 @@
 //! Tables of many shapes and files with every kind of fault through all four functions of the archive: merging, the listing, reading back what was merged
-//! and decoding chains of it, each compared in its answer and in every place of every buffer with plain code written from document 01 alone.
+//! and decoding chains of it, each compared in its answer and in every place of every buffer with plain code written from documents 01 and 02 alone.
 
 #[path = "../common/mod.rs"]
 mod common;
 
 mod malformed;
+mod states;
 
 use common::archive::{self, Buffers, byte_pattern};
 use common::codes::{Sum, benchmarked, full_linear};
@@ -85,7 +86,7 @@ impl Tally {
         }
     }
 
-    fn read_back(&mut self, section: &[u16], file_length: usize) {
+    fn read_back(&mut self, section: &[u16], file_length: usize) -> archive::Answer {
         let mut wanted = byte_pattern(file_length);
         let mut got = wanted.clone();
         let answer = sections::read_back(section, &mut wanted);
@@ -94,6 +95,7 @@ impl Tally {
         self.differing.compare(&(&answer, wanted), &(&given, got), || {
             format!("reading back {section:?}")
         });
+        answer
     }
 
     /// Decodes a chain over some tables between states of theirs, then with a fault in it.
@@ -110,7 +112,7 @@ impl Tally {
         self.decode(&frame, lengths);
     }
 
-    fn decode(&mut self, frame: &archive::Frame, lengths: [usize; 3]) {
+    fn decode(&mut self, frame: &archive::Frame, lengths: [usize; 3]) -> archive::Answer {
         let mut wanted: Buffers = frames::buffers(lengths);
         let mut got = wanted.clone();
         let (answer, passed) = decoding::decode(frame, &mut wanted);
@@ -119,6 +121,7 @@ impl Tally {
         *self.decoded.entry(answer.number).or_default() += 1;
         self.differing
             .compare(&(&answer, wanted), &(&given, got), || format!("decoding {frame:?}"));
+        answer
     }
 
     fn report(&self, what: &str) {
@@ -139,7 +142,7 @@ fn shape(tally: &mut Tally, rounds: usize, make: impl Fn(&mut Numbers) -> Table,
     let mut neighbours: Vec<Table> = Vec::new();
     for round in 0..rounds {
         let mut table = make(numbers);
-        if numbers.one_in(3) && table.states <= 16 {
+        if numbers.one_in(3) {
             let states = frames::some_states(table.states as usize, numbers);
             frames::move_states(&mut table, &states, numbers);
         }
@@ -174,7 +177,7 @@ fn spoiled(tally: &mut Tally, table: &Table, kind: usize, numbers: &mut Numbers)
 fn largest(tally: &mut Tally, numbers: &mut Numbers) {
     let mut tables = large_tables().to_vec();
     tables.extend(benchmarked().map(|(_, table)| table));
-    tables.push(full_linear(4, 8, 3, Sum::Modulo, 5, numbers));
+    tables.push(full_linear(4, 8, 2, Sum::Modulo, 5, numbers));
     for table in &tables {
         tally.file(&table.file());
         tally.file(&shapes::one_out(table, numbers).file());
@@ -207,5 +210,8 @@ fn main() {
     let mut tally = Tally::default();
     largest(&mut tally, &mut numbers);
     finish("large tables", tally);
+    let mut tally = Tally::default();
+    states::run(&mut tally, &mut numbers);
+    finish("1 to 70 states", tally);
     all.finish();
 }

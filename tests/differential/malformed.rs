@@ -1,6 +1,6 @@
 //! Table files with faults of every kind, put into the file of a good table.
 
-use super::common::Numbers;
+use super::common::{MOST_STATES, Numbers};
 
 /// Where the words of a file stand that has room for `count`.
 struct Places {
@@ -45,7 +45,7 @@ fn spoil_size(file: &mut Vec<u8>, kind: usize, numbers: &mut Numbers) {
     match kind {
         3 => file[0] = pick(&[0, 1, 5, 255], numbers),
         4 => file[1] = pick(&[0, 9, 255], numbers),
-        5 => file[2] = pick(&[0, 65, 255], numbers),
+        5 => file[2] = pick(&[0, MOST_STATES as u8 + 1, 64, 255], numbers),
         6 => file[3 + numbers.below(2)] = numbers.below(256) as u8,
         // no words at all
         7 => {

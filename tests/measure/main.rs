@@ -13,6 +13,7 @@ use common::hard::hard;
 use common::merging::section_of;
 use common::sections::{Edge, Section, gather, spread, usable};
 use common::tables::{Table, large_tables};
+use std::cmp::Ordering;
 use std::collections::BTreeSet;
 
 fn merge(table: &Table) -> Answer {
@@ -21,44 +22,43 @@ fn merge(table: &Table) -> Answer {
     archive::merge(&table.file(), &mut map, &mut section)
 }
 
-/// 1,024 words of q 4, n 8, S 64 with all beginnings of two symbols, each with an ending of its own: as many edges as a table can have.
+/// 1,024 words of q 4, n 8, S 16 with all beginnings of three symbols, each with an ending of its own: as many edges as a table can have.
 fn sparse(numbers: &mut Numbers) -> Table {
     let mut endings: BTreeSet<(u16, u8)> = BTreeSet::new();
     while endings.len() < 1024 {
-        endings.insert((numbers.below(4096) as u16, numbers.below(64) as u8));
+        endings.insert((numbers.below(1024) as u16, numbers.below(16) as u8));
     }
     let mut endings: Vec<(u16, u8)> = endings.into_iter().collect();
     numbers.shuffle(&mut endings);
-    let word = |(i, &(rest, goal)): (usize, &(u16, u8))| ((i / 16) as u8, (i % 16) as u16 * 4096 + rest, goal);
+    let word = |(i, &(rest, goal)): (usize, &(u16, u8))| ((i / 64) as u8, (i % 64) as u16 * 1024 + rest, goal);
     Table {
         q: 4,
         n: 8,
-        states: 64,
+        states: 16,
         words: endings.iter().enumerate().map(word).collect(),
     }
 }
 
-/// A usable section with as many edges as the bounds allow: 256 or 1,024 vertices at depths 2 to 6, and 1,024 edges a step between depths 1 and 7.
+/// A usable section with as many edges as the bounds allow: 256 or 1,024 vertices at depths 3 to 5, and 1,024 edges a step between depths 2 and 6.
 fn largest(vertices: u16) -> Section {
+    let counts = [16, 64, 256, vertices, vertices, vertices, 256, 64, 16];
     let symbols = 1024 / vertices;
     let edges = (0..vertices).flat_map(|v| (0..symbols).map(move |s| (v, s, (v + s) % vertices)));
     let between: Vec<Edge> = edges.collect();
-    let mut steps = vec![between; 8];
-    (steps[0], steps[7]) = (spread(64), gather(256));
-    if vertices == 1024 {
-        (steps[1], steps[6]) = (spread(256), gather(1024));
-    }
-    let states: Vec<u16> = (0..64).collect();
-    let mut counts = vec![vertices; 9];
-    (counts[0], counts[1], counts[7], counts[8]) = (64, 256, 256, 64);
+    let step = |pair: &[u16]| match pair[1].cmp(&pair[0]) {
+        Ordering::Greater => spread(pair[0]),
+        Ordering::Equal => between.clone(),
+        Ordering::Less => gather(pair[0]),
+    };
+    let states: Vec<u16> = (0..16).collect();
     Section {
         q: 4,
         n: 8,
-        states: 64,
-        vertices: counts,
+        states: 16,
+        vertices: counts.to_vec(),
         roots: states.clone(),
         goals: states,
-        steps,
+        steps: counts.windows(2).map(step).collect(),
     }
 }
 

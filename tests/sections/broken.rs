@@ -35,15 +35,23 @@ fn widest(vertices: u16, edges: &[Edge]) -> Section {
     let mut between: Vec<Edge> = (0..1024).map(|v| (v, 0, v)).collect();
     between.extend(edges);
     between.sort();
-    let states: Vec<u16> = (0..64).collect();
+    let states: Vec<u16> = (0..16).collect();
     Section {
         q: 4,
-        n: 5,
-        states: 64,
-        vertices: vec![64, 256, 1024, 1024 + vertices, 256, 64],
+        n: 7,
+        states: 16,
+        vertices: vec![16, 64, 256, 1024, 1024 + vertices, 256, 64, 16],
         roots: states.clone(),
         goals: states,
-        steps: vec![spread(64), spread(256), between, gather(1024), gather(256)],
+        steps: vec![
+            spread(16),
+            spread(64),
+            spread(256),
+            between,
+            gather(1024),
+            gather(256),
+            gather(64),
+        ],
     }
 }
 

@@ -121,15 +121,15 @@ fn with_words(n: u16, roots: u16, first: u16, goals: u16) -> Section {
     }
 }
 
-/// Sections of 1,024 words, of more, and of 268 million.
+/// Sections of 1,024 words, of more, and of 16 million.
 fn many_words(tally: &mut Tally) {
     let most = tally.compare(&with_words(3, 16, 4, 1).numbers(), 4200);
     tally.same(4101, most.values[0], "1,024 words are written");
     for section in [
         with_words(2, 16, 4, 16),
-        with_words(3, 64, 4, 1),
+        with_words(4, 16, 4, 1),
         with_words(8, 1, 1, 1),
-        with_words(8, 64, 4, 64),
+        with_words(8, 16, 4, 16),
     ] {
         for length in [0, 4200] {
             let refused = tally.compare(&section.numbers(), length);

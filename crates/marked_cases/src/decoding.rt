@@ -1,4 +1,5 @@
-// The marked cases of decoding, 7 and 8, and a tie over two blocks, over sections that merging leaves. And the bound on blocks.
+// The marked cases of decoding, 7 and 8, and a tie over two blocks, over sections that merging leaves. And the bounds on blocks and on the
+// states of a section and of a frame's ends.
 use crate::print::put_buffer;
 use crate::print::put_bytes;
 use crate::print::put_costs;
@@ -88,6 +89,42 @@ fn run_bound(name: &[u8], indices: &[u8], received: &[u16], erased: &[u8]) {
     put_outcome(b"answer", chain::outcome(answer));
 }
 
+// A section is read back, and a block received as its one word is decoded over it.
+fn run_states(name: &[u8], section: &[u16], start: u8, end: u8) {
+    let mut file = [0u8; 9];
+    let mut costs = [0u32; COSTS_A_BLOCK];
+    let mut labels = [0u16; 1];
+    let mut goals = [0u8; 1];
+    io::write_all(1, name);
+    put_outcome(
+        b"read back",
+        read_back::outcome(read_back::read_back(section, &mut file)),
+    );
+    let answer = chain::decode(
+        section,
+        1,
+        b"\x00",
+        &[0u16; 1],
+        b"\x00",
+        start,
+        end,
+        &mut costs,
+        &mut labels,
+        &mut goals,
+    );
+    put_outcome(b"answer", chain::outcome(answer));
+}
+
+// One word, from the last state to itself.
+fn bound_states() {
+    let most = [2u16, 1, 16, 1, 1, 1, 15, 15, 0, 0, 0];
+    let over = [2u16, 1, 17, 1, 1, 1, 16, 16, 0, 0, 0];
+    run_states(b"a section of 16 states\n", &most, 15, 15);
+    run_states(b"a section of 17 states\n", &over, 15, 15);
+    run_states(b"start state 16\n", &most, 16, 15);
+    run_states(b"end state 16\n", &most, 15, 16);
+}
+
 pub fn run_cases() {
     case_7();
     case_8();
@@ -98,4 +135,5 @@ pub fn run_cases() {
 pub fn run_bounds() {
     run_bound(b"256 blocks\n", &[0u8; 256], &[1u16; 256], &[0u8; 256]);
     run_bound(b"257 blocks\n", &[0u8; 257], &[1u16; 257], &[0u8; 257]);
+    bound_states();
 }

@@ -142,8 +142,8 @@ fn bound_words() {
 }
 
 fn bound_states() {
-    run_bound(b"64 states\n", b"\x02\x01\x40\x01\x00\x3f\x3f\x00\x00");
-    run_bound(b"65 states\n", b"\x02\x01\x41\x01\x00\x40\x40\x00\x00");
+    run_bound(b"16 states\n", b"\x02\x01\x10\x01\x00\x0f\x0f\x00\x00");
+    run_bound(b"17 states\n", b"\x02\x01\x11\x01\x00\x10\x10\x00\x00");
 }
 
 fn bound_symbols() {

@@ -1,5 +1,5 @@
--- Document 01's bounds, each named once. The code has them as the constants of this crate (src/lib.rt); its promises, which speak of these
--- definitions, hold only because the two agree.
+-- The bounds of documents 01 and 02, each named once. The code has them as the constants of this crate (src/lib.rt); its promises, which
+-- speak of these definitions, hold only because the two agree.
 use Prim.Native.Nat.{ℕ}
 
 -- q is 2 to 4
@@ -13,9 +13,9 @@ mostQ = 4
 abbrev pub mostSymbols : ℕ
 mostSymbols = 8
 
--- S is 1 to 64
+-- S is 1 to 16, by document 02's request 2; document 01 had 64
 abbrev pub mostStates : ℕ
-mostStates = 64
+mostStates = 16
 
 -- W is 1 to 1,024, and so is every vertex count and step's edge count of a usable section
 abbrev pub mostWords : ℕ

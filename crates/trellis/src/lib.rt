@@ -1,12 +1,12 @@
-// The theory of trellis sections: definitions in specs/, theorems in proofs/, and no code but document 01's bounds as constants, one for
-// each definition of specs/Bounds.
+// The theory of trellis sections: definitions in specs/, theorems in proofs/, and no code but the bounds as constants, one for each
+// definition of specs/Bounds.
 pub const LEAST_Q: usize = 2;
 
 pub const MOST_Q: usize = 4;
 
 pub const MOST_SYMBOLS: usize = 8;
 
-pub const MOST_STATES: usize = 64;
+pub const MOST_STATES: usize = 16;
 
 pub const MOST_WORDS: usize = 1024;
 
