@@ -18,7 +18,7 @@ pub struct Hard {
 
 /// The hardest that were found, for ways to search for the words of a refusal that hold each run against each other one, that hold each part of a run
 /// against the whole, and that look at a word only a few times.
-const KEPT: [(&str, &[usize]); 10] = [
+const KEPT: [(&str, &[usize]); 11] = [
     ("blocks", &[2, 2, 2, 510, 1]),
     ("late", &[2, 510]),
     ("late", &[20, 50]),
@@ -27,8 +27,9 @@ const KEPT: [(&str, &[usize]); 10] = [
     ("odd run", &[1, 0, 2, 576, 0, 3, 44, 0]),
     ("windows", &[1, 0, 512, 511, 1]),
     ("windows", &[1, 0, 524, 6, 10]),
-    ("parts", &[2, 2, 1, 512, 1, 0]),
-    ("blocks", &[1, 0, 169, 6, 1]),
+    ("windows", &[3, 1, 4, 37, 189]),
+    ("parts", &[3, 2, 1, 512, 1, 0]),
+    ("blocks", &[2, 0, 169, 6, 1]),
 ];
 
 /// How many tables of a family are drawn, how many changed, from how many at a time, and how long that may take.
