@@ -34,7 +34,7 @@ extern "C" {
 
 /* Bounds. */
 #define LINK_MOST_WORDS 1024u
-#define LINK_MOST_STATES 16u
+#define LINK_MOST_STATES 16u   /* S, and the cost table's places a block */
 #define LINK_MOST_SYMBOLS 8u   /* n */
 #define LINK_MOST_SECTIONS 16u /* K */
 #define LINK_MOST_BLOCKS 256u  /* B */
@@ -50,15 +50,15 @@ extern "C" {
 /* Lengths that are enough for every table. */
 #define LINK_ANY_FILE LINK_FILE_LEN(LINK_MOST_WORDS)                  /* 4,101 bytes */
 #define LINK_ANY_MAP LINK_MAP_LEN(LINK_MOST_WORDS, LINK_MOST_SYMBOLS) /* 9,216 numbers */
-/* the sizes, all states as roots and as goals, and as many edges as words at each step: 24,628 numbers */
-#define LINK_ANY_SECTION (4u + 2u * LINK_MOST_SYMBOLS + 2u * LINK_MOST_STATES + 3u * LINK_MOST_SYMBOLS * LINK_MOST_WORDS)
 #define LINK_ANY_TEXT 1024u                                           /* bytes */
+/* 24,628 numbers: the sizes, all states as roots and as goals, and as many edges as words at each step. */
+#define LINK_ANY_SECTION (4u + 2u * LINK_MOST_SYMBOLS + 2u * LINK_MOST_STATES + 3u * LINK_MOST_SYMBOLS * LINK_MOST_WORDS)
 
 /* Stack, in bytes: what a call takes of its thread's stack, with all that it calls. A program whose loader binds memcpy and memset only when they are
  * first called needs some 4,096 bytes more for that one call. */
 #define LINK_MERGE_STACK 35840u
 #define LINK_READ_BACK_STACK 19456u
-#define LINK_DECODE_STACK 28160u
+#define LINK_DECODE_STACK 28160u /* 28,672 when S went to 64 */
 #define LINK_LISTING_STACK 55296u
 
 /* Merges a table file. Success returns the section's length; the map's place t W + i is then the vertex of word i at depth t.

@@ -121,7 +121,7 @@ fn with_words(n: u16, roots: u16, first: u16, goals: u16) -> Section {
     }
 }
 
-/// Sections of 1,024 words, of more, and of 16 million.
+/// Sections of 1,024 words, of more, and of over 16 million.
 fn many_words(tally: &mut Tally) {
     let most = tally.compare(&with_words(3, 16, 4, 1).numbers(), 4200);
     tally.same(4101, most.values[0], "1,024 words are written");

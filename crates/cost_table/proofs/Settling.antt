@@ -90,7 +90,9 @@ pub record RootsRead (l : List ℕ) (roots count : ℕ) : Type 0 where
 
 pub counts-there : {l : List ℕ} → Sound l → 4 ≤ length l
 counts-there {l} s =
-    let S : Seen l (viewOf l) = record { sound = s; is = refl } in let i = header S .inside in omega arith
+    let S : Seen l (viewOf l) = record { sound = s; is = refl } in
+    let i = header S .inside in
+    omega arith
 
 pub roots-read : {l : List ℕ} {n count : ℕ} → Sound l → n ≡ getD l 1 0 → count ≡ getD l 3 0 → RootsRead l (4 + 2 * n) count
 unfolding viewOf rootsPlace goalsPlace vertexCountOf
