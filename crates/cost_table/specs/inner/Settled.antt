@@ -50,7 +50,7 @@ pub record BlockSettled (l behind old new copy : List ℕ) : Type 0 where
 pub record Cheap (C : Chain) : Type 0 where
   pub below : (b : ℕ) → b < C .blocks → (w : Word) → C .price b w < noteCycle
 
--- notes of a chain of cheap words, over these sections; what was received plays no part
+-- notes of a chain of cheap words, over these sections; neither their views nor what was received play a part
 pub record Settling (sections starts indices ends notes : List ℕ) : Type 0 where
   pub views : List View
   pub received : List ℕ
