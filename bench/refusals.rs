@@ -18,13 +18,14 @@ pub struct Hard {
 
 /// The hardest that were found, for ways to search for the words of a refusal that hold each run against each other one, that hold each part of a run
 /// against the whole, and that look at a word only a few times.
-const KEPT: [(&str, &[usize]); 11] = [
+const KEPT: [(&str, &[usize]); 12] = [
     ("blocks", &[2, 2, 2, 510, 1]),
     ("late", &[2, 510]),
     ("late", &[20, 50]),
     ("one more", &[32, 31]),
     ("one more", &[2, 511]),
     ("odd run", &[1, 0, 2, 576, 0, 3, 44, 0]),
+    ("odd run", &[1, 0, 35, 30, 2, 3, 3, 0]),
     ("windows", &[1, 0, 512, 511, 1]),
     ("windows", &[1, 0, 524, 6, 10]),
     ("windows", &[3, 1, 4, 37, 189]),

@@ -1,6 +1,6 @@
-//! Decoding as document 01 says it, but that an erased symbol costs 0 (document 02, request 1): the checks in order, then every path of the chain listed
-//! and measured. A second way, over the words of one block after another, serves chains whose paths are too many to list; on small chains it is held to
-//! the first.
+//! Decoding as document 01 says it, but that an erased symbol costs 0 and that there are 16 states at most (document 02, requests 1 and 2): the checks
+//! in order, then every path of the chain listed and measured. A second way, over the words of one block after another, serves chains whose paths are too
+//! many to list; on small chains it is held to the first.
 
 use super::MOST_STATES;
 use super::archive::{Answer, Buffers, Frame};

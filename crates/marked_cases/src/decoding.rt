@@ -89,6 +89,12 @@ fn run_bound(name: &[u8], indices: &[u8], received: &[u16], erased: &[u8]) {
     put_outcome(b"answer", chain::outcome(answer));
 }
 
+// Case 3 in every block, received 01, none erased.
+fn bound_blocks() {
+    run_bound(b"256 blocks\n", &[0u8; 256], &[1u16; 256], &[0u8; 256]);
+    run_bound(b"257 blocks\n", &[0u8; 257], &[1u16; 257], &[0u8; 257]);
+}
+
 // A section is read back, and a block received as its one word is decoded over it.
 fn run_states(name: &[u8], section: &[u16], start: u8, end: u8) {
     let mut file = [0u8; 9];
@@ -131,9 +137,7 @@ pub fn run_cases() {
     tie();
 }
 
-// Case 3 in every block, received 01, none erased.
 pub fn run_bounds() {
-    run_bound(b"256 blocks\n", &[0u8; 256], &[1u16; 256], &[0u8; 256]);
-    run_bound(b"257 blocks\n", &[0u8; 257], &[1u16; 257], &[0u8; 257]);
+    bound_blocks();
     bound_states();
 }
