@@ -9,7 +9,7 @@ use common::archive::{self, Answer, Frame};
 use common::decoding;
 use common::frames;
 use common::merging::section_of;
-use common::tables::{Table, large_tables};
+use common::tables::{Table, across, large_tables};
 use common::{Differing, MOST_STATES, Numbers};
 use std::collections::BTreeMap;
 
@@ -100,17 +100,6 @@ fn large_sections(differing: &mut Differing, numbers: &mut Numbers) {
     tally.report("sections of 1,024 words");
 }
 
-/// A table of one symbol between as many states as there can be, each leading to two, for the bounds on states.
-fn wide_table() -> Table {
-    let words = (0..=LAST).flat_map(|s| [(s, 0, LAST - s), (s, 1, s)]).collect();
-    Table {
-        q: 2,
-        n: 1,
-        states: LAST + 1,
-        words,
-    }
-}
-
 /// A chain over copies of one section, all blocks received alike.
 fn copies(table: &Table, k: usize, blocks: usize, received: u16) -> Frame {
     Frame {
@@ -126,7 +115,7 @@ fn copies(table: &Table, k: usize, blocks: usize, received: u16) -> Frame {
 
 fn bounds(differing: &mut Differing) {
     let mut tally = Tally::default();
-    let table = wide_table();
+    let table = across(LAST + 1);
     let lengths = [MOST_STATES * 257 + 3, 260, 259];
     for (k, blocks, start, end, number, value) in [
         (1, 256, LAST, 0, 0, 1),

@@ -138,14 +138,40 @@ fn rate_7_8() -> Table {
     })
 }
 
+/// A linear code of q 4 with 16 states, whose rows were drawn once.
+fn four_symbols() -> Table {
+    let rows = [
+        [0, 2, 2, 1, 2, 3, 0, 1, 0, 1, 2, 1],
+        [1, 1, 1, 1, 3, 3, 0, 2, 3, 2, 1, 0],
+        [2, 0, 0, 2, 3, 1, 1, 2, 3, 0, 3, 0],
+        [1, 1, 0, 2, 3, 1, 0, 0, 2, 2, 1, 1],
+        [2, 0, 2, 1, 3, 3, 3, 0, 0, 2, 2, 3],
+        [1, 1, 0, 3, 0, 0, 0, 0, 0, 1, 2, 0],
+        [0, 3, 1, 2, 1, 2, 2, 1, 2, 0, 0, 1],
+        [2, 3, 1, 3, 0, 0, 2, 2, 3, 3, 1, 2],
+        [3, 3, 3, 2, 1, 0, 1, 1, 0, 0, 0, 3],
+        [1, 1, 3, 2, 2, 0, 2, 3, 2, 3, 0, 3],
+    ];
+    let code = Code {
+        q: 4,
+        n: 8,
+        ends: 2,
+        sum: Sum::Bits,
+        rows: rows.map(Vec::from).to_vec(),
+    };
+    code.table()
+}
+
 /// The five codes of the benchmark by name.
 pub fn benchmarked() -> [(&'static str, Table); 5] {
-    let mut numbers = Numbers::new();
     [
         ("case 9", case_9()),
         ("rate 1/2, S 16, n 2", rate_1_2()),
-        ("linear, S 16, n 8", full_linear(2, 8, 4, Sum::Modulo, 10, &mut numbers)),
-        ("q 4, S 16, n 8", full_linear(4, 8, 2, Sum::Bits, 10, &mut numbers)),
+        (
+            "linear, S 16, n 8",
+            full_linear(2, 8, 4, Sum::Modulo, 10, &mut Numbers::new()),
+        ),
+        ("q 4, S 16, n 8", four_symbols()),
         ("rate 7/8, S 8, n 8", rate_7_8()),
     ]
 }

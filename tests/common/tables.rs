@@ -133,6 +133,17 @@ pub fn small_tables(numbers: &mut Numbers) -> Small {
     }
 }
 
+/// One symbol between so many states: 0 leads across, and 1 back to the same state.
+pub fn across(states: u8) -> Table {
+    let words = (0..states).flat_map(|s| [(s, 0, states - 1 - s), (s, 1, s)]);
+    Table {
+        q: 2,
+        n: 1,
+        states,
+        words: words.collect(),
+    }
+}
+
 /// Tables of 1,024 words with n 8 and with 16 states, for the largest sections that merging leaves. With 16 states the last three symbols are the first
 /// three, so that depth 3 has a vertex for each word.
 pub fn large_tables() -> [Table; 2] {

@@ -5,25 +5,14 @@ use super::Tally;
 use super::common::archive::Answer;
 use super::common::frames::{lengths_of, over};
 use super::common::merging::section_of;
-use super::common::tables::Table;
+use super::common::tables::{Table, across};
 use super::common::{MOST_STATES, Numbers};
 
 const BLOCKS: usize = 3;
 
-/// Two words from each state: back to it, and across.
-fn table_of(states: u8) -> Table {
-    let words = (0..states).flat_map(|s| [(s, 0, s), (s, 5, states - 1 - s)]);
-    Table {
-        q: 2,
-        n: 2,
-        states,
-        words: words.collect(),
-    }
-}
-
 /// All calls with so many states, and the refusal that each has where they are too many, and only there.
 fn all_calls(tally: &mut Tally, states: u8, numbers: &mut Numbers) {
-    let (table, largest) = (table_of(states), table_of(MOST_STATES as u8));
+    let (table, largest) = (across(states), across(MOST_STATES as u8));
     let mut chain = |tables: &[Table], start, end| over(tables, [start, end], BLOCKS, usize::MAX, numbers);
     let behind = chain(&[largest.clone(), table.clone()], 0, 0);
     let from_last = chain(&[largest.clone()], states - 1, 0);
@@ -45,7 +34,7 @@ fn all_calls(tally: &mut Tally, states: u8, numbers: &mut Numbers) {
 
 /// A cost table of 16 places a block is long enough, and one place less is not.
 fn costs(tally: &mut Tally, numbers: &mut Numbers) {
-    let frame = over(&[table_of(MOST_STATES as u8)], [0, 0], BLOCKS, usize::MAX, numbers);
+    let frame = over(&[across(MOST_STATES as u8)], [0, 0], BLOCKS, usize::MAX, numbers);
     for (costs, answer) in [(48, None), (47, Some(Answer::new(10, &[48])))] {
         let given = tally.decode(&frame, [costs, BLOCKS, BLOCKS]);
         let refused = Some(given).filter(|given| given.number != 0);

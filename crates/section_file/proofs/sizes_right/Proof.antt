@@ -29,7 +29,13 @@ is-within-requires-3 : tie.Need-is-within-requires-3
 is-within-requires-3 c κs = search needs
 
 returns-3 : tie.Need-returns-3
-returns-3 c = search (needs, sizes-by-states)
+returns-3 c =
+    let else2 = c .before .before in
+    let else1 = else2 .before .before .before in
+    let q-within = else1 .before in
+    sizes-by-states _ (q-within .before .number .ensures) (q-within .is-within .ensures) (else1 .if1 .left)
+    (else2 .before .before .number2 .ensures) (else2 .before .is-within2 .ensures) (else2 .if2 .left) (c .before .number3 .ensures)
+    (c .is-within3 .ensures)
 
 pub sizes-right-spec : {M : Type 1} → statement M
 sizes-right-spec =
