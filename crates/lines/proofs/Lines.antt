@@ -53,29 +53,28 @@ depths-all {l} {old} {now} {n} {at} {end} {t} D h =
 
 -- ---- sums
 
-module _ (l : List ℕ) {n : ℕ} (n-is : n ≡ nOf l) where
-  edges-sum : {edges : ℕ} → edges ≡ sum (λ t. getD l (4 + n + t) 0) 0 n → edges ≡ additions (nOf l) (edgeCountOf l)
+module _ (l : List ℕ) {n x : ℕ} (x-is : x ≡ getD l 1 0) (n-is : n ≡ x) where
+  pub edges-sum : {edges : ℕ} → edges ≡ sum (λ t. getD l (4 + n + t) 0) 0 n → edges ≡ additions (nOf l) (edgeCountOf l)
   unfolding additions edgeCountOf
-  edges-sum e = e ∙ ap (λ m. sum (λ t. getD l (4 + m + t) 0) 0 m) n-is
+  edges-sum e = e ∙ ap (λ m. sum (λ t. getD l (4 + m + t) 0) 0 m) (n-is ∙ x-is)
 
   vertices-sum : {vertices : ℕ} → vertices ≡ sum (λ t. getD l (3 + t) 0) 0 (n + 1) → vertices ≡ allVertices (nOf l) (vertexCountOf l)
   unfolding allVertices vertexCountOf
-  vertices-sum e = let o : n + 1 ≡ suc (nOf l) = omega (arith, n-is) in e ∙ ap (λ m. sum (λ t. getD l (3 + t) 0) 0 m) o
+  vertices-sum e = let o : n + 1 ≡ suc (nOf l) = omega (arith, n-is, x-is) in e ∙ ap (λ m. sum (λ t. getD l (3 + t) 0) 0 m) o
 
-  selected : {edges vertices roots s : ℕ} → edges ≡ additions (nOf l) (edgeCountOf l)
-      → vertices ≡ allVertices (nOf l) (vertexCountOf l) → roots ≡ getD l 3 0
+  pub selected : {edges vertices y roots s : ℕ} → edges ≡ additions (nOf l) (edgeCountOf l)
+      → vertices ≡ sum (λ t. getD l (3 + t) 0) 0 (n + 1) → y ≡ getD l 3 0 → roots ≡ y
       → s ≡ (edges + roots) - vertices → s ≡ selections (nOf l) (vertexCountOf l) (edgeCountOf l)
   unfolding selections vertexCountOf
-  selected e v r h = h ∙ ap₂ (λ a b. a - b) (ap₂ (λ a b. a + b) e r) v
+  selected e v y-is r h = h ∙ ap₂ (λ a b. a - b) (ap₂ (λ a b. a + b) e (r ∙ y-is)) (vertices-sum v)
 
-  pub sums-put : {old mid new : List ℕ} {at m end edges vertices x roots s : ℕ}
-      → edges ≡ sum (λ t. getD l (4 + n + t) 0) 0 n → vertices ≡ sum (λ t. getD l (3 + t) 0) 0 (n + 1) → x ≡ getD l 3 0 → roots ≡ x
-      → s ≡ (edges + roots) - vertices
-      → Put old at (line additionsWord (edges ∷ [])) mid m → Put mid m (line selectionsWord (s ∷ [])) new end → Put old at (sums l) new end
-  unfolding sums
-  sums-put {old} {mid} {new} {at} {m} {end} e v x-is r h p q =
-      put-then (subst (λ k. Put old at (line additionsWord (k ∷ [])) mid m) (edges-sum e) p)
-      (subst (λ k. Put mid m (line selectionsWord (k ∷ [])) new end) (selected (edges-sum e) (vertices-sum v) (r ∙ x-is) h) q)
+pub sums-put : (l : List ℕ) {old mid new : List ℕ} {at m end a s : ℕ} → a ≡ additions (nOf l) (edgeCountOf l)
+    → s ≡ selections (nOf l) (vertexCountOf l) (edgeCountOf l)
+    → Put old at (line additionsWord (a ∷ [])) mid m → Put mid m (line selectionsWord (s ∷ [])) new end → Put old at (sums l) new end
+unfolding sums
+sums-put l {old} {mid} {new} {at} {m} {end} a-is s-is p q =
+    put-then (subst (λ k. Put old at (line additionsWord (k ∷ [])) mid m) a-is p)
+    (subst (λ k. Put mid m (line selectionsWord (k ∷ [])) new end) s-is q)
 
 -- ---- all of them
 

@@ -1,9 +1,10 @@
-// The lines that document 01 prints: the sizes of a section, and a refusal. Each function puts bytes into a lent buffer as far as it has room
-// for them, and gives the place behind them.
+// The lines that document 01 prints: the sizes of a section, and a refusal. A function that puts lines puts bytes into a lent buffer, as
+// far as it has room for them, and gives the place behind them.
 ghost use mathlib.Core.Path.{_≡_};
-ghost use Prim.Native.Nat.{suc, _-_, _≤_};
+ghost use Prim.Native.Nat.{suc, _-_, _*_, _≤_};
 ghost use Rattle.trellis.specs.Outcome.{Outcome};
-ghost use Rattle.trellis.specs.Layout.{nOf, joinedUp};
+ghost use Rattle.trellis.specs.Selections.{additions, selections};
+ghost use Rattle.trellis.specs.Layout.{nOf, vertexCountOf, edgeCountOf, joinedUp};
 ghost use Rattle.outcomes.specs.inner.Holds.{Holds};
 ghost use Rattle.text.specs.inner.Put.{Put};
 ghost use Rattle.lines.specs.Text.{entering, depthLine, sums, sizesOf, refusalLine};
@@ -37,6 +38,15 @@ fn put_depths(sizes: &[u16], n: usize, text: &mut [u8], at: usize) -> usize
     end
 }
 
+// Additions: the edges of all steps, by the counts in a section's sizes. Counts have 16 bits and there are at most 65,535 steps, so the sum
+// has 32.
+pub fn additions_of(sizes: &[u16]) -> usize
+    ensures { λ r. ⌜ (r ≡ additions (nOf (now (sizes .entry))) (edgeCountOf (now (sizes .entry)))) × (r ≤ 65535 * 65535) ⌝ }
+{
+    let n = wide(number(sizes, 1));
+    total(sizes, 4 + n, n)
+}
+
 // Selections never come out below 0; the test spares this function the proof of it.
 fn less(a: usize, b: usize) -> usize
     ensures { λ r. ⌜ r ≡ a - b ⌝ }
@@ -44,16 +54,23 @@ fn less(a: usize, b: usize) -> usize
     if a < b { 0 } else { a - b }
 }
 
-fn put_sums(sizes: &[u16], n: usize, text: &mut [u8], at: usize) -> usize
-    requires { ⌜ (n ≡ nOf (now sizes)) × (n ≤ 65535) ⌝ }
-    ensures { λ r. ⌜ Put (now (text .entry)) at (sums (now (sizes .entry))) (now (text .exit)) r ⌝ }
+// Selections, by the same counts.
+pub fn selections_of(sizes: &[u16]) -> usize
+    ensures { λ r. ⌜ (r ≡ selections (nOf (now (sizes .entry))) (vertexCountOf (now (sizes .entry))) (edgeCountOf (now (sizes .entry))))
+        × (r ≤ 65535 * 65536) ⌝ }
 {
-    let edges = total(sizes, 4 + n, n);
+    let n = wide(number(sizes, 1));
     let vertices = total(sizes, 3, n + 1);
     let roots = wide(number(sizes, 3));
-    let additions = [edges];
+    less(additions_of(sizes) + roots, vertices)
+}
+
+fn put_sums(sizes: &[u16], text: &mut [u8], at: usize) -> usize
+    ensures { λ r. ⌜ Put (now (text .entry)) at (sums (now (sizes .entry))) (now (text .exit)) r ⌝ }
+{
+    let additions = [additions_of(sizes)];
     let end = put_line(text, at, b"additions", &additions);
-    let selections = [less(edges + roots, vertices)];
+    let selections = [selections_of(sizes)];
     put_line(text, end, b"selections", &selections)
 }
 
@@ -65,7 +82,7 @@ pub fn put_sizes(sizes: &[u16], words: usize, text: &mut [u8]) -> usize
     let numbers = [wide(number(sizes, 0)), n, wide(number(sizes, 2)), words];
     let sized = put_line(text, 0, b"section", &numbers);
     let end = put_depths(sizes, n, text, sized);
-    put_sums(sizes, n, text, end)
+    put_sums(sizes, text, end)
 }
 
 // The line of a refusal: its number, and the numbers returned with it.

@@ -9,7 +9,6 @@ use native.Mathlib.Omega.{arith}
 use lib.ListN.{length, getD, take}
 use lib.Seq.{length-take-le, getD-take}
 use borrow.Author.Tests.{lt-ltb, le-ltb, ne-eqb}
-use Rattle.trellis.specs.Bounds.{mostBytes}
 use Rattle.trellis.specs.Lists.{over}
 use Rattle.trellis.specs.Word.{Word}
 use Rattle.trellis.specs.Witness.{Witness, found, nothing, witness}
@@ -30,7 +29,7 @@ use Rattle.lines.specs.Text.{sectionWord, depthWord, additionsWord, selectionsW
 use Rattle.lines.specs.Text.{entering, depthLine, sums, sizesOf, refusalLine, tableText, fileText}
 use Rattle.listing.specs.inner.Made.{textFrom}
 use Rattle.listing.proofs.Room.{anyMap, long-enough}
-use Rattle.listing.proofs.Refusals.{Refusal, file-refusal}
+use Rattle.listing.proofs.Refusals.{Small, Refusal, file-refusal}
 
 -- ---- what is printed of a section is read off its sizes
 
@@ -61,13 +60,13 @@ module _ (l m : List ℕ) (same : (i : ℕ) → i < 4 + 2 * nOf l → getD m i 0
   unfolding depthLine
   same-depth t h = ap₂ (λ v e. line depthWord (t ∷ v ∷ e ∷ [])) (same-vertices t (omega arith)) (same-entering t (omega arith))
 
-  same-additions : additions (nOf m) (edgeCountOf m) ≡ additions (nOf l) (edgeCountOf l)
+  pub same-additions : additions (nOf m) (edgeCountOf m) ≡ additions (nOf l) (edgeCountOf l)
   unfolding additions
   same-additions =
       ap (λ n. additions n (edgeCountOf m)) same-n
       ∙ sum-eq (edgeCountOf m) (edgeCountOf l) 0 (nOf l) (λ t a b. same-edges t (omega arith))
 
-  same-selections : selections (nOf m) (vertexCountOf m) (edgeCountOf m) ≡ selections (nOf l) (vertexCountOf l) (edgeCountOf l)
+  pub same-selections : selections (nOf m) (vertexCountOf m) (edgeCountOf m) ≡ selections (nOf l) (vertexCountOf l) (edgeCountOf l)
   unfolding selections allVertices
   same-selections =
       ap₂ (λ a b. a - b) (ap₂ (λ a b. a + b) same-additions (same-vertices 0 (omega arith)))
@@ -87,19 +86,33 @@ module _ (l m : List ℕ) (same : (i : ℕ) → i < 4 + 2 * nOf l → getD m i 0
       (ap (λ n. joinedUp (depthLine m) (suc n)) same-n ∙ joined-same (depthLine m) (depthLine l) (suc (nOf l)) same-depth) same-sums)
 
 -- our section has its counts
-counts-inside : (q n states : ℕ) (table : List Word) → 4 + 2 * nOf (sectionOf q n states table) ≤ length (sectionOf q n states table)
+pub counts-inside : (q n states : ℕ) (table : List Word) → 4 + 2 * nOf (sectionOf q n states table) ≤ length (sectionOf q n states table)
 unfolding sectionLength symbolsPlace pairsPlace goalsPlace rootsPlace
 counts-inside q n states table = omega (arith, own-length q n states table)
 
-sizes-over : (words q n states : ℕ) (table : List Word) (buffer : List ℕ)
-    → sizesOf words (over (sectionSizes q n states table) buffer) ≡ sizesOf words (sectionOf q n states table)
-unfolding sectionSizes
-sizes-over words q n states table buffer =
-    let l = sectionOf q n states table in
-    let e = own-n q n states table in
-    let long = length-take-le (4 + 2 * n) l (omega (arith, e, counts-inside q n states table)) in
-    same-sizes l (over (take (4 + 2 * n) l) buffer)
-    (λ i h. over-front (take (4 + 2 * n) l) buffer i (omega (arith, e, long)) ∙ getD-take (4 + 2 * n) l i 0 (omega (arith, e))) words
+module _ (q n states : ℕ) (table : List Word) (buffer : List ℕ) where
+  abbrev own : List ℕ
+  own = sectionOf q n states table
+
+  abbrev sized : List ℕ
+  sized = over (sectionSizes q n states table) buffer
+
+  sizes-agree : (i : ℕ) → i < 4 + 2 * nOf own → getD sized i 0 ≡ getD own i 0
+  unfolding sectionSizes
+  sizes-agree i h =
+      let e = own-n q n states table in
+      let long = length-take-le (4 + 2 * n) own (omega (arith, e, counts-inside q n states table)) in
+      over-front (take (4 + 2 * n) own) buffer i (omega (arith, e, long)) ∙ getD-take (4 + 2 * n) own i 0 (omega (arith, e))
+
+  sizes-over : (words : ℕ) → sizesOf words sized ≡ sizesOf words own
+  sizes-over words = same-sizes own sized sizes-agree words
+
+  pub additions-over : additions (nOf sized) (edgeCountOf sized) ≡ additions (nOf own) (edgeCountOf own)
+  additions-over = same-additions own sized sizes-agree
+
+  pub selections-over : selections (nOf sized) (vertexCountOf sized) (edgeCountOf sized)
+      ≡ selections (nOf own) (vertexCountOf own) (edgeCountOf own)
+  selections-over = same-selections own sized sizes-agree
 
 -- ---- case by case of the file
 
@@ -115,7 +128,7 @@ module _ (map sizes : List ℕ) where
         ≡ tableText q n states table w
     unfolding merged written textFrom tableText sizedBy
     by-witness (found t i j k) = refl
-    by-witness nothing = short-printed ∙ sizes-over (length table) q n states table sizes
+    by-witness nothing = short-printed ∙ sizes-over q n states table sizes (length table)
       where
         short-printed : textFrom (length table) (written q n states table map [] .answer) (over (sectionSizes q n states table) sizes)
             ≡ sizesOf (length table) (over (sectionSizes q n states table) sizes)
@@ -127,7 +140,7 @@ module _ (map sizes : List ℕ) where
     unfolding mergedTable sizedTable
     by-table room = simp (le-ltb (length map) (mapLength n table) room) (by-witness (witness n table))
 
-  module _ (map-long : anyMap ≤ length map) (file : List ℕ) (short : length file ≤ mostBytes) where
+  module _ (map-long : anyMap ≤ length map) (file : List ℕ) (short : Small (length file)) where
     by-file : (f : TableFile) → tableFile file ≡ f
         → textFrom (wordCount file) (mergedFile map [] f .answer) (sizedFile map sizes f) ≡ fileText f
     unfolding mergedFile sizedFile fileText

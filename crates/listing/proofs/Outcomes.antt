@@ -22,7 +22,7 @@ use Rattle.merge.specs.declared.Merged.{Merged}
 use Rattle.text.specs.inner.Put.{Put}
 use Rattle.text.proofs.Putting.{front-holds, front-end, front-put}
 use Rattle.lines.specs.Text.{refusalLine, fileText, textOf}
-use Rattle.listing.specs.Listing.{Listing, listedOutcome, left, listing}
+use Rattle.listing.specs.Listing.{Listing, listedOutcome, left, inBuffer, listing}
 use Rattle.listing.specs.inner.Made.{textFrom, anyText, TextMade}
 use Rattle.listing.specs.declared.Listed.{Listed}
 use Rattle.listing.specs.declared.Listed.the-variants.{Text}
@@ -50,53 +50,54 @@ module _ (file : List ℕ) {old new : List ℕ} {end : ℕ} where
       ≡ textFrom (wordCount file) (merging file (replicate anyMap 0) [] .answer) (sizing file (replicate anyMap 0) none) =
       ap (λ k. textFrom k (outcomeOf r) sizes) (w-is ∙ x-is)
       ∙ ap₂ (λ o l. textFrom (wordCount file) o l) (M .answerIs) (M .sizesAre) in
-      let g = measured-text (replicate anyMap 0) none (le-of-eq (sym (length-replicate {A = ℕ} anyMap 0))) file h in
+      let g = measured-text (replicate anyMap 0) none (le-of-eq (sym (length-replicate {A = ℕ} anyMap 0))) file (omega arith) in
       record { put = subst (λ t. Put old 0 t new end) (f ∙ g ∙ sym e) p; short = text-short file }
 
 -- what is left of a buffer by whether it is too short for the text
 abbrev leaves : List ℕ → List ℕ → Bool → Listing
 leaves made text short = cond short (left (shortBuffer (length made)) text) (left (success (length made)) (over made text))
 
-module _ (file : List ℕ) {old made : List ℕ} {end : ℕ} (M : TextMade file old made end) (room : anyText ≤ length old) where
-  fits : length (textOf file) ≤ length old
-  fits = omega (arith, M .short)
+pub whole-short : (made text : List ℕ) → length text < length made → left (shortBuffer (length made)) text ≡ inBuffer made text
+unfolding inBuffer
+whole-short made text h = sym (ap (leaves made text) (lt-ltb (length text) (length made) h))
 
-  end-is : end ≡ length (textOf file)
-  end-is = front-end (M .put) fits
+pub whole-put : (made text : List ℕ) {new : List ℕ} {far : ℕ} → length made ≤ length text → Put text 0 made new far
+    → left (success (length made)) new ≡ inBuffer made text
+unfolding inBuffer
+whole-put made text h p =
+    ap (λ t. left (success (length made)) t) (front-put p h) ∙ sym (ap (leaves made text) (le-ltb (length text) (length made) h))
 
+-- a text made at the front of a buffer that has room for it is there whole
+module _ {vs old made : List ℕ} {end : ℕ} (p : Put old 0 vs made end) (fits : length vs ≤ length old) where
   pub end-inside : end ≤ length made
-  end-inside = omega (arith, M .put .len, end-is, fits)
+  end-inside = omega (arith, p .len, front-end p fits, fits)
 
   pub end-taken : end ≡ length (take end made)
   end-taken = sym (length-take-le end made end-inside)
 
-  pub listed-short : (text : List ℕ) → length text < end → left (shortBuffer end) text ≡ listing file text
-  unfolding listing
-  listed-short text h =
-      let l : ltb (length text) (length (textOf file)) ≡ true = lt-ltb (length text) (length (textOf file)) (omega (arith, end-is)) in
-      ap (λ k. left (shortBuffer k) text) end-is
-      ∙ sym (ap (leaves (textOf file) text) l)
+  pub taken-whole : (text : List ℕ) → inBuffer (take end made) text ≡ inBuffer vs text
+  taken-whole text = ap (λ t. inBuffer t text) (front-holds p fits)
 
-  pub listed-text : (text : List ℕ) {new : List ℕ} {far : ℕ} → end ≤ length text → Put text 0 (take end made) new far
-      → left (success end) new ≡ listing file text
-  unfolding listing
-  listed-text text {new} {far} h p =
-      let l : ltb (length text) (length (textOf file)) ≡ false = le-ltb (length text) (length (textOf file)) (omega (arith, end-is)) in
-      let q : Put text 0 (textOf file) new far = subst (λ t. Put text 0 t new far) (front-holds (M .put) fits) p in
-      let n : new ≡ over (textOf file) text = front-put q (omega (arith, end-is)) in
-      ap₂ (λ k t. left (success k) t) end-is n
-      ∙ sym (ap (leaves (textOf file) text) l)
+pub listed : (file text : List ℕ) {old made : List ℕ} {end : ℕ} → TextMade file old made end → anyText ≤ length old → {l : Listing}
+    → l ≡ inBuffer (take end made) text → l ≡ listing file text
+unfolding listing
+listed file text M room e = e ∙ taken-whole (M .put) (omega (arith, M .short)) text
 
 -- what callers know: a text that was written stands in the buffer
-pub written-inside : (file text : List ℕ) {new : List ℕ} {r : Listed} {k : ℕ}
-    → left (listedOutcome r) new ≡ listing file text → r ≡ Text k → k ≤ length new
-unfolding listing
-written-inside file text {new} {r} {k} e f =
-    go (ltb (length text) (length (textOf file))) (ap (λ x. left (listedOutcome x) new) (sym f) ∙ e)
+pub written-inside : (made text : List ℕ) {new : List ℕ} {r : Listed} {k : ℕ}
+    → left (listedOutcome r) new ≡ inBuffer made text → r ≡ Text k → k ≤ length new
+unfolding inBuffer
+written-inside made text {new} {r} {k} e f =
+    go (ltb (length text) (length made)) (ap (λ x. left (listedOutcome x) new) (sym f) ∙ e)
   where
-    go : (b : Bool) → left (success k) new ≡ leaves (textOf file) text b → k ≤ length new
+    go : (b : Bool) → left (success k) new ≡ leaves made text b → k ≤ length new
     go true e = absurd (omega (arith, ap (λ (m : Listing). m .outcome .number) e))
     go false e =
-        let v : k ≡ length (textOf file) = ap (λ (m : Listing). getD (m .outcome .values) 0 0) e in
-        let n : length new ≡ length (over (textOf file) text) = ap (λ (m : Listing). length (m .text)) e in
-        omega (arith, length-append (textOf file) (drop (length (textOf file)) text))
+        let v : k ≡ length made = ap (λ (m : Listing). getD (m .outcome .values) 0 0) e in
+        let n : length new ≡ length (over made text) = ap (λ (m : Listing). length (m .text)) e in
+        omega (arith, length-append made (drop (length made) text))
+
+pub listed-inside : (file text : List ℕ) {new : List ℕ} {r : Listed} {k : ℕ}
+    → left (listedOutcome r) new ≡ listing file text → r ≡ Text k → k ≤ length new
+unfolding listing
+listed-inside file text e f = written-inside (textOf file) text e f

@@ -1,4 +1,4 @@
--- The refusals of a table file, in one record: the number is below 7, and the numbers returned are few and small, since none of them is
+-- The refusals of a table file, in one record: the number is 1 to 6, and the numbers returned are few and small, since none of them is
 -- larger than the file is long. So a refusal is told by its number from the 7 that answers for a table with a section, and its line is
 -- short.
 use mathlib.Core.Path.{_≡_, refl, ap, subst}
@@ -19,26 +19,24 @@ use Rattle.trellis.proofs.Witness.{witness-first}
 use Rattle.reader.specs.Fields.{wordCount, lengthBad}
 use Rattle.table.specs.File.{sizeOutside, wordBad, orderBad, firstSize, firstBad, firstNotAbove}
 use Rattle.table.specs.File.{refused, accepted, tableFile, fileOutcome}
+use Rattle.text.specs.inner.Digits.{AllBelow}
 
--- a number of at most five digits
+-- a number of at most six digits
 abbrev pub Small : ℕ → Type 0
-Small x = x < 10 ^ 5
-
-abbrev pub AllSmall : List ℕ → Type 0
-AllSmall [] = Unit
-AllSmall (x ∷ xs) = Small x × AllSmall xs
+Small x = x < 10 ^ 6
 
 pub record Refusal (o : Outcome) : Type 0 where
+  pub some : 0 < o .number
   pub low : o .number < 7
   pub few : length (o .values) ≤ 4
-  pub small : AllSmall (o .number ∷ o .values)
+  pub small : AllBelow 6 (o .number ∷ o .values)
 
-one-value : (k x : ℕ) → k < 7 → Small x → Refusal (record { number = k; values = x ∷ [] })
-one-value k x l g = record { low = l; few = omega arith; small = (omega arith, (g, tt)) }
+one-value : (k x : ℕ) → 0 < k → k < 7 → Small x → Refusal (record { number = k; values = x ∷ [] })
+one-value k x p l g = record { some = p; low = l; few = omega arith; small = (omega arith, (g, tt)) }
 
 -- refusal 1 of input that is too long
 pub too-long : Refusal (badLength (mostBytes + 1))
-too-long = one-value 1 (mostBytes + 1) (omega arith) (omega arith)
+too-long = one-value 1 (mostBytes + 1) (omega arith) (omega arith) (omega arith)
 
 -- refusal 6
 pub witness-refusal : (n : ℕ) (table : List Word) → n ≤ mostSymbols → length table ≤ mostWords → (t i j k : ℕ)
@@ -49,7 +47,7 @@ witness-refusal n table short few t i j k e =
     let b : Small i = omega (arith, R .words .0) in
     let c : Small j = omega (arith, R .words .1) in
     let d : Small k = omega (arith, R .words .2) in
-    record { low = omega arith; few = omega arith; small = (omega arith, (a, (b, (c, (d, tt))))) }
+    record { some = omega arith; low = omega arith; few = omega arith; small = (omega arith, (a, (b, (c, (d, tt))))) }
 
 -- refusals 1 to 4
 refusals : (a b d f : Bool) (fileLength place bad low : ℕ) (q n S : ℕ) (words : List Word)
@@ -58,17 +56,17 @@ refusals : (a b d f : Bool) (fileLength place bad low : ℕ) (q n S : ℕ) (word
     (cond d (refused (badWord bad)) (cond f (refused (notAbove low)) (accepted q n S words)))) ≡ refused o
     → Refusal o
 refusals true b d f l p x y q n S ws hl hp hx hy e =
-    subst Refusal (ap fileOutcome e) (one-value 1 l (omega arith) hl)
+    subst Refusal (ap fileOutcome e) (one-value 1 l (omega arith) (omega arith) hl)
 refusals false true d f l p x y q n S ws hl hp hx hy e =
-    subst Refusal (ap fileOutcome e) (one-value 2 p (omega arith) hp)
+    subst Refusal (ap fileOutcome e) (one-value 2 p (omega arith) (omega arith) hp)
 refusals false false true f l p x y q n S ws hl hp hx hy e =
-    subst Refusal (ap fileOutcome e) (one-value 3 x (omega arith) (hx refl))
+    subst Refusal (ap fileOutcome e) (one-value 3 x (omega arith) (omega arith) (hx refl))
 refusals false false false true l p x y q n S ws hl hp hx hy e =
-    subst Refusal (ap fileOutcome e) (one-value 4 y (omega arith) (hy refl))
+    subst Refusal (ap fileOutcome e) (one-value 4 y (omega arith) (omega arith) (hy refl))
 refusals false false false false l p x y q n S ws hl hp hx hy e = let z : _≡_ {A = ℕ} 0 1 = cc in absurd (omega arith)
 
-module _ (file : List ℕ) (short : length file ≤ mostBytes) where
-  count-small : lengthBad file ≡ false → wordCount file ≤ mostBytes
+module _ (file : List ℕ) (short : Small (length file)) where
+  count-small : lengthBad file ≡ false → Small (wordCount file)
   unfolding lengthBad
   count-small e =
       let p = neither (ltb (length file) 5) (not (eqb (length file) (5 + 4 * wordCount file))) e in

@@ -30,7 +30,7 @@ abbrev pub anyMap : ℕ
 anyMap = (mostSymbols + 1) * mostWords
 
 -- the sizes, the roots and the goals, and three numbers for each edge
-abbrev anySection : ℕ
+abbrev pub anySection : ℕ
 anySection = 4 + 2 * mostSymbols + 2 * mostStates + 3 * mostSymbols * mostWords
 
 sum-of-same : (m at k : ℕ) → sum (λ u. m) at k ≡ k * m

@@ -21,7 +21,10 @@ pub record Listing : Type 0 where
 abbrev pub left : Outcome → List ℕ → Listing
 left o text = record { outcome = o; text = text }
 
+-- a text in a lent buffer: 10 where it is too short
+unfoldable pub inBuffer : List ℕ → List ℕ → Listing
+inBuffer text buffer =
+    cond (ltb (length buffer) (length text)) (left (shortBuffer (length text)) buffer) (left (success (length text)) (over text buffer))
+
 unfoldable pub listing : List ℕ → List ℕ → Listing
-listing file buffer =
-    cond (ltb (length buffer) (length (textOf file))) (left (shortBuffer (length (textOf file))) buffer)
-    (left (success (length (textOf file))) (over (textOf file) buffer))
+listing file buffer = inBuffer (textOf file) buffer

@@ -4,7 +4,7 @@ ghost use mathlib.Core.Path.{_≡_};
 ghost use Rattle.merge.specs.Answer.{outcomeOf};
 ghost use Rattle.outcomes.specs.inner.Holds.{Holds};
 ghost use Rattle.text.specs.inner.Put.{Put};
-ghost use Rattle.listing.specs.Listing.{left, listedOutcome, listing};
+ghost use Rattle.listing.specs.Listing.{left, listedOutcome, inBuffer, listing};
 ghost use Rattle.listing.specs.inner.Made.{textFrom, TextMade};
 use lines::put_refusal;
 use lines::put_sizes;
@@ -22,7 +22,7 @@ use trellis::MOST_WORDS;
 const TOO_LONG: usize = MOST_BYTES + 1;
 
 // As long as the map of any table: a number for each word at each depth.
-const ANY_MAP: usize = (MOST_SYMBOLS + 1) * MOST_WORDS;
+pub const ANY_MAP: usize = (MOST_SYMBOLS + 1) * MOST_WORDS;
 
 // Bytes that are enough for every text: it has at most twelve lines, each of a word and at most five numbers of at most five digits.
 pub const ANY_TEXT: usize = 1024;
@@ -67,15 +67,23 @@ fn put_text(file: &[u8], text: &mut [u8]) -> usize
     put_answer(answer, wide(reader::word_count(file)), &sizes, text)
 }
 
+// Copies a text to the front of `text`, where there is room for it.
+pub fn put_whole(made: &[u8], text: &mut [u8]) -> Listed
+    ensures { λ r. ⌜ left (listedOutcome r) (now (text .exit)) ≡ inBuffer (now (made .entry)) (now (text .entry)) ⌝ }
+{
+    let length = made.len();
+    if text.len() < length {
+        return Listed::Short(length);
+    }
+    put_bytes(text, 0, made);
+    Listed::Text(length)
+}
+
 // Writes the listing of the table in `file`, or the line of its refusal, to the front of `text`.
 pub fn listing(file: &[u8], text: &mut [u8]) -> Listed
     ensures { λ r. ⌜ left (listedOutcome r) (now (text .exit)) ≡ listing (now (file .entry)) (now (text .entry)) ⌝ }
 {
     let mut made = [0u8; ANY_TEXT];
     let length = put_text(file, &mut made);
-    if text.len() < length {
-        return Listed::Short(length);
-    }
-    put_bytes(text, 0, &made[..length]);
-    Listed::Text(length)
+    put_whole(&made[..length], text)
 }

@@ -26,7 +26,8 @@ pub fn byte_at(file: &[u8], at: usize) -> u8
     if at < file.len() { file[at] } else { 0 }
 }
 
-fn two_bytes(low: u8, high: u8) -> u16
+// The number in two bytes, low byte first.
+pub fn two_bytes(low: u8, high: u8) -> u16
     ensures { λ r. ⌜ r ≡ twoBytes low high ⌝ }
 {
     (low as u16) + 256 * (high as u16)

@@ -2,3 +2,4 @@
 pub mod Putting
 pub mod Decimal
 pub mod Spelling
+pub mod Short

@@ -42,7 +42,7 @@ put-then {a} {b} {c} {us} {vs} {at} {m} {e} p q = record {
 }
 
 -- one byte, where there is room and where there is none
-take-set : (l : List ℕ) (at v : ℕ) → at < length l → take (suc at) (set l at v) ≡ take at l ++ (v ∷ [])
+pub take-set : {A : Type 0} (l : List A) (at : ℕ) (v : A) → at < length l → take (suc at) (set l at v) ≡ take at l ++ (v ∷ [])
 take-set [] at v h = absurd (not-suc-le-zero h)
 take-set (x ∷ l) zero v h = refl
 take-set (x ∷ l) (suc at) v h = ap (λ r. x ∷ r) (take-set l at v (le-of-suc-le-suc h))
@@ -78,31 +78,32 @@ put-full old at v h = record {
 
 -- ---- pieces of one kind, one for each element of a list
 
-pub record Pieces (piece : ℕ → List ℕ) (old : List ℕ) (at : ℕ) (xs now : List ℕ) (end i : ℕ) : Type 0 where
+pub record Pieces {A : Type 0} (piece : A → List ℕ) (old : List ℕ) (at : ℕ) (xs : List A) (now : List ℕ) (end i : ℕ) : Type 0 where
   pub i-le : i ≤ length xs
   pub put : Put old at (flatMap piece (take i xs)) now end
 
-pub pieces-start : {piece : ℕ → List ℕ} {old xs : List ℕ} {at : ℕ} → Pieces piece old at xs old at 0
+pub pieces-start : {A : Type 0} {piece : A → List ℕ} {old : List ℕ} {xs : List A} {at : ℕ} → Pieces piece old at xs old at 0
 unfolding flatMap
 pieces-start = record { i-le = omega arith; put = put-none }
 
-pub pieces-next : {piece : ℕ → List ℕ} {old xs now new : List ℕ} {at end far i : ℕ}
-    → Pieces piece old at xs now end i → i < length xs → Put now end (piece (getD xs i 0)) new far → Pieces piece old at xs new far (i + 1)
+pub pieces-next : {A : Type 0} (none : A) {piece : A → List ℕ} {old : List ℕ} {xs : List A} {now new : List ℕ} {at end far i : ℕ}
+    → Pieces piece old at xs now end i → i < length xs → Put now end (piece (getD xs i none)) new far
+    → Pieces piece old at xs new far (i + 1)
 unfolding flatMap
-pieces-next {piece} {old} {xs} {now} {new} {at} {end} {far} {i} P h p = record {
+pieces-next none {piece} {old} {xs} {now} {new} {at} {end} {far} {i} P h p = record {
   i-le = omega arith;
   put = subst (λ r. Put old at r new far) same (put-then (P .put) p);
 }
   where
-    same : flatMap piece (take i xs) ++ piece (getD xs i 0) ≡ flatMap piece (take (i + 1) xs)
+    same : flatMap piece (take i xs) ++ piece (getD xs i none) ≡ flatMap piece (take (i + 1) xs)
     same =
         let e : i + 1 ≡ suc i = omega arith in
-        ap (λ r. flatMap piece (take i xs) ++ r) (sym (append-nil (piece (getD xs i 0))))
-        ∙ sym (flatMap-append piece (take i xs) (getD xs i 0 ∷ []))
-        ∙ ap (flatMap piece) (sym (take-suc xs i 0 h))
+        ap (λ r. flatMap piece (take i xs) ++ r) (sym (append-nil (piece (getD xs i none))))
+        ∙ sym (flatMap-append piece (take i xs) (getD xs i none ∷ []))
+        ∙ ap (flatMap piece) (sym (take-suc xs i none h))
         ∙ ap (λ k. flatMap piece (take k xs)) (sym e)
 
-pub pieces-all : {piece : ℕ → List ℕ} {old xs now : List ℕ} {at end i : ℕ}
+pub pieces-all : {A : Type 0} {piece : A → List ℕ} {old : List ℕ} {xs : List A} {now : List ℕ} {at end i : ℕ}
     → Pieces piece old at xs now end i → length xs ≤ i → Put old at (flatMap piece xs) now end
 pieces-all {piece} {old} {xs} {now} {at} {end} {i} P h = subst (λ r. Put old at (flatMap piece r) now end) (take-all i xs h) (P .put)
 

@@ -1,2 +1,3 @@
 -- What only the contracts of inner functions cite.
 pub mod Put
+pub mod Digits

@@ -29,7 +29,7 @@ loop-less c = search needs
 
 loop-again : tie.Need-loop-again Inv-loop μ-loop
 loop-again c = let p = c .before .before in let l = p .before .before .before in
-    pieces-next (l .before .loop .inv) (l .loop-test .taken) (p .put-byte .ensures)
+    pieces-next 0 (l .before .loop .inv) (l .loop-test .taken) (p .put-byte .ensures)
 
 same-length : tie.Need-same-length Inv-loop μ-loop
 same-length c = c .before .loop .inv .put .len

@@ -38,7 +38,7 @@ loop-less c = search needs
 
 loop-again : tie.Need-loop-again Inv-loop μ-loop
 loop-again c = let p = c .before .before in let l = p .before .before .before in
-    pieces-next (l .before .loop .inv) (l .loop-test .taken) (p .put-number .ensures)
+    pieces-next 0 (l .before .loop .inv) (l .loop-test .taken) (p .put-number .ensures)
 
 put-byte-requires : tie.Need-put-byte-requires Inv-loop μ-loop
 put-byte-requires c κs = search needs
