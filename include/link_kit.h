@@ -1,6 +1,6 @@
-/* The link kit for C and C++ on x86-64: link with liblink_kit.a, which `rt staticlib link_kit` writes. Table files, sections, frames and outcomes are
- * those of document 01, the customer's paper on tables, sections and outcomes, with what the requests of document 02 changed; docs/FORMATS.md says all
- * of them, with a worked table. The outcome numbers are the LINK_ constants below.
+/* The link kit for C and C++ on x86-64, five functions: link with liblink_kit.a, which `rt staticlib link_kit` writes. Table files, sections, frames,
+ * block sheets and outcomes are those of document 01, the customer's paper on tables, sections and outcomes, with what the requests of document 02
+ * changed; docs/FORMATS.md says all of them, with a worked table. The outcome numbers are the LINK_ constants below.
  *
  * Each call returns an outcome number and puts the numbers returned with it into `values` in order, 0 in the places not used; one over 4,294,967,295
  * is stored as 4,294,967,295. Calls end for all contents of their arguments, keep nothing between them, and use no heap.
@@ -50,7 +50,9 @@ extern "C" {
 /* Lengths that are enough for every table. */
 #define LINK_ANY_FILE LINK_FILE_LEN(LINK_MOST_WORDS)                  /* 4,101 bytes */
 #define LINK_ANY_MAP LINK_MAP_LEN(LINK_MOST_WORDS, LINK_MOST_SYMBOLS) /* 9,216 numbers */
-#define LINK_ANY_TEXT 1024u                                           /* bytes */
+#define LINK_ANY_TEXT 1024u                                           /* bytes of a listing */
+#define LINK_ANY_SHEET 8192u                                          /* bytes of a block sheet, whatever its input */
+#define LINK_MOST_INPUT 323919u /* bytes of a block sheet's input: whatever follows them changes nothing, so a caller need not read it */
 /* 24,628 numbers: the sizes, all states as roots and as goals, and as many edges as words at each step. */
 #define LINK_ANY_SECTION (4u + 2u * LINK_MOST_SYMBOLS + 2u * LINK_MOST_STATES + 3u * LINK_MOST_SYMBOLS * LINK_MOST_WORDS)
 
@@ -60,6 +62,7 @@ extern "C" {
 #define LINK_READ_BACK_STACK 19456u
 #define LINK_DECODE_STACK 28160u /* 28,672 when S went to 64 */
 #define LINK_LISTING_STACK 55296u
+#define LINK_BLOCK_SHEET_STACK 66560u
 
 /* Merges a table file. Success returns the section's length; the map's place t W + i is then the vertex of word i at depth t.
  * Outcomes 0 to 7, checked in the order 1, 2, 3, 4, 5, 6, 7. */
@@ -83,6 +86,15 @@ uint32_t link_decode(const uint16_t *sections, size_t sections_len, size_t k, co
 /* Writes the printed sizes of a table's section as text, or the line of its refusal. Success, also for a table that is refused, returns the text's
  * length; no 0 byte is put behind it. Outcomes 0 and 10. */
 uint32_t link_listing(const uint8_t *file, size_t file_len, uint8_t *text, size_t text_len, uint32_t values[4]);
+
+/* Writes the block sheet of an input as text, or the line of its refusal. The input is K in one byte, B in two, low byte first, a section index of
+ * one byte for each block, then K table files one behind another; a missing byte of K or B counts as 0. The sheet has a line `block` for each block,
+ * with its index, its section and that section's additions and selections, then a line `total` with both sums.
+ * Refusals are text here, the first one met in this order: 8 with K if it is outside its bounds; 9 with B if it is outside its bounds or there are
+ * fewer indices; 9 with the first block whose index is not below K; 1, 2, 3, 4 or 6 of the first table that has one, a table cut short as 1 with the
+ * bytes that it has; 8 with K for bytes left over. Success, also for an input that is refused, returns the text's length; no 0 byte is put behind it.
+ * Outcomes 0 and 10. */
+uint32_t link_block_sheet(const uint8_t *input, size_t input_len, uint8_t *text, size_t text_len, uint32_t values[4]);
 
 #ifdef __cplusplus
 }

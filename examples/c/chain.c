@@ -1,5 +1,5 @@
-/* Merges the table of labels 00 and 11 (marked case 3) and prints its sizes, decodes two blocks received as 01 and 11 (marked case 7), and prints the
- * path. Valid C and C++. */
+/* Merges the table of labels 00 and 11 (marked case 3) and prints its sizes, decodes two blocks received as 01 and 11 (marked case 7), prints the
+ * path, and prints what both blocks cost. Valid C and C++. */
 #include "link_kit.h"
 
 #include <stdio.h>
@@ -13,6 +13,19 @@ static uint16_t section[LINK_ANY_SECTION];
 static int refused(const char *call, uint32_t number, const uint32_t values[4]) {
     fprintf(stderr, "%s: refused %u, %u %u %u %u\n", call, number, values[0], values[1], values[2], values[3]);
     return 1;
+}
+
+/* The sheet of two blocks over one section: K, B low byte first, the section of each block, the table. */
+static int print_sheet(void) {
+    static uint8_t text[LINK_ANY_SHEET];
+    uint8_t input[5 + sizeof file] = {1, 2, 0, 0, 0};
+    uint32_t values[4];
+    memcpy(input + 5, file, sizeof file);
+    uint32_t number = link_block_sheet(input, sizeof input, text, sizeof text, values);
+    if (number != LINK_SUCCESS)
+        return refused("block sheet", number, values);
+    fwrite(text, 1, values[0], stdout);
+    return 0;
 }
 
 int main(void) {
@@ -47,5 +60,5 @@ int main(void) {
     for (unsigned b = 0; b < 2; b++)
         printf("block %u: label %u%u, goal %u, distance from state 0 onward %u\n", b, labels[b] >> 2 & 3, labels[b] & 3, goals[b],
                costs[LINK_COST_PLACE(b, 0)]);
-    return 0;
+    return print_sheet();
 }

@@ -49,7 +49,7 @@ pub enum Decoded {
     NoPath,
 }
 
-/// What the listing answers.
+/// What the listing and the block sheet answer.
 #[derive(Clone, Copy, PartialEq, Eq, Debug)]
 pub enum Listed {
     /// The text's length: the text is written.

@@ -1,7 +1,7 @@
-//! The link kit for Rust: tables merged into trellis sections, sections read back, chains of blocks decoded, sizes listed. Safe calls of `liblink_kit.a`,
-//! whose every answer and every place of every buffer is proved to be what document 01 says, the customer's paper on tables, sections and outcomes, with
-//! what the requests of document 02 changed. Formats and outcomes are in `docs/FORMATS.md`, with a worked table. Nothing here allocates or keeps anything
-//! between calls.
+//! The link kit for Rust: tables merged into trellis sections, sections read back, chains of blocks decoded, sizes listed, block sheets added up.
+//! Safe calls of `liblink_kit.a`, whose every answer and every place of every buffer is proved to be what document 01 says, the customer's paper on
+//! tables, sections and outcomes, with what the requests of document 02 changed. Formats and outcomes are in `docs/FORMATS.md`, with a worked table.
+//! Nothing here allocates or keeps anything between calls.
 //!
 //! ```
 //! use link_kit::{ANY_SECTION, COSTS_A_BLOCK, Decoded, Frame, Merged, Room};
@@ -34,6 +34,10 @@ pub const ANY_MAP: usize = 9 * 1024;
 pub const ANY_SECTION: usize = 4 + 2 * 8 + 2 * MOST_STATES + 3 * 8 * 1024;
 /// A text buffer long enough for every listing.
 pub const ANY_TEXT: usize = 1024;
+/// A text buffer long enough for every block sheet.
+pub const ANY_SHEET: usize = 8192;
+/// A buffer long enough for the input of every block sheet: whatever follows these bytes changes nothing, so a caller need not read it.
+pub const MOST_INPUT: usize = 323_919;
 /// The most states of a table or section. The ends of a chain are below it.
 pub const MOST_STATES: usize = 16;
 /// The most sections of a chain.
@@ -155,5 +159,27 @@ pub fn decode(frame: &Frame, room: Room) -> Decoded {
 pub fn listing(file: &[u8], text: &mut [u8]) -> Listed {
     let mut values = [0; 4];
     let number = numbers::listing(file, text, &mut values);
+    Listed::of(number, values)
+}
+
+/// Writes the block sheet of an input, a line for each block with what its section costs and then the totals, or the line of a refusal. The input is
+/// K in one byte, B in two, low byte first, the section of each block in one byte, then K table files one behind another.
+///
+/// ```
+/// use link_kit::{ANY_SHEET, Listed};
+/// // Two blocks over one section, that of the labels 00 and 11: four edges, and one vertex where two of them meet.
+/// let input = [1, 2, 0, 0, 0, 2, 2, 1, 2, 0, 0, 0, 0, 0, 0, 0, 5, 0];
+/// let mut text = [0; ANY_SHEET];
+/// let Listed::Text(length) = link_kit::block_sheet(&input, &mut text) else { panic!() };
+/// assert_eq!(&text[..length], b"block 0 0 4 1\nblock 1 0 4 1\ntotal 8 2\n");
+/// assert_eq!(link_kit::block_sheet(&input, &mut text[..length - 1]), Listed::Short(length));
+///
+/// // Without its last byte the table is cut short.
+/// let Listed::Text(length) = link_kit::block_sheet(&input[..17], &mut text) else { panic!() };
+/// assert_eq!(&text[..length], b"refused 1 12\n");
+/// ```
+pub fn block_sheet(input: &[u8], text: &mut [u8]) -> Listed {
+    let mut values = [0; 4];
+    let number = numbers::block_sheet(input, text, &mut values);
     Listed::of(number, values)
 }

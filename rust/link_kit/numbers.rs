@@ -1,5 +1,5 @@
-//! The archive's four functions as they are, over slices: each returns document 01's number and fills `values` with the numbers returned with it, 0 in
-//! the places not used. The only declarations of the archive in Rust, and the only unsafe code, are here.
+//! The archive's five functions as they are, over slices: each returns document 01's number and fills `values` with the numbers returned with it,
+//! 0 in the places not used. The only declarations of the archive in Rust, and the only unsafe code, are here.
 
 use super::{Frame, Room};
 
@@ -42,6 +42,13 @@ unsafe extern "C" {
         values: &mut [u32; 4],
     ) -> u32;
     fn link_listing(file: *const u8, file_len: usize, text: *mut u8, text_len: usize, values: &mut [u32; 4]) -> u32;
+    fn link_block_sheet(
+        input: *const u8,
+        input_len: usize,
+        text: *mut u8,
+        text_len: usize,
+        values: &mut [u32; 4],
+    ) -> u32;
 }
 
 /// [`merge`](super::merge) in numbers.
@@ -97,4 +104,10 @@ pub fn decode(frame: &Frame, room: Room, values: &mut [u32; 4]) -> u32 {
 pub fn listing(file: &[u8], text: &mut [u8], values: &mut [u32; 4]) -> u32 {
     // SAFETY: as for `merge`.
     unsafe { link_listing(file.as_ptr(), file.len(), text.as_mut_ptr(), text.len(), values) }
+}
+
+/// [`block_sheet`](super::block_sheet) in numbers.
+pub fn block_sheet(input: &[u8], text: &mut [u8], values: &mut [u32; 4]) -> u32 {
+    // SAFETY: as for `merge`.
+    unsafe { link_block_sheet(input.as_ptr(), input.len(), text.as_mut_ptr(), text.len(), values) }
 }

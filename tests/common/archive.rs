@@ -67,6 +67,13 @@ pub fn listing(file: &[u8], text: &mut [u8]) -> Answer {
     answer(number, values, (case.number(), case.values()))
 }
 
+pub fn block_sheet(input: &[u8], text: &mut [u8]) -> Answer {
+    let mut values = BEFORE;
+    let number = numbers::block_sheet(input, text, &mut values);
+    let case = Listed::of(number, values);
+    answer(number, values, (case.number(), case.values()))
+}
+
 /// What decoding takes.
 #[derive(Clone, Debug)]
 pub struct Frame {

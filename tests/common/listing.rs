@@ -12,14 +12,23 @@ pub fn text_of(file: &[u8]) -> String {
     let left = expected(file, 9 * 1024, 30_000);
     match left.answer.number {
         0 => sizes(file, &left.section),
-        6 => refusal(6, &left.answer.values),
-        number => refusal(number, &left.answer.values[..1]),
+        _ => refusal(&left.answer),
     }
 }
 
-fn refusal(number: u32, values: &[u32]) -> String {
-    let values: String = values.iter().map(|value| format!(" {value}")).collect();
-    format!("refused {number}{values}\n")
+/// The line of a refusal: 6 returns four numbers, every other one.
+pub fn refusal(answer: &Answer) -> String {
+    let count = if answer.number == 6 { 4 } else { 1 };
+    let values: String = answer.values[..count].iter().map(|value| format!(" {value}")).collect();
+    format!("refused {}{values}\n", answer.number)
+}
+
+/// What decoding by a section costs: its additions, E, and its selections, E - V + R.
+pub fn costs(section: &Section) -> [usize; 2] {
+    let edges: usize = section.steps.iter().map(Vec::len).sum();
+    let vertices: usize = section.vertices.iter().map(|&count| count as usize).sum();
+    let roots = section.vertices[0] as usize;
+    [edges, edges + roots - vertices]
 }
 
 /// The sizes of an accepted table and its section.
@@ -32,13 +41,11 @@ fn sizes(file: &[u8], section: &[u16]) -> String {
         let entering = depth.checked_sub(1).map_or(0, |step| section.steps[step].len());
         text += &format!("depth {depth} {vertices} {entering}\n");
     }
-    let edges: usize = section.steps.iter().map(Vec::len).sum();
-    let vertices: usize = section.vertices.iter().map(|&count| count as usize).sum();
-    let roots = section.vertices[0] as usize;
-    text + &format!("additions {edges}\nselections {}\n", edges + roots - vertices)
+    let [additions, selections] = costs(&section);
+    text + &format!("additions {additions}\nselections {selections}\n")
 }
 
-/// What the listing leaves in a buffer, and its answer: 10 or success.
+/// What the listing, or a block sheet, leaves of its text in a buffer, and its answer: 10 or success.
 pub fn put(text: &str, buffer: &mut [u8]) -> Answer {
     if buffer.len() < text.len() {
         return Answer::new(10, &[text.len()]);

@@ -1,5 +1,5 @@
-//! What the running programs share: calls of the kit, tables and chains of many kinds, and merging, sections, decoding and the listing written plainly
-//! from document 01, the customer's paper on tables, sections and outcomes, with what document 02's requests changed.
+//! What the running programs share: calls of the kit, tables and chains of many kinds, and merging, sections, decoding, the listing and the block
+//! sheet written plainly from document 01, the customer's paper on tables, sections and outcomes, with what document 02's requests changed.
 #![allow(dead_code)]
 
 pub mod archive;
@@ -11,6 +11,7 @@ pub mod listing;
 pub mod merging;
 pub mod sections;
 pub mod shapes;
+pub mod sheet;
 pub mod tables;
 
 /// The bound on states of a table, of a section and of a chain's ends; the cost table has as many places a block.
@@ -76,6 +77,12 @@ impl Differing {
                 println!("differs: {}\n  wanted {wanted:?}\n  got {got:?}", what());
             }
         }
+    }
+
+    /// Counts what another one has counted, too.
+    pub fn add(&mut self, other: &Differing) {
+        self.comparisons += other.comparisons;
+        self.differing += other.differing;
     }
 
     pub fn finish(&self) {

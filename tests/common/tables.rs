@@ -156,3 +156,20 @@ pub fn large_tables() -> [Table; 2] {
         Table { q, n, states, words }
     })
 }
+
+/// 1,024 words of q 4, n 8, S 16 with all beginnings of three symbols, each with an ending of its own: as many edges as a table can have.
+pub fn sparse(numbers: &mut Numbers) -> Table {
+    let mut endings: BTreeSet<(u16, u8)> = BTreeSet::new();
+    while endings.len() < 1024 {
+        endings.insert((numbers.below(1024) as u16, numbers.below(16) as u8));
+    }
+    let mut endings: Vec<(u16, u8)> = endings.into_iter().collect();
+    numbers.shuffle(&mut endings);
+    let word = |(i, &(rest, goal)): (usize, &(u16, u8))| ((i / 64) as u8, (i % 64) as u16 * 1024 + rest, goal);
+    Table {
+        q: 4,
+        n: 8,
+        states: 16,
+        words: endings.iter().enumerate().map(word).collect(),
+    }
+}

@@ -1,10 +1,13 @@
-//! Tables of many shapes and files with every kind of fault through all four functions of the archive: merging, the listing, reading back what was merged
-//! and decoding chains of it, each compared in its answer and in every place of every buffer with plain code written from documents 01 and 02 alone.
+//! Tables of many shapes and files with every kind of fault through all five functions of the archive: merging, the listing, reading back what was
+//! merged, decoding chains of it and block sheets, each compared in its answer and in every place of every buffer with plain code written from
+//! documents 01 and 02 alone.
 
 #[path = "../common/mod.rs"]
 mod common;
 
 mod malformed;
+mod sheet;
+mod sheet_known;
 mod states;
 
 use common::archive::{self, Buffers, byte_pattern};
@@ -194,8 +197,7 @@ fn main() {
     let mut all = Differing::default();
     let mut finish = |what: &str, tally: Tally| {
         tally.report(what);
-        all.comparisons += tally.differing.comparisons;
-        all.differing += tally.differing.differing;
+        all.add(&tally.differing);
     };
     let makers: [(&str, fn(&mut Numbers) -> Table); 3] = [
         ("linear codes", shapes::linear),
@@ -213,5 +215,6 @@ fn main() {
     let mut tally = Tally::default();
     states::run(&mut tally, &mut numbers);
     finish("1 to 70 states", tally);
+    sheet::run(&mut all, &mut numbers);
     all.finish();
 }

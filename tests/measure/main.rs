@@ -12,31 +12,15 @@ use common::frames;
 use common::hard::hard;
 use common::merging::section_of;
 use common::sections::{Edge, Section, gather, spread, usable};
-use common::tables::{Table, large_tables};
+use common::sheet::{Input, MOST_BLOCKS, MOST_SECTIONS, in_turn};
+use common::tables::{Table, large_tables, sparse};
+use link_kit::ANY_SHEET;
 use std::cmp::Ordering;
-use std::collections::BTreeSet;
 
 fn merge(table: &Table) -> Answer {
     let mut map = vec![0; 9 * 1024];
     let mut section = vec![0; 30_000];
     archive::merge(&table.file(), &mut map, &mut section)
-}
-
-/// 1,024 words of q 4, n 8, S 16 with all beginnings of three symbols, each with an ending of its own: as many edges as a table can have.
-fn sparse(numbers: &mut Numbers) -> Table {
-    let mut endings: BTreeSet<(u16, u8)> = BTreeSet::new();
-    while endings.len() < 1024 {
-        endings.insert((numbers.below(1024) as u16, numbers.below(16) as u8));
-    }
-    let mut endings: Vec<(u16, u8)> = endings.into_iter().collect();
-    numbers.shuffle(&mut endings);
-    let word = |(i, &(rest, goal)): (usize, &(u16, u8))| ((i / 64) as u8, (i % 64) as u16 * 1024 + rest, goal);
-    Table {
-        q: 4,
-        n: 8,
-        states: 16,
-        words: endings.iter().enumerate().map(word).collect(),
-    }
 }
 
 /// A usable section with as many edges as the bounds allow: 256 or 1,024 vertices at depths 3 to 5, and 1,024 edges a step between depths 2 and 6.
@@ -84,6 +68,13 @@ fn decode(numbers: Vec<u16>, blocks: usize) -> Answer {
     archive::decode(&frame, &mut frames::buffers(frames::lengths_of(blocks)))
 }
 
+/// The sheet of as many sections and blocks as there can be, all sections of one table.
+fn sheet(table: &Table) -> Answer {
+    let indices = in_turn(MOST_SECTIONS, MOST_BLOCKS);
+    let input = Input::over(vec![table.file(); MOST_SECTIONS], indices);
+    archive::block_sheet(&input.bytes(), &mut vec![0; ANY_SHEET])
+}
+
 fn main() {
     let words: Vec<String> = std::env::args().skip(1).collect();
     let number = |place: usize| words[place].parse::<usize>().expect("a number");
@@ -99,6 +90,9 @@ fn main() {
         "decode-wide" => decode(section_of(&wide), number(1)),
         "decode-long" => decode(section_of(&long), number(1)),
         "decode-largest" => decode(largest(number(2) as u16).numbers(), number(1)),
+        "sheet-long" => sheet(&long),
+        "sheet-wide" => sheet(&wide),
+        "sheet-sparse" => sheet(&sparse(&mut Numbers::new())),
         other => panic!("{other} names no call"),
     };
     println!("{answer:?}");

@@ -14,11 +14,15 @@ enum { PAGE = 4096, PAINT = 0xA5 };
 static const uint8_t table[] = {2, 2, 1, 2, 0, 0, 0, 0, 0, 0, 0, 5, 0};
 static const uint8_t broken[] = {2, 2, 1, 3, 0, 0, 0, 0, 0, 0, 0, 0, 0, 1, 0, 4, 0};
 
-static uint8_t file[LINK_ANY_FILE], text[LINK_ANY_TEXT];
+static uint8_t file[LINK_ANY_FILE], text[LINK_ANY_TEXT], sheet[LINK_ANY_SHEET];
 static uint16_t map[LINK_ANY_MAP], section[LINK_ANY_SECTION];
 static uint8_t indices[LINK_MOST_BLOCKS], erased[LINK_MOST_BLOCKS], goals[LINK_MOST_BLOCKS];
 static uint16_t received[LINK_MOST_BLOCKS], labels[LINK_MOST_BLOCKS];
 static uint32_t costs[LINK_COSTS_LEN(LINK_MOST_BLOCKS)], values[4], outcome;
+
+/* The largest input of a block sheet: K, B and the indices, then as many of the largest tables as there can be. */
+enum { HEAD = 3 + LINK_MOST_BLOCKS, LAST = HEAD + (LINK_MOST_SECTIONS - 1) * LINK_ANY_FILE, LARGEST = LAST + LINK_ANY_FILE };
+static uint8_t chain[LARGEST];
 
 static void merge_table(void) {
     outcome = link_merge(table, sizeof table, map, LINK_ANY_MAP, section, LINK_ANY_SECTION, values);
@@ -43,6 +47,35 @@ static void list_table(void) {
 
 static void list_broken(void) {
     outcome = link_listing(broken, sizeof broken, text, LINK_ANY_TEXT, values);
+}
+
+static void sheet_of_chain(void) {
+    outcome = link_block_sheet(chain, LARGEST, sheet, LINK_ANY_SHEET, values);
+}
+
+/* All labels of five symbols of q 4 from the one state to itself: 1,024 words. */
+static void put_table(uint8_t *at) {
+    const uint8_t sizes[5] = {4, 5, 1, LINK_MOST_WORDS & 255u, LINK_MOST_WORDS >> 8};
+    memcpy(at, sizes, sizeof sizes);
+    for (unsigned label = 0; label < LINK_MOST_WORDS; label++) {
+        at[5 + 2 * LINK_MOST_WORDS + 2 * label] = (uint8_t)(label & 255u);
+        at[6 + 2 * LINK_MOST_WORDS + 2 * label] = (uint8_t)(label >> 8);
+    }
+}
+
+static void put_chain(void) {
+    chain[0] = LINK_MOST_SECTIONS;
+    chain[2] = LINK_MOST_BLOCKS >> 8;
+    for (unsigned b = 0; b < LINK_MOST_BLOCKS; b++)
+        chain[3 + b] = (uint8_t)(b % LINK_MOST_SECTIONS);
+    for (unsigned i = 0; i < LINK_MOST_SECTIONS; i++)
+        put_table(chain + HEAD + i * LINK_ANY_FILE);
+}
+
+/* S is 2, and the last word of the last table goes to state 1, so that its words force another one. */
+static void break_chain(void) {
+    chain[LAST + 2] = 2;
+    chain[LAST + 4 + 2 * LINK_MOST_WORDS] = 1;
 }
 
 /* Runs a call on a stack of `size` bytes above a page that may not be touched, and gives how many of them it used. */
@@ -72,17 +105,31 @@ static void show(const char *name, void (*call)(void), size_t size) {
         printf("    the header asks for over a page more than that\n");
 }
 
+/* Shows the text's last line too: whether the chain was accepted is not in the outcome. */
+static void show_sheet(const char *name) {
+    show(name, sheet_of_chain, LINK_BLOCK_SHEET_STACK);
+    size_t end = values[0], begin = end;
+    while (begin > 0 && (begin == end || sheet[begin - 1] != '\n'))
+        begin--;
+    printf("    %.*s", (int)(end - begin), (const char *)sheet + begin);
+}
+
 int main(void) {
     /* What is bound at its first call is bound here, on a stack that has room for it. */
     merge_table();
     read_section();
     decode_frame();
     list_table();
+    put_chain();
+    sheet_of_chain();
     show("link_merge, accepted", merge_table, LINK_MERGE_STACK);
     show("link_read_back", read_section, LINK_READ_BACK_STACK);
     show("link_decode", decode_frame, LINK_DECODE_STACK);
     show("link_merge, not rectangular", merge_broken, LINK_MERGE_STACK);
     show("link_listing, accepted", list_table, LINK_LISTING_STACK);
     show("link_listing, not rectangular", list_broken, LINK_LISTING_STACK);
+    show_sheet("link_block_sheet, accepted");
+    break_chain();
+    show_sheet("link_block_sheet, not rectangular");
     return 0;
 }

@@ -6,6 +6,7 @@ ghost use Rattle.read_back.specs.ReadingBack.{readingBack};
 ghost use Rattle.chain.specs.Frame.{frame};
 ghost use Rattle.chain.specs.Decoding.{decoding};
 ghost use Rattle.listing.specs.Listing.{listing};
+ghost use Rattle.sheet.specs.Sheet.{sheet};
 ghost use Rattle.link_kit.specs.Left.{MergeLeft, ReadBackLeft, DecodeLeft, ListingLeft};
 
 mod answers;
@@ -19,6 +20,11 @@ pub use merge::Merged;
 pub use merge::merge;
 pub use read_back::ReadBack;
 pub use read_back::read_back;
+pub use records::BlockRecord;
+pub use records::Counted;
+pub use records::Sums;
+pub use records::count as count_records;
+pub use sheet::block_sheet;
 
 // Merges the table in `file`.
 #[no_mangle]
@@ -86,4 +92,13 @@ pub extern "C" fn link_listing(file: &[u8], text: &mut [u8], values: &mut [u32; 
 {
     let answer = listing::listing(file, text);
     answers::store(listing::outcome(answer), values)
+}
+
+// Writes the block sheet of `input` into `text`.
+#[no_mangle]
+pub extern "C" fn link_block_sheet(input: &[u8], text: &mut [u8], values: &mut [u32; 4]) -> u32
+    ensures { λ r. ⌜ ListingLeft (sheet (now (input .entry)) (now (text .entry))) r (now (text .exit)) (now (values .exit)) ⌝ }
+{
+    let sheet = sheet::block_sheet(input, text);
+    answers::store(listing::outcome(sheet), values)
 }
