@@ -118,9 +118,7 @@ fn chain(tally: &mut Tally, tables: &[&Table], kind: usize, numbers: &mut Number
 fn uses(tally: &mut Tally, numbers: &mut Numbers) {
     for k in 1..=MOST_SECTIONS {
         let files: Vec<Vec<u8>> = (0..k).map(|_| accepted(numbers).file()).collect();
-        for blocks in [1, 2, k, 255, 256] {
-            used(tally, &files, blocks);
-        }
+        [1, 2, k, 255, 256].map(|blocks| used(tally, &files, blocks));
     }
 }
 
@@ -132,18 +130,21 @@ fn used(tally: &mut Tally, files: &[Vec<u8>], blocks: usize) {
     }
 }
 
-/// An input with one byte changed, each in turn: each of its bits, one more and one less, and values around the bounds.
+/// An input with one byte changed, each in turn.
 fn changes(tally: &mut Tally) {
     let bytes = sheet_known::small().bytes();
-    for place in 0..bytes.len() {
-        let old = bytes[place];
-        let bits = (0..8).map(|bit| old ^ 1 << bit);
-        let others = [old.wrapping_add(1), old.wrapping_sub(1), 0, 1, 2, 3, 5, 9, 16, 17, 255];
-        for new in bits.chain(others) {
-            let mut changed = bytes.clone();
-            changed[place] = new;
-            tally.input(&changed);
-        }
+    (0..bytes.len()).for_each(|place| changed(tally, &bytes, place));
+}
+
+/// The byte at a place with each of its bits changed, one more and one less, and with values around the bounds.
+fn changed(tally: &mut Tally, bytes: &[u8], place: usize) {
+    let old = bytes[place];
+    let bits = (0..8).map(|bit| old ^ 1 << bit);
+    let others = [old.wrapping_add(1), old.wrapping_sub(1), 0, 1, 2, 3, 5, 9, 16, 17, 255];
+    for new in bits.chain(others) {
+        let mut input = bytes.to_vec();
+        input[place] = new;
+        tally.input(&input);
     }
 }
 

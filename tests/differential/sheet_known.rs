@@ -75,13 +75,16 @@ const FAULTS: [Fault; 25] = [
 
 /// Each fault alone and with each that is met later, which leaves the text as it is.
 pub fn faults(tally: &mut Tally) {
-    for (first, (fault, text)) in FAULTS.iter().enumerate() {
-        for (later, _) in &FAULTS[first..] {
-            let mut input = small();
-            later(&mut input);
-            fault(&mut input);
-            tally.known(&input.bytes(), text);
-        }
+    (0..FAULTS.len()).for_each(|first| with_later(tally, first));
+}
+
+fn with_later(tally: &mut Tally, first: usize) {
+    let (fault, text) = FAULTS[first];
+    for (later, _) in &FAULTS[first..] {
+        let mut input = small();
+        later(&mut input);
+        fault(&mut input);
+        tally.known(&input.bytes(), text);
     }
 }
 

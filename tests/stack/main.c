@@ -63,11 +63,15 @@ static void put_table(uint8_t *at) {
     }
 }
 
-static void put_chain(void) {
+static void put_head(void) {
     chain[0] = LINK_MOST_SECTIONS;
     chain[2] = LINK_MOST_BLOCKS >> 8;
     for (unsigned b = 0; b < LINK_MOST_BLOCKS; b++)
         chain[3 + b] = (uint8_t)(b % LINK_MOST_SECTIONS);
+}
+
+static void put_chain(void) {
+    put_head();
     for (unsigned i = 0; i < LINK_MOST_SECTIONS; i++)
         put_table(chain + HEAD + i * LINK_ANY_FILE);
 }

@@ -5,10 +5,10 @@ use mathlib.Core.List.{List, [], _∷_, _++_}
 use Prim.Native.Nat.{ℕ, suc, _+_, _<_, _≤_}
 use native.Mathlib.Omega.{arith}
 use lib.ListN.{length, getD, set, take, length-set}
+use lib.Seq.{take-suc-set}
 use Rattle.trellis.specs.Bounds.{mostSections, mostBlocks}
 use Rattle.trellis.specs.Lists.{run, each}
 use Rattle.trellis.proofs.Lists.{run-snoc}
-use Rattle.text.proofs.Putting.{take-set}
 use Rattle.records.specs.declared.BlockRecord.{BlockRecord}
 use Rattle.sheet_input.specs.Input.{inputIndex}
 use Rattle.sheet_input.specs.inner.Read.{additionsOf, selectionsOf}
@@ -48,7 +48,7 @@ module _ {input added selected : List ℕ} {blocks : ℕ} (D : Drawn input block
       are =
           let e : b + 1 ≡ suc b = omega arith in
           let z : b ≡ 0 + b = omega arith in
-          ap (λ k. take k (set items b new)) e ∙ take-set items b new (omega (arith, I .places, D .fewBlocks))
+          ap (λ k. take k (set items b new)) e ∙ take-suc-set items b new (omega (arith, I .places, D .fewBlocks))
           ∙ ap₂ (λ l v. l ++ (v ∷ [])) (I .are) (new-is ∙ ap (blockRecord input) z)
           ∙ sym (run-snoc (blockRecord input) 0 b) ∙ ap (each (blockRecord input)) (sym e);
     }

@@ -1,6 +1,5 @@
 -- Every sheet is short: a frame has at most 256 blocks, the numbers of a record have at most five digits, since the tables are within their
 -- bounds, and sums over so many records at most seven. A refusal has at most five numbers of six digits.
-use mathlib.Core.Path.{_≡_}
 use mathlib.Core.List.{List, [], _∷_, flatMap}
 use Prim.Native.Nat.{ℕ, zero, suc, _+_, _*_, _<_, _≤_}
 use native.Mathlib.Omega.{arith}
@@ -88,13 +87,9 @@ module _ (input : List ℕ) (R : InputRight input) where
         selections = omega (arith, c .1);
       }
 
-  pub count-is : length (recordsOf input) ≡ inputBlocks input
-  unfolding recordsOf
-  count-is = length-run (blockRecord input) 0 (inputBlocks input)
-
   pub sheet-short : length (sheetLines (recordsOf input)) ≤ anySheet
   unfolding recordsOf
   sheet-short =
       sheet-few (recordsOf input)
       (run-few (blockRecord input) 0 (inputBlocks input) record-few)
-      (omega (arith, count-is, few-blocks))
+      (omega (arith, length-run (blockRecord input) 0 (inputBlocks input), few-blocks))

@@ -42,21 +42,21 @@ module _ (input : List ℕ) {number count : ℕ} {values added selected : List �
     right : InputRight input
     right = input-right input (sym number-is ∙ none)
 
+    pub few-asked : {blocks : ℕ} → blocks ≡ inputBlocks input → blocks ≤ mostBlocks
+    few-asked b-is = omega (arith, b-is, few-blocks input right)
+
     pub drawn : {blocks : ℕ} → blocks ≡ inputBlocks input → Drawn input blocks added selected
     drawn b-is = record {
       blocksAre = b-is;
-      fewBlocks = omega (arith, b-is, few-blocks input right);
+      fewBlocks = few-asked b-is;
       fewSections = few-sections input (right .head);
       indicesBelow = λ b h. index-below input (right .head) b (omega (arith, b-is));
       costs = R .costs none;
     }
 
-    pub blocks-few : {blocks : ℕ} → blocks ≡ inputBlocks input → blocks ≤ mostBlocks
-    blocks-few b-is = omega (arith, b-is, few-blocks input right)
-
     pub blocks-inside : {blocks : ℕ} {items : List BlockRecord} → blocks ≡ inputBlocks input → Holding (recordsOf input) blocks items
         → blocks ≤ length items
-    blocks-inside b-is H = omega (arith, blocks-few b-is, H .places)
+    blocks-inside b-is H = omega (arith, few-asked b-is, H .places)
 
     pub made-lines : {old new : List ℕ} {end : ℕ} → Put old 0 (sheetLines (recordsOf input)) new end → SheetMade input old new end
     unfolding sheetText

@@ -9,7 +9,7 @@ use native.Mathlib.Omega.{arith}
 use native.Mathlib.Nat.{mul-le-mul, suc-mul}
 use lib.ListN.{length, getD, take, drop}
 use lib.Dec.{T, ltb, eqb}
-use lib.Seq.{take-nil, length-take-le, getD-take, getD-drop}
+use lib.Seq.{take-nil, take-take, length-take-le, getD-take, getD-drop}
 use borrow.Author.Tests.{lt-ltb, le-ltb, ltb-true, ltb-false, eqb-true, not-false}
 use Rattle.trellis.specs.Bounds.{mostSections, mostBlocks}
 use Rattle.trellis.specs.Lists.{first, within}
@@ -27,12 +27,6 @@ use Rattle.sheet_input.proofs.Parts.{part-full}
 use Rattle.sheet_input.proofs.Right.{InputRight, table-passes}
 
 -- ---- lists cut off
-
-take-twice : (k m : ℕ) (l : List ℕ) → k ≤ m → take k (take m l) ≡ take k l
-take-twice zero m l h = refl
-take-twice (suc k) zero l h = absurd (omega arith)
-take-twice (suc k) (suc m) [] h = refl
-take-twice (suc k) (suc m) (x ∷ l) h = ap (λ r. x ∷ r) (take-twice k m l (omega arith))
 
 drop-take : (s m : ℕ) (l : List ℕ) → s ≤ m → drop s (take m l) ≡ take (m - s) (drop s l)
 drop-take zero m l h = let e : m ≡ m - 0 = omega arith in ap (λ k. take k l) e
@@ -159,7 +153,7 @@ module _ (input : List ℕ) (bytes : (i : ℕ) → getD input i 0 < 256) (long :
     table-same : tableAt front j ≡ tableAt input j
     unfolding tableAt
     table-same =
-        ap₂ take length-same cut ∙ take-twice (tableLength (rest j)) (mostInput - s) (rest j) (omega (arith, length-few))
+        ap₂ take length-same cut ∙ take-take (tableLength (rest j)) (mostInput - s) (rest j) (omega (arith, length-few))
 
     refused-same : tableRefused front j ≡ tableRefused input j
     unfolding tableRefused

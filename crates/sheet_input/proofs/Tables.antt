@@ -1,12 +1,13 @@
 -- The tables one behind another. The loop's invariant: no table before j is refused, table j begins at `at`, and both costs of the sections
 -- before j stand in the arrays. A table that is not refused has all the bytes that its W asks for, so the next begins behind them. The one
 -- that the loop stops at is the first of the definition; where there is none, what is left of the outcome is whether bytes are left over.
-use mathlib.Core.Path.{_≡_, refl, sym, ap, subst, _∙_}
+use mathlib.Core.Path.{_≡_, sym, ap, subst, _∙_}
 use mathlib.Core.Bool.{true, cond, not}
-use mathlib.Core.List.{List, [], _∷_}
-use Prim.Native.Nat.{ℕ, zero, suc, _+_, _-_, _<_, _≤_}
+use mathlib.Core.List.{List}
+use Prim.Native.Nat.{ℕ, suc, _+_, _-_, _<_, _≤_}
 use native.Mathlib.Omega.{arith}
-use lib.ListN.{length, set, take, drop, length-set, length-take}
+use lib.ListN.{length, set, take, drop, length-set, length-take, take-append-drop}
+use lib.Seq.{take-append-seam}
 use lib.Dec.{ltb}
 use borrow.Author.Tests.{lt-ltb, le-ltb, eq-eqb, ne-eqb}
 use Rattle.trellis.specs.Bounds.{mostSections}
@@ -49,9 +50,7 @@ sections-few {input} H = omega (arith, H .sectionsAre, few-sections input (head-
 -- ---- table j, as the code cuts it out
 
 take-taken : (m : ℕ) (l : List ℕ) → take (length (take m l)) l ≡ take m l
-take-taken zero l = refl
-take-taken (suc m) [] = refl
-take-taken (suc m) (x ∷ l) = ap (λ r. x ∷ r) (take-taken m l)
+take-taken m l = ap (take (length (take m l))) (sym (take-append-drop m l)) ∙ take-append-seam (take m l) (drop m l)
 
 module _ {input added selected : List ℕ} {at j : ℕ} (I : InTables input added selected at j) {sections start : ℕ}
     (H : HeadPassed input start sections) (more : j < sections) {part : ℕ}

@@ -5,7 +5,7 @@ use Prim.Native.Nat.{ℕ, zero, suc, _+_, _<_, _≤_}
 use native.Mathlib.Nat.{le-of-suc-le-suc, not-suc-le-zero}
 use native.Mathlib.Omega.{arith}
 use lib.ListN.{length, getD, set, take, drop, length-set, length-drop, take-append-drop}
-use lib.Seq.{take-all, take-suc, take-nil, take-append-le, take-length, length-take-le, getD-drop, ext-getD, getD-set-other}
+use lib.Seq.{take-all, take-suc, take-nil, take-append-le, take-length, length-take-le, getD-drop, ext-getD, getD-set-other, take-suc-set}
 use Rattle.trellis.proofs.Lists.{flatMap-append}
 use Rattle.text.specs.Line.{spaced, line}
 use Rattle.text.specs.inner.Put.{Put}
@@ -42,11 +42,6 @@ put-then {a} {b} {c} {us} {vs} {at} {m} {e} p q = record {
 }
 
 -- one byte, where there is room and where there is none
-pub take-set : {A : Type 0} (l : List A) (at : ℕ) (v : A) → at < length l → take (suc at) (set l at v) ≡ take at l ++ (v ∷ [])
-take-set [] at v h = absurd (not-suc-le-zero h)
-take-set (x ∷ l) zero v h = refl
-take-set (x ∷ l) (suc at) v h = ap (λ r. x ∷ r) (take-set l at v (le-of-suc-le-suc h))
-
 length-cut : (l : List ℕ) (at v : ℕ) → at < length l → length (take at l ++ (v ∷ [])) ≤ length l
 length-cut [] at v h = absurd (not-suc-le-zero h)
 length-cut (x ∷ l) zero v h = omega arith
@@ -57,7 +52,7 @@ put-one old at v h = record {
   len = length-set old at v;
   holds =
       let e : at + 1 ≡ suc at = omega arith in
-      ap (λ k. take k (set old at v)) e ∙ take-set old at v h
+      ap (λ k. take k (set old at v)) e ∙ take-suc-set old at v h
       ∙ sym (take-all (length old) (take at old ++ (v ∷ [])) (length-cut old at v h));
   grows = omega arith;
   inside = λ g. omega arith;

@@ -1,7 +1,7 @@
 -- `sheet::put_sheet` puts the line of the refusal where there is one, and else the lines of the records that it made from what was read.
 use Rattle.sheet.specs.Sheet.{recordsOf}
 use Rattle.sheet.proofs.Lines.{lines-put}
-use Rattle.sheet.proofs.Whole.{made-refused, drawn, blocks-inside, blocks-few, made-lines}
+use Rattle.sheet.proofs.Whole.{made-refused, drawn, blocks-inside, few-asked, made-lines}
 use borrow.Author.Needs.{needs}
 use Rattle.sheet.proofs.put_sheet.Statement.{statement}
 use Rattle.sheet.proofs.put_sheet.Tie as tie
@@ -49,7 +49,7 @@ put-total-requires c κs =
     let r = t .before .before .before in
     let input = r .before .before .before .args .input .now in (
       blocks-inside input (r .read .ensures) (t .if1 .left) (b .block-count .ensures .0) (m .make-records .ensures),
-      blocks-few input (r .read .ensures) (t .if1 .left) (b .block-count .ensures .0),
+      few-asked input (r .read .ensures) (t .if1 .left) (b .block-count .ensures .0),
     )
 
 same-length-2 : tie.Need-same-length-2
