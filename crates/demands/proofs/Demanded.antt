@@ -23,7 +23,8 @@ use Rattle.trellis.proofs.Demand.{drawn, demand-3, own-words}
 use Rattle.trellis.proofs.OwnLaid.{own-vertex-count, own-edge-count, own-root, own-goal, own-step-edges}
 use Rattle.table.specs.inner.Good.{GoodFile}
 use Rattle.table.proofs.Accepted.{accepted-good}
-use Rattle.merge.specs.Merging.{Merging, left, mapOf, mapLength, written, merged, mergedTable, mergedFile, merging}
+use Rattle.merge.specs.Merging.{Merging, left, mapOf, merged, merging}
+use Rattle.merge.proofs.Success.{by-witness, by-nothing}
 use Rattle.read_back.specs.ReadingBack.{readingBack, left as whole}
 use Rattle.read_back.proofs.Again.{read-back-again}
 use Rattle.demands.specs.Demands.{Fair, IsAccepted, sectionLeft, Refused, Decided, SameWords, Smallest}
@@ -72,24 +73,19 @@ module _ {file : List ℕ} {q n states : ℕ} {table : List Word} (G : GoodFile 
 -- ---- the answer
 
 module _ {file : List ℕ} {q n states : ℕ} {table : List Word} {map section : List ℕ} (F : Fair file q n states table map section) where
-  by-witness : merging file map section ≡ merged q n states table map section (witness n table)
-  unfolding merging mergedFile mergedTable
-  by-witness = ap (mergedFile map section) (F .wellFormed) ∙ simp (le-ltb (length map) (mapLength n table) (F .mapRoom))
-
-  by-nothing : witness n table ≡ nothing
+  succeeded : witness n table ≡ nothing
       → merging file map section
       ≡ left (success (length (sectionOf q n states table))) (over (mapOf n table) map) (over (sectionOf q n states table) section)
-  unfolding merged written
-  by-nothing e =
-      by-witness ∙ ap (merged q n states table map section) e
-      ∙ simp (le-ltb (length section) (length (sectionOf q n states table)) (F .sectionRoom))
+  succeeded = by-nothing file map section (F .wellFormed) (F .mapRoom) (F .sectionRoom)
 
   by-found : (t i j k : ℕ) → witness n table ≡ found t i j k → merging file map section .answer ≡ notRectangular t i j k
   unfolding merged
-  by-found t i j k e = ap (λ (m : Merging). m .answer) (by-witness ∙ ap (merged q n states table map section) e)
+  by-found t i j k e =
+      ap (λ (m : Merging). m .answer)
+      (by-witness file map section (F .wellFormed) (F .mapRoom) ∙ ap (merged q n states table map section) e)
 
   accepts : Rectangular n table → IsAccepted (merging file map section)
-  accepts R = ap (λ (m : Merging). m .answer .number) (by-nothing (witness-none n table .1 R))
+  accepts R = ap (λ (m : Merging). m .answer .number) (succeeded (witness-none n table .1 R))
 
   refuses : (Rectangular n table → ⊥) → Refused n table (merging file map section)
   refuses h = go (witness n table) refl
@@ -115,7 +111,7 @@ module _ {file : List ℕ} {q n states : ℕ} {table : List Word} {map section :
   module _ (A : IsAccepted (merging file map section)) where
     is-ours : sectionLeft (merging file map section) ≡ sectionOf q n states table
     is-ours =
-        let e = by-nothing (witness-none n table .1 (only A)) in
+        let e = succeeded (witness-none n table .1 (only A)) in
         ap sectionLeft e ∙ take-front (sectionOf q n states table) (drop (length (sectionOf q n states table)) section)
 
     G : GoodFile file q n states table

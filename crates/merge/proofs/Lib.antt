@@ -7,3 +7,4 @@ pub mod FileStage
 pub mod Answered
 pub mod Clearing
 pub mod Copying
+pub mod Success

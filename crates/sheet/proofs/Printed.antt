@@ -4,13 +4,13 @@
 use mathlib.Core.Path.{_≡_, refl, sym, ap, ap₂, subst, _∙_}
 use mathlib.Core.Bool.{Bool, true, false, cond}
 use mathlib.Core.List.{List, [], _∷_, _++_, flatMap}
-use Prim.Native.Nat.{ℕ, zero, suc, _+_, _*_, _<_, _≤_}
+use Prim.Native.Nat.{ℕ, zero, suc, _+_, _*_, _<_}
 use native.Mathlib.Omega.{arith}
 use native.Mathlib.Decide.{decLt}
 use lib.ListN.{length, getD, take}
 use lib.Dec.{ltb}
 use lib.Seq.{take-all}
-use borrow.Author.Tests.{le-ltb, eq-eqb, ne-eqb}
+use borrow.Author.Tests.{eq-eqb, ne-eqb}
 use Rattle.trellis.specs.Lists.{run, each, sum, over}
 use Rattle.trellis.specs.Word.{Word}
 use Rattle.trellis.specs.Witness.{Witness, found, nothing, witness}
@@ -21,6 +21,7 @@ use Rattle.trellis.proofs.Buffers.{over-front}
 use Rattle.table.specs.File.{accepted, tableFile}
 use Rattle.table.proofs.Accepted.{passes-accepted}
 use Rattle.merge.specs.Merging.{Merging, left, mapOf, mapLength, written, merged, mergedTable, mergedFile, merging}
+use Rattle.merge.proofs.Success.{by-nothing}
 use Rattle.text.specs.Line.{line}
 use Rattle.lines.specs.Text.{refusalLine}
 use Rattle.listing.specs.Listing.{inBuffer}
@@ -42,6 +43,10 @@ sum-run cost f at zero = refl
 sum-run cost f at (suc count) = ap (λ k. cost (f at) + k) (sum-run cost f (suc at) count)
 
 -- ---- what merging writes for an accepted table
+
+no-witness : (w : Witness) → witnessOutcome w .number ≡ 0 → w ≡ nothing
+no-witness (found t i j k) e = absurd (omega arith)
+no-witness nothing e = refl
 
 module _ (q n states : ℕ) (table : List Word) (map section : List ℕ) where
   abbrev own : List ℕ
@@ -66,14 +71,6 @@ module _ (q n states : ℕ) (table : List Word) (map section : List ℕ) where
       go true w e = absurd (omega arith)
       go false (found t i j k) e = absurd (omega arith)
       go false nothing e = last (ltb (length section) (length own)) e
-
-  succeeds : mapLength n table ≤ length map → length own ≤ length section → (w : Witness) → witness n table ≡ w
-      → witnessOutcome w .number ≡ 0 → mergedTable q n states table map section .answer .number ≡ 0
-  unfolding mergedTable merged written
-  succeeds m s (found t i j k) w e = absurd (omega arith)
-  succeeds m s nothing w e =
-      simp (le-ltb (length map) (mapLength n table) m)
-      (simp w (simp (le-ltb (length section) (length own) s) refl))
 
   -- the counts stand in the front of what was written
   same-front : (i : ℕ) → i < 4 + 2 * nOf own → getD (over own section) i 0 ≡ getD own i 0
@@ -117,9 +114,8 @@ module _ (input : List ℕ) (R : InputRight input) (b : ℕ) (below : b < inputB
     own-record = record {
       merges = λ map section m s.
           let L = long-enough file e in
-          ap (λ (r : Merging). r .answer .number) (merging-is map section)
-          ∙ succeeds q n states table map section (omega (arith, L .0)) (omega (arith, L .1)) (witness n table) refl
-          (ap (λ f. tableOutcome f .number) (sym e) ∙ fine);
+          let w = no-witness (witness n table) (ap (λ f. tableOutcome f .number) (sym e) ∙ fine) in
+          ap (λ (r : Merging). r .answer .number) (by-nothing file map section e (omega (arith, L .0)) (omega (arith, L .1)) w);
       counts = λ map section h. same-record (over l section) (same-front q n states table map section)
           ∙ ap (recordOf b (inputIndex input b)) (sym (written-is map section h));
     }
