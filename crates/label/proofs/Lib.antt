@@ -4,4 +4,6 @@ pub mod Shifts
 pub mod Appending
 pub mod Packing
 pub mod Order
+pub mod Fields
 pub mod Differing
+pub mod Folding

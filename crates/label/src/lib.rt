@@ -3,11 +3,7 @@
 ghost use mathlib.Core.Path.{_≡_};
 ghost use Prim.Native.Nat.{_-_, _/_, _%_, _^_, min};
 ghost use Rattle.trellis.specs.Label.{symbol, front, back, isLabel, distance};
-ghost use Rattle.label.specs.inner.Labels.{appended, InOrder};
-
-mod counts;
-
-use counts::NOT_ZERO;
+ghost use Rattle.label.specs.inner.Labels.{appended, InOrder, differences, MaskedSum};
 
 // How many symbols stand behind depth t.
 fn behind(n: usize, t: usize) -> usize
@@ -93,17 +89,29 @@ pub fn precedes(x: u16, y: u16) -> bool
     x < y
 }
 
-// How many of the last four symbols of x are not zero.
-fn not_zero(x: u16) -> u8
-    ensures { λ r. ⌜ r ≡ distance 4 x 0 ⌝ }
+// The label with symbol 1 where x and y differ, and 0 elsewhere. A symbol differs if either of its bits does, so the higher bit is folded
+// onto the lower one.
+fn differences(x: u16, y: u16) -> u16
+    ensures { λ r. ⌜ r ≡ differences 8 x y ⌝ }
 {
-    NOT_ZERO[(x & 255) as usize]
+    let unlike = x ^ y;
+    (unlike | (unlike >> 1)) & 0x5555
 }
 
-// In how many symbols x and y differ.
+// What a mask keeps of x and of y, added.
+fn masked_sum(x: u32, y: u32, mask: u16) -> u32
+    ensures { λ r. ⌜ MaskedSum x y mask r ⌝ }
+{
+    (x & (mask as u32)) + (y & (mask as u32))
+}
+
+// In how many symbols x and y differ, all eight counted at once: eight fields of two bits are added in pairs, so that four of four bits are
+// left, then two of eight, then one. Each mask keeps the low half of the wider fields, where a sum has room.
 pub fn distance(x: u16, y: u16) -> u32
     ensures { λ r. ⌜ r ≡ distance 8 x y ⌝ }
 {
-    let unlike = x ^ y;
-    (not_zero(unlike >> 8) + not_zero(unlike)) as u32
+    let ones = differences(x, y) as u32;
+    let twos = masked_sum(ones, ones >> 2, 0x3333);
+    let fours = masked_sum(twos, twos >> 4, 0x0f0f);
+    masked_sum(fours, fours >> 8, 0x00ff)
 }

@@ -1,10 +1,12 @@
--- Labels as the code of this crate handles them: a symbol put behind a label, labels told from other numbers, labels in order.
--- Everything here is for general n, but that `appended` keeps eight symbols, as many as a label of two bytes has.
+-- Labels as the code of this crate handles them: a symbol put behind a label, labels told from other numbers, labels in order, labels held
+-- against each other. Everything here is for general n, but that `appended` keeps eight symbols, as many as a label of two bytes has.
 use mathlib.Core.Path.{_≡_}
-use mathlib.Core.Bool.{Bool, true}
+use mathlib.Core.Bool.{Bool, true, not}
 use mathlib.Core.Logic.{_↔_}
-use Prim.Native.Nat.{ℕ, _+_, _*_, _%_, _^_, _<_}
-use lib.Dec.{ltb}
+use Prim.Native.Nat.{ℕ, zero, suc, _+_, _*_, _/_, _%_, _^_, _<_}
+use lib.Bits.{bitAnd}
+use lib.Dec.{ltb, eqb}
+use Rattle.trellis.specs.Lists.{one-if}
 use Rattle.trellis.specs.Label.{symbol}
 
 -- the symbol s behind the label; a ninth symbol pushes the first one out
@@ -27,3 +29,12 @@ pub record Earlier (n x y : ℕ) : Type 0 where
 pub record InOrder (x y : ℕ) (before : Bool) : Type 0 where
   pub asNumbers : before ≡ ltb x y
   pub asSymbols : (n : ℕ) → x < 4 ^ n → y < 4 ^ n → (before ≡ true) ↔ Earlier n x y
+
+-- the label of n symbols with 1 where x and y differ, and 0 elsewhere
+unfoldable pub differences : ℕ → ℕ → ℕ → ℕ
+differences zero x y = 0
+differences (suc n) x y = differences n (x / 4) (y / 4) * 4 + one-if (not (eqb (x % 4) (y % 4)))
+
+-- r adds what the mask keeps of x and of y
+pub record MaskedSum (x y mask r : ℕ) : Type 0 where
+  pub is : r ≡ bitAnd x mask + bitAnd y mask
