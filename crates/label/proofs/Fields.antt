@@ -38,7 +38,7 @@ module _ (k : ℕ) where
   added m x = bitAnd x (lowHalves k m) + bitAnd (x / 2 ^ k) (lowHalves k m)
 
   -- a shift by k and one by k + k, in either order
-  swapped : (x : ℕ) → x / 2 ^ k / 2 ^ (k + k) ≡ x / 2 ^ (k + k) / 2 ^ k
+  pub swapped : (x : ℕ) → x / 2 ^ k / 2 ^ (k + k) ≡ x / 2 ^ (k + k) / 2 ^ k
   swapped x = shr-shr x k (k + k) ∙ ap (λ e. x / 2 ^ e) (add-comm k (k + k)) ∙ sym (shr-shr x (k + k) k)
 
   -- the last field becomes the sum of its halves; in front of it stands what becomes of the others

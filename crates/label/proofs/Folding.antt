@@ -11,7 +11,7 @@ use lib.Dec.{lit<}
 use borrow.Author.Tests.{eq-eqb, ne-eqb}
 use Rattle.label.specs.inner.Labels.{differences}
 use Rattle.label.proofs.Differing.{unlike}
-use Rattle.label.proofs.Fields.{lowHalves, kept}
+use Rattle.label.proofs.Fields.{lowHalves, kept, swapped}
 
 -- `^` leaves nothing exactly of what is the same
 same-if-none : (a b : ℕ) → bitXor a b ≡ 0 → a ≡ b
@@ -51,13 +51,12 @@ unfolding differences lowHalves
 fold-all zero x y = and-zero-r (bitOr (bitXor x y) (bitXor x y / 2))
 fold-all (suc n) x y =
     let b = bitXor x y in
-    let swap : b / 2 / 4 ≡ b / 4 / 2 = omega arith in
     let rest : bitOr b (b / 2) / 4 ≡ bitOr (bitXor (x / 4) (y / 4)) (bitXor (x / 4) (y / 4) / 2) =
-    or-shr b (b / 2) 2 ∙ ap (bitOr (b / 4)) swap ∙ ap (λ w. bitOr w (w / 2)) (xor-shr x y 2) in
+    or-shr b (b / 2) 2 ∙ ap (bitOr (b / 4)) (swapped 1 b) ∙ ap (λ w. bitOr w (w / 2)) (xor-shr x y 2) in
     kept 1 n (bitOr b (b / 2))
     ∙ ap₂ (λ front last. front * 4 + last) (ap (λ w. bitAnd w (lowHalves 1 n)) rest ∙ fold-all n (x / 4) (y / 4)) (fold-last x y)
 
 -- as the code has it, with its shift and its mask
 pub folded : (n x y : ℕ) {two mask : ℕ} → two ≡ 2 → mask ≡ lowHalves 1 n
     → bitAnd (bitOr (bitXor x y) (bitXor x y / two)) mask ≡ differences n x y
-folded n x y d e = ap₂ (λ two mask. bitAnd (bitOr (bitXor x y) (bitXor x y / two)) mask) d e ∙ fold-all n x y
+folded n x y d e = rw (d, e) (fold-all n x y)
