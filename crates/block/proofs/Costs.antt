@@ -5,15 +5,13 @@ use Prim.Native.Nat.{ℕ, zero, suc, _+_, _-_, _*_, _^_, _≤_, _<_}
 use native.Mathlib.Nat.{add-zero, mul-assoc, pow-suc, pow-le-pow-right, mul-le-mul}
 use native.Mathlib.Decide.{ℕ-discrete, decLt}
 use native.Mathlib.Omega.{arith}
-use mathlib.Core.Bool.{Bool, true, false, not}
-use lib.Dec.{eqb, lit<}
+use lib.Dec.{lit<}
 use lib.ListN.{length, getD, set, length-set}
 use lib.Seq.{getD-set-same, getD-set-other, set-out}
 use Rattle.trellis.specs.Bounds.{mostSymbols}
-use Rattle.trellis.specs.Lists.{one-if, sum}
 use Rattle.trellis.specs.Label.{symbol}
+use Rattle.trellis.specs.Comparing.{symbolCost}
 use Rattle.paths.specs.inner.Ranked.{labelUnit, distanceUnit, topRank, ranked, rankedCost, PriceRoom}
-use Rattle.block.specs.Received.{erasedAt, erasureCost, costOver, symbolCostBy, distanceBy, symbolCost, blockDistance}
 use Rattle.block.specs.inner.Prices.{Prices}
 
 -- what the symbols from t on add is there, and the next one's weight is known
@@ -35,6 +33,9 @@ prices-start {n} h =
       at =
           λ u a k l. absurd (omega arith);
     }
+
+pub step-inside : {n received mask weight t : ℕ} {prices : List ℕ} → InPrices n received mask prices weight t → 0 < t → t - 1 < n
+step-inside I h = omega (arith, I .t-le)
 
 -- four places written, one behind another
 abbrev four : List ℕ → ℕ → ℕ → ℕ → ℕ → ℕ → List ℕ
@@ -92,16 +93,15 @@ price-is n t cost a weight e =
     let m : a * (4 ^ (n - suc t) * labelUnit) ≡ a * 4 ^ (n - suc t) * labelUnit = sym (mul-assoc a (4 ^ (n - suc t)) labelUnit) in
     ap (λ x. cost * distanceUnit + a * x) e ∙ omega (arith, m)
 
-pub prices-more : {n received mask t r weight c₀ c₁ c₂ c₃ w x y z : ℕ} {prices : List ℕ} {erased : Bool} → n ≤ mostSymbols
+pub prices-more : {n received mask t weight c₀ c₁ c₂ c₃ w x y z : ℕ} {prices : List ℕ} → n ≤ mostSymbols
     → InPrices n received mask prices weight t → 0 < t
-    → erased ≡ erasedAt n (t - 1) mask → r ≡ symbol n (t - 1) received
-    → c₀ ≡ costOver erasureCost erased r 0 → (w ≡ c₀ * distanceUnit + 0 * weight) × (w ≤ topRank)
-    → c₁ ≡ costOver erasureCost erased r 1 → (x ≡ c₁ * distanceUnit + 1 * weight) × (x ≤ topRank)
-    → c₂ ≡ costOver erasureCost erased r 2 → (y ≡ c₂ * distanceUnit + 2 * weight) × (y ≤ topRank)
-    → c₃ ≡ costOver erasureCost erased r 3 → (z ≡ c₃ * distanceUnit + 3 * weight) × (z ≤ topRank)
+    → c₀ ≡ symbolCost n received mask (t - 1) 0 → (w ≡ c₀ * distanceUnit + 0 * weight) × (w ≤ topRank)
+    → c₁ ≡ symbolCost n received mask (t - 1) 1 → (x ≡ c₁ * distanceUnit + 1 * weight) × (x ≤ topRank)
+    → c₂ ≡ symbolCost n received mask (t - 1) 2 → (y ≡ c₂ * distanceUnit + 2 * weight) × (y ≤ topRank)
+    → c₃ ≡ symbolCost n received mask (t - 1) 3 → (z ≡ c₃ * distanceUnit + 3 * weight) × (z ≤ topRank)
     → InPrices n received mask (four prices (4 * (t - 1)) w x y z) (weight * 4) (t - 1)
-unfolding symbolCostBy rankedCost
-prices-more {n} {received} {mask} {t} {r} {weight} {w = w} {x} {y} {z} {prices} {erased} few I h p q c₀-is a c₁-is b c₂-is c c₃-is d =
+unfolding rankedCost
+prices-more {n} {received} {mask} {t} {weight} {w = w} {x} {y} {z} {prices} few I h c₀-is a c₁-is b c₂-is c c₃-is d =
     record {
       t-le = omega (arith, I .t-le);
       room = record { long = simp length-set (I .room .long); small = small };
@@ -129,12 +129,9 @@ prices-more {n} {received} {mask} {t} {r} {weight} {w = w} {x} {y} {z} {prices} 
     heavy : weight ≡ 4 ^ (n - suc (t - 1)) * labelUnit
     heavy = let e : n - t ≡ n - suc (t - 1) = omega arith in I .weightIs ∙ ap (λ k. 4 ^ k * labelUnit) e
 
-    is : (s : ℕ) {k : ℕ} → k ≡ costOver erasureCost erased r s
+    is : (s : ℕ) {k : ℕ} → k ≡ symbolCost n received mask (t - 1) s
         → k * distanceUnit + s * weight ≡ rankedCost n (symbolCost n received mask) (t - 1) s
-    is s {k} k-is =
-        price-is n (t - 1) k s weight heavy
-        ∙ ap (λ k. ranked k (s * 4 ^ (n - suc (t - 1))) 0)
-        (k-is ∙ ap (λ e. costOver erasureCost e r s) p ∙ ap (λ k. costOver erasureCost (erasedAt n (t - 1) mask) k s) q)
+    is s {k} k-is = price-is n (t - 1) k s weight heavy ∙ ap (λ k. ranked k (s * 4 ^ (n - suc (t - 1))) 0) k-is
 
     here : (s : ℕ) → s < 4
         → getD (four prices (4 * (t - 1)) w x y z) (4 * (t - 1) + s) 0 ≡ rankedCost n (symbolCost n received mask) (t - 1) s
@@ -161,21 +158,3 @@ prices-end I h = record { room = I .room; at = λ u a k. I .at u a (omega arith)
 
 pub symbol-least : (symbol weight : ℕ) → symbol ≤ 3 → weight ≤ distanceUnit → symbol * weight ≤ 3 * distanceUnit
 symbol-least symbol weight h k = mul-le-mul h k
-
--- ---- the distance of a label: each symbol costs 1 at most
-
-pub block-at-most : (n received mask label : ℕ) → blockDistance n received mask label ≤ n
-unfolding distanceBy symbolCostBy sum
-block-at-most n received mask label = each n 0
-  where
-    one : (b : Bool) (r a : ℕ) → costOver erasureCost b r a ≤ 1
-    one true r a = omega arith
-    one false r a = go (eqb a r)
-      where
-        go : (c : Bool) → one-if (not c) ≤ 1
-        go true = omega arith
-        go false = omega arith
-
-    each : (k t : ℕ) → sum (λ u. costOver erasureCost (erasedAt n u mask) (symbol n u received) (symbol n u label)) t k ≤ k
-    each zero t = omega arith
-    each (suc k) t = let h = each k (suc t) in let l = one (erasedAt n t mask) (symbol n t received) (symbol n t label) in omega arith

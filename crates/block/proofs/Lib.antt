@@ -2,3 +2,4 @@
 pub mod Masks
 pub mod Costs
 pub mod Erasures
+pub mod Marking

@@ -1,7 +1,7 @@
 -- The mask's bits are its base-2 digits, read by a shift and `&`; the digits of a label that fits a block are 0 where they are erased.
-use mathlib.Core.Path.{_≡_, sym, subst, _∙_}
-use mathlib.Core.Bool.{Bool, true, false, not}
-use Prim.Native.Nat.{ℕ, suc, _+_, _-_, _*_, _/_, _^_, _≤_, _<_}
+use mathlib.Core.Path.{_≡_, refl, sym, ap, subst, _∙_}
+use mathlib.Core.Bool.{Bool, true, false, not, _&&_}
+use Prim.Native.Nat.{ℕ, suc, _+_, _-_, _*_, _/_, _%_, _^_, _≤_, _<_}
 use native.Mathlib.Nat.{not-suc-le-zero, div-eq-of-lt, div-lt-iff-lt-mul, pow-le-pow-right, lt-of-lt-of-le}
 use native.Mathlib.Decide.{ℕ-discrete, decLt}
 use native.Mathlib.Omega.{arith}
@@ -9,20 +9,42 @@ use lib.Bits.{bitAnd, and-mask}
 use lib.Pow.{pow-pos}
 use lib.Dec.{T, ltb, eqb, lit<}
 use borrow.Author.Tests.{lt-ltb, le-ltb, eq-eqb, ne-eqb, not-true, not-false}
-use Rattle.trellis.specs.Lists.{first}
-use Rattle.trellis.specs.Label.{isLabel}
+use Rattle.trellis.specs.Lists.{one-if, first}
+use Rattle.trellis.specs.Label.{symbol, isLabel}
+use Rattle.trellis.specs.Comparing.{markedAt}
 use Rattle.trellis.proofs.Bools.{holds, fails}
 use Rattle.trellis.proofs.Lists.{First, first-is}
-use Rattle.block.specs.Received.{erasedAt, stray, fitsBlock}
+use Rattle.label.proofs.Comparing.{bit-is}
+use Rattle.block.specs.Received.{stray, fitsBlock}
 
 -- no symbol before t is erased and not 0
 pub record InStray (n received mask t : ℕ) : Type 0 where
   pub t-le : t ≤ n
   pub none : (u : ℕ) → u < t → T (stray n received mask u) → ⊥
 
-pub bit-at : (n t mask : ℕ) → eqb (bitAnd (mask / 2 ^ (n - 1 - t)) 1) 1 ≡ erasedAt n t mask
-unfolding erasedAt
-bit-at n t mask = let e : n - 1 - t ≡ n - suc t = omega arith in rw (and-mask (mask / 2 ^ (n - 1 - t)) 1, e)
+pub bit-at : (n t mask : ℕ) → bitAnd (mask / 2 ^ (n - 1 - t)) 1 ≡ one-if (markedAt n t mask)
+unfolding markedAt
+bit-at n t mask =
+    let e : n - 1 - t ≡ n - suc t = omega arith in
+    and-mask (mask / 2 ^ (n - 1 - t)) 1 ∙ ap (λ k. mask / 2 ^ k % 2) e ∙ bit-is (mask / 2 ^ (n - suc t))
+
+-- the two ways of the test, by the symbol's bit
+module _ (n t received erased : ℕ) {bit : ℕ} (b : bit ≡ one-if (markedAt n t erased)) where
+  pub stray-erased : {s : ℕ} → s ≡ symbol n t received → bit ≡ 1 → not (eqb s 0) ≡ stray n received erased t
+  unfolding stray
+  stray-erased {s} e h = ap (λ s. not (eqb s 0)) e ∙ go (markedAt n t erased) (sym b ∙ h)
+    where
+      go : (m : Bool) → one-if m ≡ 1 → not (eqb (symbol n t received) 0) ≡ m && not (eqb (symbol n t received) 0)
+      go true k = refl
+      go false k = absurd (omega arith)
+
+  pub stray-kept : (bit ≡ 1 → ⊥) → false ≡ stray n received erased t
+  unfolding stray
+  stray-kept h = go (markedAt n t erased) (λ k. h (b ∙ k))
+    where
+      go : (m : Bool) → (one-if m ≡ 1 → ⊥) → false ≡ m && not (eqb (symbol n t received) 0)
+      go true k = absurd (k refl)
+      go false k = refl
 
 pub mask-fits : (mask n : ℕ) → ltb (mask / 2 ^ n) 1 ≡ ltb mask (2 ^ n)
 mask-fits mask n = go (decLt mask (2 ^ n))

@@ -3,6 +3,7 @@ use mathlib.Core.Path.{refl}
 use mathlib.Core.List.{flatMap}
 use Rattle.trellis.specs.Lists.{run, sum, first, isIn, keep, rank, insert, ascending, lower, alike, all, any, within}
 use Rattle.trellis.specs.Label.{symbol, front, back, spliced, symbolsBelow, isLabel}
+use Rattle.trellis.specs.Comparing.{markedAt, symbolCostBy, distanceBy, differsAt, differing}
 use Rattle.trellis.specs.Own.{shares, firstSharing, key, keys, vertexOf, vertexCount, edgesAt, edgeCount}
 use Rattle.trellis.specs.Section.{leaving, pathsFrom, packOnto, wordOf, wordsOf}
 use Rattle.trellis.specs.Layout.{vertexCountOf, edgeCountOf, edgesBefore, rootsPlace, goalsPlace, pairsPlace, symbolsPlace, rootState}
@@ -18,10 +19,10 @@ use Rattle.read_back.specs.TableBytes.{tableBytes}
 use Rattle.read_back.specs.ReadingBack.{isSection, readingBack}
 use Rattle.paths.specs.Choice.{choose, best, paidOr}
 use Rattle.paths.specs.Chain.{rootedAt, chainPaths, pathDistance, bestPath, costTable}
-use Rattle.block.specs.Received.{erasedAt, symbolCostBy, distanceBy, stray, fitsBlock}
+use Rattle.block.specs.Received.{stray, fitsBlock}
 use Rattle.sections.specs.Sections.{sectionStart, sectionAt, unusable, sectionsBad, badSectionOf}
-use Rattle.chain.specs.Frame.{frameBad, blockWords, wordDistanceBy, blockBad}
-use Rattle.chain.specs.Decoding.{neededOf, bestBy, tableOf, found, fitted, framed, decoding}
+use Rattle.chain.specs.Frame.{frameBad, blockWords, wordDistanceBy, wordMask, blockBad}
+use Rattle.chain.specs.Decoding.{neededOf, bestBy, tableOf, masksOf, found, fitted, framed, decoding}
 use Rattle.cases.specs.Marked.{left, shown, AllShown}
 
 pub all-shown : AllShown
@@ -31,7 +32,7 @@ unfolding run sum first isIn keep rank insert ascending lower alike symbol front
     additions selections refutes firstOf overK overJ witnessAt witness wordCount fileWord fileWords lengthBad outside sizeOutside
     wordOutside wordBad orderBad tableFile mapOf written merged mergedTable mergedFile merging sectionLength all any within stepEdge
     whole sizesRight edgesInside countsRight rising statesRight edgesAscend onward inward noTwinsReached noTwinsLeading usable
-    tableBytes isSection readingBack choose best paidOr rootedAt chainPaths pathDistance bestPath costTable erasedAt
-    symbolCostBy distanceBy stray fitsBlock sectionStart sectionAt unusable sectionsBad badSectionOf frameBad blockWords wordDistanceBy
-    blockBad neededOf bestBy tableOf found fitted framed decoding left shown flatMap
+    tableBytes isSection readingBack choose best paidOr rootedAt chainPaths pathDistance bestPath costTable markedAt
+    symbolCostBy distanceBy differsAt differing stray fitsBlock sectionStart sectionAt unusable sectionsBad badSectionOf frameBad
+    blockWords wordDistanceBy wordMask blockBad neededOf bestBy tableOf masksOf found fitted framed decoding left shown flatMap
 all-shown = refl

@@ -1,6 +1,6 @@
--- Document 01's marked cases, case 8 as document 02's request 1 has it, one list under one statement: what each case shows, worked out from
--- the definitions, is what the paper says it shows. Bytes and numbers are written as the paper writes them; a buffer is full of nines
--- before the call.
+-- Document 01's marked cases, case 8 as document 02's request 1 has it, 7 and 8 with the masks of request 5, one list under one statement:
+-- what each case shows, worked out from the definitions, is what the papers say it shows. Bytes and numbers are written as the papers write
+-- them; a buffer is full of nines before the call.
 use mathlib.Core.Path.{_≡_}
 use mathlib.Core.List.{List, [], _∷_, _++_, map, flatMap}
 use Prim.Native.Nat.{ℕ, suc, _-_, _*_}
@@ -33,18 +33,30 @@ pub record Left : Type 0 where
   pub costs : List ℕ
   pub labels : List ℕ
   pub goals : List ℕ
+  pub masks : List ℕ
 
 abbrev nines : ℕ → List ℕ
 nines places = replicate places 9
 
 abbrev leftByMerging : Merging → Left
-leftByMerging m = record { answer = m .answer; map = m .map; section = m .section; file = []; costs = []; labels = []; goals = [] }
+leftByMerging m =
+    record { answer = m .answer; map = m .map; section = m .section; file = []; costs = []; labels = []; goals = []; masks = [] }
 
 abbrev leftByReading : ReadingBack → Left
-leftByReading r = record { answer = r .outcome; map = []; section = []; file = r .file; costs = []; labels = []; goals = [] }
+leftByReading r =
+    record { answer = r .outcome; map = []; section = []; file = r .file; costs = []; labels = []; goals = []; masks = [] }
 
 abbrev leftByDecoding : Decoding → Left
-leftByDecoding d = record { answer = d .answer; map = []; section = []; file = []; costs = d .costs; labels = d .labels; goals = d .goals }
+leftByDecoding d = record {
+  answer = d .answer;
+  map = [];
+  section = [];
+  file = [];
+  costs = d .costs;
+  labels = d .labels;
+  goals = d .goals;
+  masks = d .masks;
+}
 
 unfoldable pub left : Call → Left
 left (merge file mapPlaces sectionPlaces) = leftByMerging (merging file (nines mapPlaces) (nines sectionPlaces))
@@ -52,8 +64,7 @@ left (readBack c places) = leftByReading (readingBack (left c .section) (nines p
 left (decode c received erased) =
     let blocks = length received in
     leftByDecoding (decoding (frame (left c .section) 1 (replicate blocks 0) received erased 0 0) (nines (costsABlock * blocks))
-    (nines blocks)
-    (nines blocks))
+    (nines blocks) (nines blocks) (nines blocks))
 
 -- what of a call the paper names: the outcome's number and values; all of a buffer; and by the counts that stand in the section, the
 -- vertices at each depth, the edges at each step, the selections; root, label and goal of each word on the section's paths
@@ -65,6 +76,7 @@ pub data Shown : Type 0 where
   wholeCosts : Shown
   wholeLabels : Shown
   wholeGoals : Shown
+  wholeMasks : Shown
   vertices : Shown
   edges : Shown
   selected : Shown
@@ -81,6 +93,7 @@ shown c wholeFile = left c .file
 shown c wholeCosts = left c .costs
 shown c wholeLabels = left c .labels
 shown c wholeGoals = left c .goals
+shown c wholeMasks = left c .masks
 shown c vertices = let l = left c .section in each (vertexCountOf l) (suc (nOf l))
 shown c edges = let l = left c .section in each (edgeCountOf l) (nOf l)
 shown c selected = let l = left c .section in selections (nOf l) (vertexCountOf l) (edgeCountOf l) ∷ []
@@ -192,9 +205,11 @@ cases =
     ∷ case 7 twoBlocks answer (0 ∷ 1 ∷ [])
     ∷ case 7 twoBlocks wholeLabels (0 ∷ 5 ∷ [])
     ∷ case 7 twoBlocks wholeGoals (0 ∷ 0 ∷ [])
+    ∷ case 7 twoBlocks wholeMasks (1 ∷ 0 ∷ [])
     ∷ case 7 twoBlocks wholeCosts ((1 ∷ elsewhere) ++ (0 ∷ elsewhere))
     ∷ case 8 oneBlock answer (0 ∷ 0 ∷ [])
     ∷ case 8 oneBlock wholeLabels (0 ∷ [])
+    ∷ case 8 oneBlock wholeMasks (0 ∷ [])
     ∷ case 8 oneBlock wholeCosts (0 ∷ elsewhere)
     ∷ case 9 twoThirdsMerged answer (0 ∷ 114 ∷ [])
     ∷ case 9 twoThirdsMerged vertices (4 ∷ 8 ∷ 8 ∷ 4 ∷ [])

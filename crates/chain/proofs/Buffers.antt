@@ -11,32 +11,51 @@ use Rattle.trellis.specs.Bounds.{costsABlock}
 use Rattle.chain.specs.Decoding.{neededOf}
 use Rattle.chain.specs.inner.Checked.{Room}
 
-module _ (blocks costs labels goals : ℕ) where
-  pub needed-costs : costs < costsABlock * blocks → costsABlock * blocks ≡ neededOf blocks costs labels goals
+module _ (blocks costs labels goals masks : ℕ) where
+  pub needed-costs : costs < costsABlock * blocks → costsABlock * blocks ≡ neededOf blocks costs labels goals masks
   unfolding neededOf
   needed-costs h = simp (lt-ltb costs (costsABlock * blocks) h)
 
-  pub needed-labels : costsABlock * blocks ≤ costs → labels < blocks → blocks ≡ neededOf blocks costs labels goals
-  unfolding neededOf
-  needed-labels h k = simp (le-ltb costs (costsABlock * blocks) h, lt-ltb labels blocks k)
+  module _ (c : costsABlock * blocks ≤ costs) where
+    pub needed-labels : labels < blocks → blocks ≡ neededOf blocks costs labels goals masks
+    unfolding neededOf
+    needed-labels h = simp (le-ltb costs (costsABlock * blocks) c, lt-ltb labels blocks h)
 
-  pub needed-goals : costsABlock * blocks ≤ costs → blocks ≤ labels → goals < blocks → blocks ≡ neededOf blocks costs labels goals
-  unfolding neededOf
-  needed-goals h k l = simp (le-ltb costs (costsABlock * blocks) h, le-ltb labels blocks k, lt-ltb goals blocks l)
+    module _ (l : blocks ≤ labels) where
+      pub needed-goals : goals < blocks → blocks ≡ neededOf blocks costs labels goals masks
+      unfolding neededOf
+      needed-goals h = simp (le-ltb costs (costsABlock * blocks) c, le-ltb labels blocks l, lt-ltb goals blocks h)
 
-  pub needed-none : costsABlock * blocks ≤ costs → blocks ≤ labels → blocks ≤ goals → 0 ≡ neededOf blocks costs labels goals
-  unfolding neededOf
-  needed-none h k l = simp (le-ltb costs (costsABlock * blocks) h, le-ltb labels blocks k, le-ltb goals blocks l)
+      module _ (g : blocks ≤ goals) where
+        pub needed-masks : masks < blocks → blocks ≡ neededOf blocks costs labels goals masks
+        unfolding neededOf
+        needed-masks h =
+            simp (le-ltb costs (costsABlock * blocks) c, le-ltb labels blocks l, le-ltb goals blocks g, lt-ltb masks blocks h)
 
-pub room-of : {indices costs labels goals : List ℕ} {n : ℕ} → 0 < length indices
-    → n ≡ neededOf (length indices) (length costs) (length labels) (length goals) → n ≤ 0 → Room indices costs labels goals
-room-of {indices} {costs} {labels} {goals} {n} pos e h =
+        pub needed-none : blocks ≤ masks → 0 ≡ neededOf blocks costs labels goals masks
+        unfolding neededOf
+        needed-none h =
+            simp (le-ltb costs (costsABlock * blocks) c, le-ltb labels blocks l, le-ltb goals blocks g, le-ltb masks blocks h)
+
+pub room-of : {indices costs labels goals masks : List ℕ} {n : ℕ} → 0 < length indices
+    → n ≡ neededOf (length indices) (length costs) (length labels) (length goals) (length masks) → n ≤ 0
+    → Room indices costs labels goals masks
+room-of {indices} {costs} {labels} {goals} {masks} {n} pos e h =
     go (decLt (length costs) (costsABlock * length indices)) (decLt (length labels) (length indices))
-    (decLt (length goals) (length indices))
+    (decLt (length goals) (length indices)) (decLt (length masks) (length indices))
   where
     go : Dec (length costs < costsABlock * length indices) → Dec (length labels < length indices) → Dec (length goals < length indices)
-        → Room indices costs labels goals
-    go (yes a) b c = let z = e ∙ sym (needed-costs _ _ _ _ a) in absurd (omega arith)
-    go (no a) (yes b) c = let z = e ∙ sym (needed-labels _ _ _ _ (omega arith) b) in absurd (omega arith)
-    go (no a) (no b) (yes c) = let z = e ∙ sym (needed-goals _ _ _ _ (omega arith) (omega arith) c) in absurd (omega arith)
-    go (no a) (no b) (no c) = record { none-short = omega arith; forCosts = omega arith; forLabels = omega arith; forGoals = omega arith }
+        → Dec (length masks < length indices) → Room indices costs labels goals masks
+    go (yes a) b c d = let z = e ∙ sym (needed-costs _ _ _ _ _ a) in absurd (omega arith)
+    go (no a) (yes b) c d = let z = e ∙ sym (needed-labels _ _ _ _ _ (omega arith) b) in absurd (omega arith)
+    go (no a) (no b) (yes c) d = let z = e ∙ sym (needed-goals _ _ _ _ _ (omega arith) (omega arith) c) in absurd (omega arith)
+    go (no a) (no b) (no c) (yes d) =
+        let z = e ∙ sym (needed-masks _ _ _ _ _ (omega arith) (omega arith) (omega arith) d) in
+        absurd (omega arith)
+    go (no a) (no b) (no c) (no d) = record {
+      none-short = omega arith;
+      forCosts = omega arith;
+      forLabels = omega arith;
+      forGoals = omega arith;
+      forMasks = omega arith;
+    }

@@ -3,22 +3,23 @@
 use mathlib.Core.Path.{_≡_, sym, ap, subst, _∙_}
 use mathlib.Core.Bool.{Bool, true, false, not, _&&_}
 use mathlib.Core.List.{List}
-use Prim.Native.Nat.{ℕ, _+_, _≤_, _<_}
+use Prim.Native.Nat.{ℕ, _+_, _^_, _≤_, _<_}
 use native.Mathlib.Nat.{not-suc-le-zero}
 use native.Mathlib.Decide.{ℕ-discrete}
 use native.Mathlib.Omega.{arith}
-use lib.Dec.{ltb, leb}
+use lib.Dec.{T, ltb, leb, eqb}
 use lib.ListN.{length, getD}
 use borrow.Author.Tests.{lt-ltb, le-ltb, eq-eqb, ne-eqb, not-true, not-false, eqb-true, ltb-true}
 use Rattle.trellis.specs.Bounds.{mostStates, mostBlocks}
 use Rattle.trellis.specs.Lists.{first, within}
+use Rattle.trellis.specs.Label.{symbolsBelow, isLabel}
 use Rattle.trellis.specs.Layout.{qOf, nOf}
 use Rattle.trellis.proofs.Bools.{holds, fails, is-true, is-false, both, neither}
 use Rattle.trellis.proofs.Lists.{first-is, first-ok}
 use Rattle.numbers.proofs.Bounds.{within-of, at-least}
 use Rattle.sections.specs.Sections.{sectionAt}
 use Rattle.sections.specs.inner.Found.{SectionsFound, noView, AllFound}
-use Rattle.block.specs.Received.{fitsBlock}
+use Rattle.block.specs.Received.{stray, fitsBlock}
 use Rattle.chain.specs.Frame.{Frame, frame, blockCount, frameBad, blockSection, blockBad}
 use Rattle.section_file.specs.inner.View.{viewOf}
 use Rattle.section_file.specs.declared.View.{View}
@@ -167,19 +168,35 @@ pub frame-passed : {f : Frame} {bad : Bool} {b : ℕ} → bad ≡ frameBad f →
     → blockCount f ≤ b → FramePassed f
 frame-passed {f} e h p l = record { frameGood = sym e ∙ h; blocksGood = subst (λ x. blockCount f ≤ x) p l }
 
-pub index-good : {f : Frame} → FramePassed f → (b : ℕ) → b < blockCount f → getD (f .indices) b 0 < f .k
+block-good : {f : Frame} → FramePassed f → (b : ℕ) → b < blockCount f
+    → T (ltb (getD (f .indices) b 0) (f .k))
+    × T (fitsBlock (nOf (blockSection f b)) (getD (f .received) b 0) (getD (f .erased) b 0) (qOf (blockSection f b)))
 unfolding blockBad
-index-good {f} P b h =
+block-good {f} P b h =
     let F = first-ok (blockBad f) (blockCount f) in
     let e = is-false (blockBad f b) (F .miss b (omega (arith, P .blocksGood))) in
     let s = blockSection f b in
     let fits = fitsBlock (nOf s) (getD (f .received) b 0) (getD (f .erased) b 0) (qOf s) in
-    let t = both (ltb (getD (f .indices) b 0) (f .k)) fits (holds (not-false (ltb (getD (f .indices) b 0) (f .k) && fits) e)) in
-    ltb-true (getD (f .indices) b 0) (f .k) (is-true _ (t .0))
+    both (ltb (getD (f .indices) b 0) (f .k)) fits (holds (not-false (ltb (getD (f .indices) b 0) (f .k) && fits) e))
+
+pub index-good : {f : Frame} → FramePassed f → (b : ℕ) → b < blockCount f → getD (f .indices) b 0 < f .k
+index-good {f} P b h = ltb-true (getD (f .indices) b 0) (f .k) (is-true _ (block-good P b h .0))
+
+-- what was received has no bits above its section's symbols
+pub received-short : {f : Frame} → FramePassed f → (b : ℕ) → b < blockCount f
+    → getD (f .received) b 0 < 4 ^ nOf (blockSection f b)
+unfolding fitsBlock isLabel
+received-short {f} P b h =
+    let l = blockSection f b in
+    let x = getD (f .received) b 0 in
+    let erased = getD (f .erased) b 0 in
+    let label = both (isLabel (qOf l) (nOf l) x) (ltb erased (2 ^ nOf l) && eqb (first (stray (nOf l) x erased) (nOf l)) (nOf l))
+    (block-good P b h .1) in
+    ltb-true x (4 ^ nOf l) (is-true _ (both (ltb x (4 ^ nOf l)) (symbolsBelow (qOf l) (nOf l) x) (label .0) .0))
 
 pub checked : {f : Frame} {starts : List ℕ} {views : List View} → AllFound (f .sections) starts views (f .k) → FramePassed f
     → FrameChecked f starts views
-checked A P = record { sectionsFound = A; framed = framed-of (P .frameGood); indexBelow = index-good P }
+checked A P = record { sectionsFound = A; framed = framed-of (P .frameGood); indexBelow = index-good P; receivedShort = received-short P }
 
 pub views-of : {sections starts : List ℕ} {views : List View} {k : ℕ} → AllFound sections starts views k → Views views k
 unfolding viewOf

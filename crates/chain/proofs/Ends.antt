@@ -4,36 +4,38 @@
 -- least distance.
 use mathlib.Core.Path.{_≡_, refl, sym, ap, subst, _∙_}
 use mathlib.Core.List.{List, map}
-use Prim.Native.Nat.{ℕ, _+_, _-_, _*_, _/_, _%_, _≤_, _<_}
-use native.Mathlib.Nat.{sub-zero}
+use Prim.Native.Nat.{ℕ, _+_, _-_, _*_, _/_, _%_, _^_, _≤_, _<_}
+use native.Mathlib.Nat.{zero-add, sub-zero}
 use native.Mathlib.Decide.{decLt}
 use native.Mathlib.Omega.{arith}
 use lib.ListN.{length, getD, drop, length-map, List·getD-map, List·getD-eq-default, length-drop}
 use Rattle.trellis.specs.Bounds.{mostSymbols, costsABlock}
 use Rattle.trellis.specs.Word.{Word, word, wordAt}
 use Rattle.trellis.specs.Outcome.{success, noPath}
+use Rattle.trellis.specs.Comparing.{labelDistance, differing}
 use Rattle.trellis.specs.Layout.{nOf, sectionWords}
-use Rattle.trellis.specs.Lists.{over}
+use Rattle.trellis.specs.Lists.{_∈_, over}
 use Rattle.trellis.proofs.Lists.{length-run, each-at}
 use Rattle.trellis.proofs.Buffers.{over-is}
+use Rattle.label.proofs.Comparing.{distance-most}
 use Rattle.paths.specs.Choice.{Choice, none, some}
 use Rattle.paths.specs.Chain.{bestPath, costTable, IsChainPath, unreached, endsIn}
 use Rattle.paths.proofs.Chain.{cost-table, least-le, best-traced, no-path}
-use Rattle.paths.proofs.Winner.{best-right}
+use Rattle.paths.proofs.Winner.{best-right, word-of}
 use Rattle.section_file.specs.inner.Sound.{Sound}
 use Rattle.section_file.specs.inner.View.{Seen}
 use Rattle.section_file.specs.declared.View.{View}
 use Rattle.section_file.proofs.Usable.{usable-sound}
+use Rattle.section_file.proofs.Words.{label-short}
 use Rattle.sections.specs.Sections.{sectionStart, sectionAt}
 use Rattle.sections.proofs.Sections.{long-enough}
-use Rattle.block.specs.Received.{blockDistance}
-use Rattle.block.proofs.Costs.{block-at-most}
+use Rattle.block.specs.inner.Masks.{MasksAsked, MasksPut}
 use Rattle.passes.specs.inner.Chains.{Chain, leastFrom, pathFrom, NotesFrom, Written, Followed, FollowedTo}
 use Rattle.cost_table.specs.inner.Filled.{EndRow, EndsAs, HeldBlocks, heldBlocks, blockPart, viewAt, Ready, ChainOf, Filled}
 use Rattle.cost_table.specs.inner.Settled.{Cheap, Settling, Settled}
-use Rattle.chain.specs.Frame.{Frame, frame, blockCount, blockSection, blockWords, wordDistanceBy, wordDistance}
-use Rattle.chain.specs.Decoding.{left, bestBy, tableOf, found, fitted}
-use Rattle.chain.specs.inner.Checked.{FrameChecked, Checked, Room}
+use Rattle.chain.specs.Frame.{Frame, blockCount, blockSection, blockWords, wordDistanceBy, wordDistance, wordMask}
+use Rattle.chain.specs.Decoding.{left, bestBy, tableOf, masksOf, found, fitted}
+use Rattle.chain.specs.inner.Checked.{FrameChecked, Room}
 use Rattle.chain.proofs.Faults.{past-room}
 
 -- the chain that a frame is
@@ -93,14 +95,14 @@ module _ {f : Frame} {starts : List ℕ} {views : List View} (K : FrameChecked f
   chain-of = record {
     blocksIs = refl;
     wordsAre = λ b h. ap sectionWords (sym (part-is b));
-    priceIs = λ b h w. ap (λ l. blockDistance (nOf l) (getD (f .received) b 0) (getD (f .erased) b 0) (w .label)) (sym (part-is b));
+    priceIs = λ b h w. ap (λ l. labelDistance (nOf l) (getD (f .received) b 0) (getD (f .erased) b 0) (w .label)) (sym (part-is b));
   }
 
   -- no distance is above 8
   distance-to : (b : ℕ) (w : Word) → wordDistance f b w ≤ mostSymbols
   unfolding wordDistanceBy
   distance-to b w =
-      omega (arith, block-at-most (nOf (blockSection f b)) (getD (f .received) b 0) (getD (f .erased) b 0) (w .label), sound-at b .nTo)
+      omega (arith, distance-most (nOf (blockSection f b)) (getD (f .received) b 0) (getD (f .erased) b 0) (w .label), sound-at b .nTo)
 
   abbrev tableFrom : ℕ → ℕ → ℕ
   tableFrom b s = costTable (blockWords f) (endsIn (f .end)) (wordDistance f) (blockCount f - b) b s
@@ -121,7 +123,7 @@ module _ {f : Frame} {starts : List ℕ} {views : List View} (K : FrameChecked f
   cheap : Cheap (chainOf f)
   cheap = record { below = λ b h w. omega (arith, distance-to b w) }
 
-  module _ {ends toPay costs notes labels goals : List ℕ} (E : EndRow (f .end) ends) (R : Room (f .indices) costs labels goals)
+  module _ {ends toPay costs notes labels goals masks : List ℕ} (E : EndRow (f .end) ends) (R : Room (f .indices) costs labels goals masks)
       (F : Filled heldOf ends toPay costs notes) where
     ends-as : EndsAs (chainOf f) ends
     ends-as = record { at = E .at }
@@ -169,7 +171,7 @@ module _ {f : Frame} {starts : List ℕ} {views : List View} (K : FrameChecked f
             ∙ sym (each-at (λ j. tableFrom (j / costsABlock) (j % costsABlock)) (costsABlock * blockCount f) i 0 (omega arith))
 
     pub ends-none : getD toPay (f .start) 0 ≡ unreached → {new : List ℕ} → Settled (blockCount f) ends notes new
-        → left noPath new labels goals ≡ fitted f costs labels goals
+        → left noPath new labels goals masks ≡ fitted f costs labels goals masks
     unfolding found bestBy
     ends-none e S =
         let z = sub-zero (blockCount f) in
@@ -179,8 +181,9 @@ module _ {f : Frame} {starts : List ℕ} {views : List View} (K : FrameChecked f
         let m = K .framed .many in
         let n : best ≡ none
         = no-path (blockWords f) (endsIn (f .end)) (wordDistance f) mostSymbols distance-to (blockCount f) 0 (f .start) (omega arith) t in
-        past-room f costs labels goals (R .none-short)
-        (ap (λ c. left noPath c labels goals) (table-over S) ∙ sym (ap (found f costs labels goals) n))
+        let is : left noPath (over (tableOf f) costs) labels goals masks ≡ found f costs labels goals masks none = refl in
+        past-room f costs labels goals masks (R .none-short)
+        (ap (λ c. left noPath c labels goals masks) (table-over S) ∙ is ∙ sym (ap (found f costs labels goals masks) n))
 
     module _ (n : getD toPay (f .start) 0 ≡ unreached → ⊥) where
       opened : leastFrom (chainOf f) 0 (f .start) < unreached
@@ -215,6 +218,15 @@ module _ {f : Frame} {starts : List ℕ} {views : List View} (K : FrameChecked f
       path-right : IsChainPath (blockWords f) (endsIn (f .end)) (blockCount f) 0 (f .start) path
       path-right = best-right (blockWords f) (endsIn (f .end)) (wordDistance f) (blockCount f) 0 (f .start) best-some
 
+      -- its words are of their sections, so their labels have the sections' symbols
+      path-short : (b : ℕ) → b < blockCount f → wordAt path b .label < 4 ^ nOf (blockSection f b)
+      unfolding blockWords
+      path-short b h =
+          let m = path-right .long in
+          label-short (sound-at b) (wordAt path b)
+          (subst (λ x. wordAt path b ∈ blockWords f x) (zero-add b)
+          (word-of (blockWords f) (endsIn (f .end)) 0 (f .start) path (path-right .linked) b (omega arith)))
+
       -- what was written of each word stands in front
       put : (g : Word → ℕ) (old written : List ℕ) → blockCount f ≤ length old → length written ≡ length old
           → ((i : ℕ) → i < blockCount f → getD written i 0 ≡ g (wordAt path i))
@@ -227,61 +239,50 @@ module _ {f : Frame} {starts : List ℕ} {views : List View} (K : FrameChecked f
           (λ i h. front i (omega arith) ∙ sym (ap (getD (map g path) i) (sym blank) ∙ List·getD-map g path i (word 0 0 0)))
           (λ i h. back i (omega arith))
 
-      pub ends-path : {new newLabels newGoals : List ℕ} → FollowedTo (blockCount f) (f .start) notes labels newLabels goals newGoals
-          → Settled (blockCount f) ends notes new
-          → left (success (getD toPay (f .start) 0)) new newLabels newGoals ≡ fitted f costs labels goals
-      unfolding found bestBy
-      ends-path {new} {newLabels} {newGoals} T S =
-          past-room f costs labels goals (R .none-short)
-          (whole (table-over S)
-          (put (λ w. w .label) labels newLabels (R .forLabels) (T .labelsLong) (Z .labelAt) (Z .labelsKept) refl)
-          (put (λ w. w .goal) goals newGoals (R .forGoals) (T .goalsLong) (Z .goalAt) (Z .goalsKept) refl)
-          ∙ sym (ap (found f costs labels goals) best-some))
-        where
-          Z : Written (chainOf f) (f .start) (blockCount f) labels newLabels goals newGoals
-          Z = T .written (chainOf f) refl noted opened
+      module _ {newLabels newGoals : List ℕ} (T : FollowedTo (blockCount f) (f .start) notes labels newLabels goals newGoals) where
+        Z : Written (chainOf f) (f .start) (blockCount f) labels newLabels goals newGoals
+        Z = T .written (chainOf f) refl noted opened
 
-          whole : {a b c : List ℕ} → new ≡ a → newLabels ≡ b → newGoals ≡ c
-              → left (success (getD toPay (f .start) 0)) new newLabels newGoals ≡ left (success (getD toPay (f .start) 0)) a b c
-          whole p q r = λ i. left (success (getD toPay (f .start) 0)) (p i) (q i) (r i)
+        pub marking : MasksAsked (f .received) (f .erased) newLabels masks
+        marking =
+            let r = K .framed .receivedLong in
+            record {
+              erasedLong = omega (arith, K .framed .erasedLong);
+              labelsLong = omega (arith, T .labelsLong, R .forLabels);
+              masksLong = omega (arith, R .forMasks);
+            }
 
--- behind fault 9 K plays no part
-pub any-k : (sections indices received erased : List ℕ) (start end i j : ℕ) (costs labels goals : List ℕ)
-    → fitted (frame sections i indices received erased start end) costs labels goals
-    ≡ fitted (frame sections j indices received erased start end) costs labels goals
-unfolding fitted found bestBy tableOf blockWords wordDistanceBy
-any-k sections indices received erased start end i j costs labels goals = refl
+        module _ {new newMasks : List ℕ} (M : MasksPut (f .received) (f .erased) newLabels masks newMasks (length (f .received)))
+            (S : Settled (blockCount f) ends notes new) where
+          masks-over : newMasks ≡ over (masksOf f path) masks
+          unfolding masksOf wordMask
+          masks-over =
+              over-is (masksOf f path) masks newMasks (omega (arith, long, R .forMasks)) (M .long) at
+              (λ i h. M .kept i (omega (arith, long, K .framed .receivedLong)))
+            where
+              long : length (masksOf f path) ≡ blockCount f
+              long = length-run _ 0 (blockCount f)
 
--- ---- as the code has it: the states are widened, and K is any
+              at : (i : ℕ) → i < length (masksOf f path) → getD newMasks i 0 ≡ getD (masksOf f path) i 0
+              at i h =
+                  let l : i < blockCount f = omega (arith, long) in
+                  let e = Z .labelAt i l in
+                  M .at i (nOf (blockSection f i)) (omega (arith, K .framed .receivedLong)) (sound-at i .nTo) (K .receivedShort i l)
+                  (rw e (path-short i l))
+                  ∙ ap (differing (nOf (blockSection f i)) (getD (f .received) i 0) (getD (f .erased) i 0)) e
+                  ∙ sym (each-at (λ b. wordMask f b (wordAt path b)) (blockCount f) i 0 l)
 
-module _ {sections starts : List ℕ} {views : List View} {indices received erased : List ℕ} {start end from to : ℕ}
-    {ends toPay costs notes labels goals : List ℕ} (C : Checked sections starts views indices received erased start end)
-    (p : from ≡ start) (q : to ≡ end) (E : EndRow to ends) (R : Room indices costs labels goals)
-    (F : Filled (heldBlocks sections starts views indices received erased) ends toPay costs notes) where
-  E-end : EndRow end ends
-  E-end = subst (λ x. EndRow x ends) q E
-
-  pub with-notes : Settling sections starts indices ends notes
-  with-notes = settling (C .checks) E-end R F
-
-  pub with-none : getD toPay from 0 ≡ unreached → {new : List ℕ} → Settled (length indices) ends notes new
-      → (k : ℕ) → left noPath new labels goals ≡ fitted (frame sections k indices received erased start end) costs labels goals
-  with-none e S k =
-      ends-none (C .checks) E-end R F (ap (λ x. getD toPay x 0) (sym p) ∙ e) S
-      ∙ any-k sections indices received erased start end (C .k) k costs labels goals
-
-  module _ (n : getD toPay from 0 ≡ unreached → ⊥) where
-    n-start : getD toPay start 0 ≡ unreached → ⊥
-    n-start e = n (ap (λ x. getD toPay x 0) p ∙ e)
-
-    pub with-way : Followed (length indices) from notes labels goals
-    with-way = subst (λ x. Followed (length indices) x notes labels goals) (sym p) (followed (C .checks) E-end R F n-start)
-
-    pub with-path : {new newLabels newGoals : List ℕ} → FollowedTo (length indices) from notes labels newLabels goals newGoals
-        → Settled (length indices) ends notes new
-        → (k : ℕ) → left (success (getD toPay from 0)) new newLabels newGoals
-        ≡ fitted (frame sections k indices received erased start end) costs labels goals
-    with-path {new} {newLabels} {newGoals} T S k =
-        ap (λ x. left (success (getD toPay x 0)) new newLabels newGoals) p
-        ∙ ends-path (C .checks) E-end R F n-start (subst (λ x. FollowedTo (length indices) x notes labels newLabels goals newGoals) p T) S
-        ∙ any-k sections indices received erased start end (C .k) k costs labels goals
+          pub ends-path : left (success (getD toPay (f .start) 0)) new newLabels newGoals newMasks ≡ fitted f costs labels goals masks
+          unfolding found bestBy
+          ends-path =
+              past-room f costs labels goals masks (R .none-short)
+              (whole (table-over S)
+              (put (λ w. w .label) labels newLabels (R .forLabels) (T .labelsLong) (Z .labelAt) (Z .labelsKept) refl)
+              (put (λ w. w .goal) goals newGoals (R .forGoals) (T .goalsLong) (Z .goalAt) (Z .goalsKept) refl)
+              masks-over
+              ∙ sym (ap (found f costs labels goals masks) best-some))
+            where
+              whole : {a b c d : List ℕ} → new ≡ a → newLabels ≡ b → newGoals ≡ c → newMasks ≡ d
+                  → left (success (getD toPay (f .start) 0)) new newLabels newGoals newMasks
+                  ≡ left (success (getD toPay (f .start) 0)) a b c d
+              whole p q r s = λ i. left (success (getD toPay (f .start) 0)) (p i) (q i) (r i) (s i)

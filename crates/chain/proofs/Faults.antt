@@ -13,25 +13,25 @@ use Rattle.chain.specs.Frame.{Frame, blockCount, frameBad, blockBad}
 use Rattle.chain.specs.Decoding.{Decoding, left, neededOf, bestOf, found, fitted, framed, decoding}
 use Rattle.chain.proofs.Checks.{FramePassed}
 
-module _ (f : Frame) (costs labels goals : List ℕ) where
+module _ (f : Frame) (costs labels goals masks : List ℕ) where
   pub ends-section : {i : ℕ} → sectionsBad (f .sections) (f .k) ≡ true → badSectionOf (f .sections) (f .k) ≡ i
-      → left (badSection i) costs labels goals ≡ decoding f costs labels goals
+      → left (badSection i) costs labels goals masks ≡ decoding f costs labels goals masks
   unfolding decoding
   ends-section b e = simp (b, e)
 
   pub ends-frame : {bad : Bool} → bad ≡ frameBad f → bad ≡ true
-      → left (badBlock (blockCount f)) costs labels goals ≡ framed f costs labels goals
+      → left (badBlock (blockCount f)) costs labels goals masks ≡ framed f costs labels goals masks
   unfolding framed
   ends-frame e h = simp (sym e, h)
 
   pub ends-block : {bad : Bool} {b : ℕ} → bad ≡ frameBad f → bad ≡ false
       → b ≡ first (blockBad f) (blockCount f) → b < blockCount f
-      → left (badBlock b) costs labels goals ≡ framed f costs labels goals
+      → left (badBlock b) costs labels goals masks ≡ framed f costs labels goals masks
   unfolding framed
   ends-block {b = b} e h p l = simp (sym e, h, sym p, lt-ltb b (blockCount f) l)
 
-  pub ends-short : {n : ℕ} → n ≡ neededOf (blockCount f) (length costs) (length labels) (length goals) → 0 < n
-      → left (shortBuffer n) costs labels goals ≡ fitted f costs labels goals
+  pub ends-short : {n : ℕ} → n ≡ neededOf (blockCount f) (length costs) (length labels) (length goals) (length masks) → 0 < n
+      → left (shortBuffer n) costs labels goals masks ≡ fitted f costs labels goals masks
   unfolding fitted
   ends-short {n} q m = simp (sym q, lt-ltb 0 n m)
 
@@ -39,14 +39,14 @@ module _ (f : Frame) (costs labels goals : List ℕ) where
 
   module _ {m : Decoding} where
     pub past-sections : sectionsBad (f .sections) (f .k) ≡ false
-        → m ≡ framed f costs labels goals
-        → m ≡ decoding f costs labels goals
+        → m ≡ framed f costs labels goals masks
+        → m ≡ decoding f costs labels goals masks
     unfolding decoding
     past-sections g e = e ∙ simp g
 
     pub past-frame : FramePassed f
-        → m ≡ fitted f costs labels goals
-        → m ≡ framed f costs labels goals
+        → m ≡ fitted f costs labels goals masks
+        → m ≡ framed f costs labels goals masks
     unfolding framed
     past-frame P e =
         e ∙ simp (
@@ -54,8 +54,8 @@ module _ (f : Frame) (costs labels goals : List ℕ) where
           le-ltb (first (blockBad f) (blockCount f)) (blockCount f) (P .blocksGood),
         )
 
-    pub past-room : neededOf (blockCount f) (length costs) (length labels) (length goals) ≤ 0
-        → m ≡ found f costs labels goals (bestOf f)
-        → m ≡ fitted f costs labels goals
+    pub past-room : neededOf (blockCount f) (length costs) (length labels) (length goals) (length masks) ≤ 0
+        → m ≡ found f costs labels goals masks (bestOf f)
+        → m ≡ fitted f costs labels goals masks
     unfolding fitted
-    past-room h e = e ∙ simp (le-ltb 0 (neededOf (blockCount f) (length costs) (length labels) (length goals)) h)
+    past-room h e = e ∙ simp (le-ltb 0 (neededOf (blockCount f) (length costs) (length labels) (length goals) (length masks)) h)

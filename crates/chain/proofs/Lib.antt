@@ -3,3 +3,4 @@ pub mod Buffers
 pub mod Checks
 pub mod Faults
 pub mod Ends
+pub mod Held

@@ -9,7 +9,8 @@ use Rattle.trellis.specs.Bounds.{mostStates, mostBlocks}
 use Rattle.trellis.specs.Word.{Word}
 use Rattle.trellis.specs.Layout.{qOf, nOf, sectionWords}
 use Rattle.trellis.specs.Lists.{within}
-use Rattle.block.specs.Received.{erasureCost, distanceBy, fitsBlock}
+use Rattle.trellis.specs.Comparing.{erasureCost, distanceBy, differing}
+use Rattle.block.specs.Received.{fitsBlock}
 use Rattle.sections.specs.Sections.{sectionAt}
 
 pub record Frame : Type 0 where
@@ -52,6 +53,10 @@ module _ (f : Frame) where
   -- the distance of a word in block b: an erased symbol costs nothing
   abbrev pub wordDistance : ℕ → Word → ℕ
   wordDistance = wordDistanceBy erasureCost
+
+  -- the mask of a word in block b: its unerased symbols that differ from the received ones
+  unfoldable pub wordMask : ℕ → Word → ℕ
+  wordMask b w = differing (nOf (blockSection b)) (getD (f .received) b 0) (getD (f .erased) b 0) (w .label)
 
   -- the index of block b is not below K, or what was received does not fit its section: a bad digit, or a mask bit at or above 2^n
   unfoldable pub blockBad : ℕ → Bool

@@ -1,6 +1,6 @@
 // Chain decoding: sections one behind another, for each block a section index, a received label and an erasure mask, a start and an
 // end state. `decode` answers for all arguments, by an equation with `decoding`: the outcome of document 01 and the whole content of
-// the three buffers.
+// the four buffers.
 ghost use mathlib.Core.Path.{_≡_};
 ghost use mathlib.Core.List.{List};
 ghost use Prim.Native.Nat.{ℕ, _≤_};
@@ -100,9 +100,9 @@ fn first_bad(
 }
 
 // The length that the first short buffer needs, or 0.
-fn needed(blocks: usize, costs: usize, labels: usize, goals: usize) -> usize
+fn needed(blocks: usize, costs: usize, labels: usize, goals: usize, masks: usize) -> usize
     requires { ⌜ blocks ≤ mostBlocks ⌝ }
-    ensures { λ r. ⌜ r ≡ neededOf blocks costs labels goals ⌝ }
+    ensures { λ r. ⌜ r ≡ neededOf blocks costs labels goals masks ⌝ }
 {
     if costs < COSTS_A_BLOCK * blocks {
         return COSTS_A_BLOCK * blocks;
@@ -110,11 +110,14 @@ fn needed(blocks: usize, costs: usize, labels: usize, goals: usize) -> usize
     if labels < blocks {
         return blocks;
     }
-    if goals < blocks { blocks } else { 0 }
+    if goals < blocks {
+        return blocks;
+    }
+    if masks < blocks { blocks } else { 0 }
 }
 
 // Backward over the blocks to the distance, with notes in the cost table; where there is a path from the start state, forward along the
-// notes to its words; and the notes turned into costs. K plays no part here, so the promise is for any.
+// notes to its words, and their masks; and the notes turned into costs. K plays no part here, so the promise is for any.
 fn decode_with(
     sections: &[u16],
     starts: &[usize; MOST_SECTIONS + 1],
@@ -127,12 +130,13 @@ fn decode_with(
     costs: &mut [u32],
     labels: &mut [u16],
     goals: &mut [u8],
+    masks: &mut [u8],
 ) -> Decoded
     requires { ⌜ Checked (now sections) (now starts) views (now indices) (now received) (now erased) start end
-        × Room (now indices) (now costs) (now labels) (now goals) ⌝ }
-    ensures { λ r. ⌜ ((k : ℕ) → left (decodedOutcome r) (now (costs .exit)) (now (labels .exit)) (now (goals .exit))
+        × Room (now indices) (now costs) (now labels) (now goals) (now masks) ⌝ }
+    ensures { λ r. ⌜ ((k : ℕ) → left (decodedOutcome r) (now (costs .exit)) (now (labels .exit)) (now (goals .exit)) (now (masks .exit))
         ≡ fitted (frame (now (sections .entry)) k (now (indices .entry)) (now (received .entry)) (now (erased .entry)) start end)
-        (now (costs .entry)) (now (labels .entry)) (now (goals .entry))) ⌝ }
+        (now (costs .entry)) (now (labels .entry)) (now (goals .entry)) (now (masks .entry))) ⌝ }
 {
     let from = widened(start);
     let ends = ends_in(widened(end));
@@ -152,6 +156,7 @@ fn decode_with(
         return Decoded::NoPath;
     }
     follow(indices.len(), from, costs, labels, goals);
+    block::put_masks(received, erased, labels, masks);
     settle(sections, starts, indices, ends, costs);
     Decoded::Distance(distance)
 }
@@ -169,13 +174,20 @@ fn decode_blocks(
     costs: &mut [u32],
     labels: &mut [u16],
     goals: &mut [u8],
+    masks: &mut [u8],
 ) -> Decoded
     requires { ⌜ Checked (now sections) (now starts) views (now indices) (now received) (now erased) start end ⌝ }
-    ensures { λ r. ⌜ ((k : ℕ) → left (decodedOutcome r) (now (costs .exit)) (now (labels .exit)) (now (goals .exit))
+    ensures { λ r. ⌜ ((k : ℕ) → left (decodedOutcome r) (now (costs .exit)) (now (labels .exit)) (now (goals .exit)) (now (masks .exit))
         ≡ fitted (frame (now (sections .entry)) k (now (indices .entry)) (now (received .entry)) (now (erased .entry)) start end)
-        (now (costs .entry)) (now (labels .entry)) (now (goals .entry))) ⌝ }
+        (now (costs .entry)) (now (labels .entry)) (now (goals .entry)) (now (masks .entry))) ⌝ }
 {
-    let short = needed(indices.len(), costs.len(), labels.len(), goals.len());
+    let short = needed(
+        indices.len(),
+        costs.len(),
+        labels.len(),
+        goals.len(),
+        masks.len(),
+    );
     if short > 0 {
         return Decoded::Short(short);
     }
@@ -191,6 +203,7 @@ fn decode_blocks(
         costs,
         labels,
         goals,
+        masks,
     )
 }
 
@@ -208,11 +221,12 @@ fn decode_frame(
     costs: &mut [u32],
     labels: &mut [u16],
     goals: &mut [u8],
+    masks: &mut [u8],
 ) -> Decoded
     requires { ⌜ AllFound (now sections) (now starts) views k ⌝ }
-    ensures { λ r. ⌜ left (decodedOutcome r) (now (costs .exit)) (now (labels .exit)) (now (goals .exit))
+    ensures { λ r. ⌜ left (decodedOutcome r) (now (costs .exit)) (now (labels .exit)) (now (goals .exit)) (now (masks .exit))
         ≡ framed (frame (now (sections .entry)) k (now (indices .entry)) (now (received .entry)) (now (erased .entry)) start end)
-        (now (costs .entry)) (now (labels .entry)) (now (goals .entry)) ⌝ }
+        (now (costs .entry)) (now (labels .entry)) (now (goals .entry)) (now (masks .entry)) ⌝ }
 {
     if frame_bad(indices, received, erased, start, end) {
         return Decoded::Block(indices.len());
@@ -233,14 +247,15 @@ fn decode_frame(
         costs,
         labels,
         goals,
+        masks,
     )
 }
 
 // Decodes one frame over the K sections that lie one behind another in `sections`: the first path of least distance from state `start`
 // to state `end`, where block b takes a word of section `indices[b]`, and `received[b]` and `erased[b]` are its received label and its
-// erasure mask. For all arguments the answer and every place of the three buffers afterwards are those of `decoding`: on success the
-// distance, with the cost table, the path's labels and its goals in front of the buffers; on "no path" the cost table alone; any other
-// refusal, checked in the order of document 01, leaves the buffers as they were. Places beyond are unchanged.
+// erasure mask. For all arguments the answer and every place of the four buffers afterwards are those of `decoding`: on success the
+// distance, with the cost table, the path's labels, its goals and its masks in front of the buffers; on "no path" the cost table alone;
+// any other refusal, checked in the order of document 01, leaves the buffers as they were. Places beyond are unchanged.
 pub fn decode(
     sections: &[u16],
     k: usize,
@@ -252,10 +267,11 @@ pub fn decode(
     costs: &mut [u32],
     labels: &mut [u16],
     goals: &mut [u8],
+    masks: &mut [u8],
 ) -> Decoded
-    ensures { λ r. ⌜ left (decodedOutcome r) (now (costs .exit)) (now (labels .exit)) (now (goals .exit))
+    ensures { λ r. ⌜ left (decodedOutcome r) (now (costs .exit)) (now (labels .exit)) (now (goals .exit)) (now (masks .exit))
         ≡ decoding (frame (now (sections .entry)) k (now (indices .entry)) (now (received .entry)) (now (erased .entry)) start end)
-        (now (costs .entry)) (now (labels .entry)) (now (goals .entry)) ⌝ }
+        (now (costs .entry)) (now (labels .entry)) (now (goals .entry)) (now (masks .entry)) ⌝ }
 {
     let found = sections::find(sections, k);
     if found.bad {
@@ -276,5 +292,6 @@ pub fn decode(
         costs,
         labels,
         goals,
+        masks,
     )
 }

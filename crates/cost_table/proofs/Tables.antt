@@ -9,12 +9,12 @@ use native.Mathlib.Omega.{arith}
 use lib.ListN.{length, getD, take, drop, replicate, length-replicate, getD-replicate, List·getD-eq-default}
 use Rattle.trellis.specs.Bounds.{mostStates, mostWords, mostSections, costsABlock}
 use Rattle.trellis.specs.Layout.{nOf, vertexCountOf, rootState}
+use Rattle.trellis.specs.Comparing.{symbolCost, distanceBy}
 use Rattle.trellis.proofs.Lists.{rest-of}
 use Rattle.paths.specs.Chain.{unreached}
 use Rattle.paths.specs.inner.OneBlock.{wordPrice}
 use Rattle.paths.specs.inner.Ranked.{topRank, PriceRoom}
 use Rattle.section_file.specs.inner.View.{Seen}
-use Rattle.block.specs.Received.{symbolCost, distanceBy}
 use Rattle.block.specs.inner.Prices.{Prices}
 use Rattle.passes.specs.inner.Blocks.{BlockPassed}
 use Rattle.passes.specs.inner.Chains.{Chain, LeftAt, NotesFrom, RowWritten}

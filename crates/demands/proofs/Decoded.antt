@@ -9,36 +9,38 @@ use native.Mathlib.Decide.{decLt}
 use native.Mathlib.Omega.{arith}
 use lib.ListN.{length, getD, length-map, List·getD-map}
 use Rattle.trellis.specs.Bounds.{mostStates, costsABlock}
-use Rattle.trellis.specs.Lists.{_∈_, first, over}
+use Rattle.trellis.specs.Lists.{_∈_, sum, first, over}
 use Rattle.trellis.specs.Word.{Word, word, wordAt, Before}
-use Rattle.trellis.specs.Layout.{sectionWords}
+use Rattle.trellis.specs.Comparing.{markedIn, Compared}
+use Rattle.trellis.specs.Layout.{nOf, sectionWords}
 use Rattle.trellis.specs.Outcome.{Outcome, success, noPath}
-use Rattle.trellis.proofs.Lists.{length-run, each-at}
+use Rattle.trellis.proofs.Lists.{length-run, each-at, sum-eq}
 use Rattle.trellis.proofs.Buffers.{over-front}
+use Rattle.label.proofs.Comparing.{compares}
 use Rattle.paths.specs.Choice.{Choice, none, some}
-use Rattle.paths.specs.Chain.{endsIn, costTable}
+use Rattle.paths.specs.Chain.{endsIn, pathDistance, costTable}
 use Rattle.paths.specs.inner.Ordered.{Ordered}
 use Rattle.paths.proofs.Chain.{none-listed}
-use Rattle.paths.proofs.Winner.{of-paths, in-paths, word-of, best-right, best-wins, table-drops}
+use Rattle.paths.proofs.Winner.{of-paths, in-paths, word-of, best-right, best-wins, table-drops, distance-sum}
 use Rattle.section_file.proofs.Usable.{usable-sound}
 use Rattle.section_file.proofs.Words.{words-ascend}
 use Rattle.sections.specs.Sections.{sectionsBad}
 use Rattle.sections.proofs.Sections.{sections-usable}
-use Rattle.chain.specs.Frame.{Frame, blockCount, frameBad, blockSection, blockWords, wordDistance, blockBad}
-use Rattle.chain.specs.Decoding.{Decoding, neededOf, bestBy, bestOf, tableOf, found, decoding}
+use Rattle.chain.specs.Frame.{Frame, blockCount, frameBad, blockSection, blockWords, wordDistanceBy, wordDistance, wordMask, blockBad}
+use Rattle.chain.specs.Decoding.{Decoding, neededOf, bestBy, bestOf, tableOf, masksOf, found, decoding}
 use Rattle.chain.proofs.Checks.{FramePassed, index-good}
 use Rattle.chain.proofs.Faults.{ends-section, ends-frame, ends-block, ends-short, past-sections, past-frame, past-room}
 use Rattle.demands.specs.Decoded.{leastDistance, Tabled, NoneFound, Won, Meaning}
 
-module _ (f : Frame) (costs labels goals : List ℕ) where
+module _ (f : Frame) (costs labels goals masks : List ℕ) where
   abbrev decoded : Decoding
-  decoded = decoding f costs labels goals
+  decoded = decoding f costs labels goals masks
 
   abbrev best : Choice (List Word)
   best = bestOf f
 
   abbrev foundWith : Choice (List Word) → Decoding
-  foundWith = found f costs labels goals
+  foundWith = found f costs labels goals masks
 
   abbrev words : ℕ → List Word
   words = blockWords f
@@ -60,41 +62,41 @@ module _ (f : Frame) (costs labels goals : List ℕ) where
       number m = m .answer .number
 
       by-room : sectionsBad (f .sections) (f .k) ≡ false → FramePassed f
-          → Dec (0 < neededOf (blockCount f) (length costs) (length labels) (length goals)) → Passed
+          → Dec (0 < neededOf (blockCount f) (length costs) (length labels) (length goals) (length masks)) → Passed
       by-room s P (yes h) =
           absurd (clear 10 (omega arith) (omega arith) (ap number
-          (past-sections f costs labels goals s
-          (past-frame f costs labels goals P
-          (ends-short f costs labels goals refl h)))))
+          (past-sections f costs labels goals masks s
+          (past-frame f costs labels goals masks P
+          (ends-short f costs labels goals masks refl h)))))
       by-room s P (no h) = record {
         sectionsGood = s;
         framePassed = P;
-        is = sym (past-sections f costs labels goals s
-            (past-frame f costs labels goals P
-            (past-room f costs labels goals (omega arith) refl)));
+        is = sym (past-sections f costs labels goals masks s
+            (past-frame f costs labels goals masks P
+            (past-room f costs labels goals masks (omega arith) refl)));
       }
 
       by-blocks : sectionsBad (f .sections) (f .k) ≡ false → frameBad f ≡ false
           → Dec (first (blockBad f) (blockCount f) < blockCount f) → Passed
       by-blocks s g (yes h) =
           absurd (clear 9 (omega arith) (omega arith) (ap number
-          (past-sections f costs labels goals s
-          (ends-block f costs labels goals refl g refl h))))
+          (past-sections f costs labels goals masks s
+          (ends-block f costs labels goals masks refl g refl h))))
       by-blocks s g (no h) =
           by-room s (record { frameGood = g; blocksGood = omega arith })
-          (decLt 0 (neededOf (blockCount f) (length costs) (length labels) (length goals)))
+          (decLt 0 (neededOf (blockCount f) (length costs) (length labels) (length goals) (length masks)))
 
       by-frame : sectionsBad (f .sections) (f .k) ≡ false → (b : Bool) → frameBad f ≡ b → Passed
       by-frame s true e =
           absurd (clear 9 (omega arith) (omega arith) (ap number
-          (past-sections f costs labels goals s
-          (ends-frame f costs labels goals refl e))))
+          (past-sections f costs labels goals masks s
+          (ends-frame f costs labels goals masks refl e))))
       by-frame s false e = by-blocks s e (decLt (first (blockBad f) (blockCount f)) (blockCount f))
 
       by-sections : (b : Bool) → sectionsBad (f .sections) (f .k) ≡ b → Passed
       by-sections true e =
           absurd (clear 8 (omega arith) (omega arith) (ap number
-          (ends-section f costs labels goals e refl)))
+          (ends-section f costs labels goals masks e refl)))
       by-sections false e = by-frame e (frameBad f) refl
 
   -- ---- the buffers
@@ -143,6 +145,29 @@ module _ (f : Frame) (costs labels goals : List ℕ) where
       let l = length-map ws f in
       over-front (map f ws) old b (omega arith) ∙ ap (getD (map f ws) b) (sym blank) ∙ List·getD-map f ws b (word 0 0 0)
 
+  -- the mask written for a block compares its word with what was received
+  mask-at : (ws : List Word) (b : ℕ) → b < blockCount f
+      → Compared (nOf (blockSection f b)) (getD (f .received) b 0) (getD (f .erased) b 0) (wordAt ws b .label)
+      (getD (over (masksOf f ws) masks) b 0) (wordDistance f b (wordAt ws b))
+  unfolding masksOf wordMask wordDistanceBy
+  mask-at ws b h =
+      let l = length-run (λ b. wordMask f b (wordAt ws b)) 0 (blockCount f) in
+      let e = over-front (masksOf f ws) masks b (omega arith) ∙ each-at (λ b. wordMask f b (wordAt ws b)) (blockCount f) b 0 h in
+      let x = getD (f .received) b 0 in
+      let erased = getD (f .erased) b 0 in
+      let label = wordAt ws b .label in
+      subst (λ m. Compared (nOf (blockSection f b)) x erased label m (wordDistance f b (wordAt ws b))) (sym e)
+      (compares (nOf (blockSection f b)) x erased label)
+
+  -- so the ones in all masks are the distance of the path
+  ones-are : (ws : List Word) → length ws ≡ blockCount f
+      → sum (λ b. markedIn (nOf (blockSection f b)) (getD (over (masksOf f ws) masks) b 0)) 0 (blockCount f) ≡ pathDistance dist 0 ws
+  ones-are ws l =
+      let marked : ℕ → ℕ = λ b. markedIn (nOf (blockSection f b)) (getD (over (masksOf f ws) masks) b 0) in
+      sum-eq marked (λ b. dist (0 + b) (wordAt ws b)) 0 (blockCount f)
+      (λ b k h. mask-at ws b (omega arith) .ones ∙ ap (λ c. dist c (wordAt ws b)) (sym (zero-add b)))
+      ∙ ap (sum (λ b. dist (0 + b) (wordAt ws b)) 0) (sym l) ∙ sym (distance-sum dist 0 ws)
+
   some-right : Passed → {d : ℕ} {ws : List Word} → best ≡ some d ws
       → Won f d (foundWith (some d ws))
   unfolding found bestBy blockWords
@@ -156,6 +181,8 @@ module _ (f : Frame) (costs labels goals : List ℕ) where
         distanceIs = B .1;
         labelAt = λ b h. written (λ w. w .label) refl ws labels b (omega arith);
         goalAt = λ b h. written (λ w. w .goal) refl ws goals b (omega arith);
+        maskAt = mask-at ws;
+        ones = ones-are ws l ∙ sym (B .1);
         inSection = λ b h. subst (λ x. wordAt ws b ∈ sectionWords (blockSection f x)) (zero-add b)
             (word-of words (endsIn (f .end)) 0 (f .start) ws (I .linked) b (omega arith));
         table = tabled;

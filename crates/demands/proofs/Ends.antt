@@ -94,15 +94,15 @@ reading-back-ends section file =
 
 -- ---- decoding
 
-module _ (f : Frame) (costs labels goals : List ℕ) where
+module _ (f : Frame) (costs labels goals masks : List ℕ) where
   abbrev DecodingKept : Decoding → Type 0
-  DecodingKept d = DecodingEnds costs labels goals d
+  DecodingKept d = DecodingEnds costs labels goals masks d
 
-  by-path : (c : Choice (List Word)) → DecodingKept (decoded f costs labels goals c)
+  by-path : (c : Choice (List Word)) → DecodingKept (decoded f costs labels goals masks c)
   unfolding decoded isIn
   by-path none = record {
     listed = is-in 11 _ tt;
-    wordsKept = λ h. (refl, refl);
+    wordsKept = λ h. (refl, refl, refl);
     costsKept =
         λ m. absurd (not-in 11 _ (λ t. t) m);
   }
@@ -112,16 +112,16 @@ module _ (f : Frame) (costs labels goals : List ℕ) where
     costsKept = λ m. absurd (not-in 0 _ (λ t. t) m);
   }
 
-  -- a refusal that keeps all three
+  -- a refusal that keeps all four
   all-kept : (number : ℕ) (values : List ℕ) → T (isIn eqb number (0 ∷ 8 ∷ 9 ∷ 10 ∷ 11 ∷ []))
-      → DecodingKept (left (outcome number values) costs labels goals)
-  all-kept number values t = record { listed = is-in number _ t; wordsKept = λ h. (refl, refl); costsKept = λ m. refl }
+      → DecodingKept (left (outcome number values) costs labels goals masks)
+  all-kept number values t = record { listed = is-in number _ t; wordsKept = λ h. (refl, refl, refl); costsKept = λ m. refl }
 
-  pub decoding-ends : DecodingKept (decoding f costs labels goals)
+  pub decoding-ends : DecodingKept (decoding f costs labels goals masks)
   unfolding decoding framed fitted isIn
   decoding-ends =
       ends DecodingKept (sectionsBad (f .sections) (f .k)) (all-kept 8 _ tt)
       (ends DecodingKept (frameBad f) (all-kept 9 _ tt)
       (ends DecodingKept (ltb (first (blockBad f) (blockCount f)) (blockCount f)) (all-kept 9 _ tt)
-      (ends DecodingKept (ltb 0 (neededOf (blockCount f) (length costs) (length labels) (length goals))) (all-kept 10 _ tt)
+      (ends DecodingKept (ltb 0 (neededOf (blockCount f) (length costs) (length labels) (length goals) (length masks))) (all-kept 10 _ tt)
       (by-path (bestOf f)))))

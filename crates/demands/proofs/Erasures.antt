@@ -4,6 +4,7 @@
 use mathlib.Core.Path.{_≡_, refl, ap, _∙_}
 use Prim.Native.Nat.{ℕ, _+_, _*_}
 use lib.ListN.{getD}
+use Rattle.trellis.specs.Comparing.{markedIn}
 use Rattle.trellis.specs.Word.{Word}
 use Rattle.trellis.specs.Layout.{nOf}
 use Rattle.trellis.proofs.Lists.{sum-mul}
@@ -11,7 +12,6 @@ use Rattle.paths.specs.Choice.{Choice, none, some}
 use Rattle.paths.specs.Chain.{endsIn}
 use Rattle.paths.proofs.Choose.{extend}
 use Rattle.paths.proofs.Dearer.{best-path-dearer}
-use Rattle.block.specs.Received.{erasedIn}
 use Rattle.block.proofs.Erasures.{distance-by}
 use Rattle.chain.specs.Frame.{Frame, blockCount, blockSection, blockWords, wordDistanceBy, wordDistance}
 use Rattle.chain.specs.Decoding.{bestBy, bestOf}
@@ -24,7 +24,7 @@ dearer-is d (some c p) = refl
 
 module _ (f : Frame) where
   abbrev erasedOf : ℕ → ℕ
-  erasedOf b = erasedIn (nOf (blockSection f b)) (getD (f .erased) b 0)
+  erasedOf b = markedIn (nOf (blockSection f b)) (getD (f .erased) b 0)
 
   word-by : (c b : ℕ) (w : Word) → wordDistanceBy f c b w ≡ c * erasedOf b + wordDistance f b w
   unfolding wordDistanceBy

@@ -7,12 +7,12 @@ use Prim.Native.Nat.{ℕ, suc, _+_, _-_, _*_, _<_}
 use lib.ListN.{getD}
 use Rattle.trellis.specs.Bounds.{mostStates, costsABlock}
 use Rattle.trellis.specs.Lists.{_∈_, sum}
+use Rattle.trellis.specs.Comparing.{markedIn, Compared}
 use Rattle.trellis.specs.Word.{Word, wordAt}
 use Rattle.trellis.specs.Layout.{nOf, sectionWords}
 use Rattle.trellis.specs.Outcome.{success, noPath}
 use Rattle.paths.specs.Choice.{Choice, none, some}
 use Rattle.paths.specs.Chain.{endsIn, chainPaths, pathDistance, costTable, IsChainPath, Winner}
-use Rattle.block.specs.Received.{erasedIn}
 use Rattle.chain.specs.Frame.{Frame, blockCount, blockSection, blockWords, wordDistance}
 use Rattle.chain.specs.Decoding.{Decoding, bestBy, bestOf}
 
@@ -43,13 +43,19 @@ module _ (f : Frame) where
     pub table : Tabled (r .costs)
 
   -- these words are a path, none is shorter, and each other that is as short comes after it in word order; d is their distance, and the
-  -- labels and goals are theirs
+  -- labels, goals and masks are theirs
   pub record Won (d : ℕ) (r : Decoding) : Type 0 where
     pub words : List Word
     pub wins : Winner frameDistance framePaths words
     pub distanceIs : d ≡ frameDistance words
     pub labelAt : (b : ℕ) → b < blockCount f → getD (r .labels) b 0 ≡ wordAt words b .label
     pub goalAt : (b : ℕ) → b < blockCount f → getD (r .goals) b 0 ≡ wordAt words b .goal
+    -- document 02, request 5: "Demand 2 covers the masks of the winning path": the mask of a block compares its word with what was received
+    pub maskAt : (b : ℕ) → b < blockCount f
+        → Compared (nOf (blockSection f b)) (getD (f .received) b 0) (getD (f .erased) b 0) (wordAt words b .label) (getD (r .masks) b 0)
+        (wordDistance f b (wordAt words b))
+    -- the ones in all masks are the distance
+    pub ones : sum (λ b. markedIn (nOf (blockSection f b)) (getD (r .masks) b 0)) 0 (blockCount f) ≡ d
     pub inSection : (b : ℕ) → b < blockCount f → wordAt words b ∈ sectionWords (blockSection f b)
     pub table : Tabled (r .costs)
     -- what is left to pay drops by each word's distance
@@ -73,7 +79,7 @@ dearer d (some c p) = some (d + c) p
 module _ (f : Frame) where
   -- how many symbols of the frame are erased
   unfoldable pub erasures : ℕ
-  erasures = sum (λ b. erasedIn (nOf (blockSection f b)) (getD (f .erased) b 0)) 0 (blockCount f)
+  erasures = sum (λ b. markedIn (nOf (blockSection f b)) (getD (f .erased) b 0)) 0 (blockCount f)
 
   -- If an erased symbol costs c, the first path of least distance is the same words, or there is none as before; its distance is c times
   -- the erased symbols more. Document 01's c is 1.

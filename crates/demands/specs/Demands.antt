@@ -38,9 +38,9 @@ pub record ReadingBackEnds (file : List ℕ) (r : ReadingBack) : Type 0 where
   pub fileKept : 0 < r .outcome .number → r .file ≡ file
 
 -- 11 writes the cost table, as success does
-pub record DecodingEnds (costs labels goals : List ℕ) (d : Decoding) : Type 0 where
+pub record DecodingEnds (costs labels goals masks : List ℕ) (d : Decoding) : Type 0 where
   pub listed : OneOf (0 ∷ 8 ∷ 9 ∷ 10 ∷ 11 ∷ []) (d .answer)
-  pub wordsKept : 0 < d .answer .number → (d .labels ≡ labels) × (d .goals ≡ goals)
+  pub wordsKept : 0 < d .answer .number → (d .labels ≡ labels) × (d .goals ≡ goals) × (d .masks ≡ masks)
   pub costsKept : OneOf (8 ∷ 9 ∷ 10 ∷ []) (d .answer) → d .costs ≡ costs
 
 -- ---- demand 2
@@ -95,13 +95,13 @@ pub record Smallest (n : ℕ) (table : List Word) (l : List ℕ) : Type 0 where
 pub record Demands : Type 0 where
   pub mergingEnds : (file map section : List ℕ) → MergingEnds map section (merging file map section)
   pub readingBackEnds : (section file : List ℕ) → ReadingBackEnds file (readingBack section file)
-  pub decodingEnds : (f : Frame) (costs labels goals : List ℕ)
-      → DecodingEnds costs labels goals (decoding f costs labels goals)
+  pub decodingEnds : (f : Frame) (costs labels goals masks : List ℕ)
+      → DecodingEnds costs labels goals masks (decoding f costs labels goals masks)
   pub decided : {file map section : List ℕ} {q n states : ℕ} {table : List Word} → Fair file q n states table map section
       → Decided n table (merging file map section)
   pub sameWords : {file map section : List ℕ} {q n states : ℕ} {table : List Word} → Fair file q n states table map section
       → IsAccepted (merging file map section) → SameWords file q n states table (sectionLeft (merging file map section))
-  pub decoder : (f : Frame) (costs labels goals : List ℕ)
-      → Meaning f (decoding f costs labels goals)
+  pub decoder : (f : Frame) (costs labels goals masks : List ℕ)
+      → Meaning f (decoding f costs labels goals masks)
   pub smallest : {file map section : List ℕ} {q n states : ℕ} {table : List Word} → Fair file q n states table map section
       → IsAccepted (merging file map section) → Smallest n table (sectionLeft (merging file map section))

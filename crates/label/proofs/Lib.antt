@@ -5,5 +5,5 @@ pub mod Appending
 pub mod Packing
 pub mod Order
 pub mod Fields
-pub mod Differing
 pub mod Folding
+pub mod Comparing

@@ -40,16 +40,17 @@ pub read-back-left :
 read-back-left e N = record { answerIs = numbered-by (ap (λ m. m .outcome) e) N; fileIs = ap (λ m. m .file) e }
 
 pub decode-left :
-    {o : Outcome} {m : decoding.Decoding} {number : ℕ} {costs labels goals values : List ℕ} →
-    decoding.left o costs labels goals ≡ m →
+    {o : Outcome} {m : decoding.Decoding} {number : ℕ} {costs labels goals masks values : List ℕ} →
+    decoding.left o costs labels goals masks ≡ m →
     Numbered o number values →
-    DecodeLeft m number costs labels goals values
+    DecodeLeft m number costs labels goals masks values
 decode-left e N =
     record {
       answerIs = numbered-by (ap (λ m. m .answer) e) N;
       costsAre = ap (λ m. m .costs) e;
       labelsAre = ap (λ m. m .labels) e;
       goalsAre = ap (λ m. m .goals) e;
+      masksAre = ap (λ m. m .masks) e;
     }
 
 pub listing-left :

@@ -32,11 +32,12 @@ pub record ReadBackLeft (m : ReadingBack) (number : ℕ) (file values : List ℕ
   pub answerIs : Numbered (m .outcome) number values
   pub fileIs : file ≡ m .file
 
-pub record DecodeLeft (m : Decoding) (number : ℕ) (costs labels goals values : List ℕ) : Type 0 where
+pub record DecodeLeft (m : Decoding) (number : ℕ) (costs labels goals masks values : List ℕ) : Type 0 where
   pub answerIs : Numbered (m .answer) number values
   pub costsAre : costs ≡ m .costs
   pub labelsAre : labels ≡ m .labels
   pub goalsAre : goals ≡ m .goals
+  pub masksAre : masks ≡ m .masks
 
 pub record ListingLeft (m : Listing) (number : ℕ) (text values : List ℕ) : Type 0 where
   pub answerIs : Numbered (m .outcome) number values

@@ -13,7 +13,8 @@ mod answers;
 
 pub use chain::Decoded;
 pub use chain::decode;
-pub use label::distance as label_distance;
+pub use label::Comparison;
+pub use label::compare as compare_labels;
 pub use listing::Listed;
 pub use listing::listing;
 pub use merge::Merged;
@@ -63,12 +64,13 @@ pub extern "C" fn link_decode(
     costs: &mut [u32],
     labels: &mut [u16],
     goals: &mut [u8],
+    masks: &mut [u8],
     values: &mut [u32; 4],
 ) -> u32
     ensures { λ r. ⌜ DecodeLeft (decoding
         (frame (now (sections .entry)) k (now (indices .entry)) (now (received .entry)) (now (erased .entry)) start end)
-        (now (costs .entry)) (now (labels .entry)) (now (goals .entry))) r
-        (now (costs .exit)) (now (labels .exit)) (now (goals .exit)) (now (values .exit)) ⌝ }
+        (now (costs .entry)) (now (labels .entry)) (now (goals .entry)) (now (masks .entry))) r
+        (now (costs .exit)) (now (labels .exit)) (now (goals .exit)) (now (masks .exit)) (now (values .exit)) ⌝ }
 {
     let answer = chain::decode(
         sections,
@@ -81,6 +83,7 @@ pub extern "C" fn link_decode(
         costs,
         labels,
         goals,
+        masks,
     );
     answers::store(chain::outcome(answer), values)
 }

@@ -1,5 +1,5 @@
-// The marked cases of decoding, 7 and 8, and a tie over two blocks, over sections that merging leaves. And the bounds on blocks and on the
-// states of a section and of a frame's ends.
+// The marked cases of decoding, 7 and 8, with their masks, and a tie over two blocks, over sections that merging leaves. And the bounds on
+// blocks and on the states of a section and of a frame's ends.
 use crate::print::put_buffer;
 use crate::print::put_bytes;
 use crate::print::put_costs;
@@ -11,6 +11,7 @@ fn run_case(name: &[u8], section: &[u16], indices: &[u8], received: &[u16], eras
     let mut costs = [9u32; 2 * COSTS_A_BLOCK + 1];
     let mut labels = [9u16; 3];
     let mut goals = [9u8; 3];
+    let mut masks = [9u8; 3];
     io::write_all(1, name);
     let answer = chain::decode(
         section,
@@ -23,10 +24,12 @@ fn run_case(name: &[u8], section: &[u16], indices: &[u8], received: &[u16], eras
         &mut costs,
         &mut labels,
         &mut goals,
+        &mut masks,
     );
     put_outcome(b"answer", chain::outcome(answer));
     put_buffer(b"labels", &labels);
     put_bytes(b"goals", &goals);
+    put_bytes(b"masks", &masks);
     put_costs(b"costs", &costs);
 }
 
@@ -73,6 +76,7 @@ fn run_bound(name: &[u8], indices: &[u8], received: &[u16], erased: &[u8]) {
     let mut costs = [0u32; 257 * COSTS_A_BLOCK];
     let mut labels = [0u16; 257];
     let mut goals = [0u8; 257];
+    let mut masks = [0u8; 257];
     io::write_all(1, name);
     let answer = chain::decode(
         &section,
@@ -85,6 +89,7 @@ fn run_bound(name: &[u8], indices: &[u8], received: &[u16], erased: &[u8]) {
         &mut costs,
         &mut labels,
         &mut goals,
+        &mut masks,
     );
     put_outcome(b"answer", chain::outcome(answer));
 }
@@ -101,6 +106,7 @@ fn run_states(name: &[u8], section: &[u16], start: u8, end: u8) {
     let mut costs = [0u32; COSTS_A_BLOCK];
     let mut labels = [0u16; 1];
     let mut goals = [0u8; 1];
+    let mut masks = [0u8; 1];
     io::write_all(1, name);
     put_outcome(
         b"read back",
@@ -117,6 +123,7 @@ fn run_states(name: &[u8], section: &[u16], start: u8, end: u8) {
         &mut costs,
         &mut labels,
         &mut goals,
+        &mut masks,
     );
     put_outcome(b"answer", chain::outcome(answer));
 }

@@ -1,6 +1,6 @@
 -- The chain's paths are exactly the linked lists of words, they stand in word order, and so the first of least distance wins: it is one of
 -- the paths, none is shorter, and each other of its distance comes after it, words compared from the first block on.
-use mathlib.Core.Path.{_≡_, refl, sym, ap, subst, subst₂, _∙_}
+use mathlib.Core.Path.{_≡_, refl, sym, ap, ap₂, subst, subst₂, _∙_}
 use mathlib.Core.Bool.{Bool, true, false, cond}
 use mathlib.Core.Logic.{inl, inr}
 use mathlib.Core.List.{List, [], _∷_, map, List·Memᴰ·head, List·Memᴰ·not-nil, List·Memᴰ·eq-of-singleton, Memᴰ·map, Memᴰ·of-map}
@@ -10,8 +10,9 @@ use native.Mathlib.Nat.{add-zero, add-suc, suc-add}
 use lib.ListN.{length}
 use lib.Dec.{eqb, eqb→eq}
 use borrow.Author.Tests.{eq-eqb}
-use Rattle.trellis.specs.Lists.{_∈_}
+use Rattle.trellis.specs.Lists.{_∈_, sum}
 use Rattle.trellis.specs.Word.{Word, Before, wordAt}
+use Rattle.trellis.proofs.Lists.{sum-eq, sum-suc}
 use Rattle.paths.specs.Choice.{some, paidOr}
 use Rattle.paths.specs.Chain.{rootedAt, chainPaths, pathDistance, bestPath, Linked, IsChainPath, ChainBefore, Winner, unreached}
 use Rattle.paths.specs.Chain.{costTable}
@@ -132,3 +133,16 @@ module _ (words : ℕ → List Word) (ends : ℕ → Bool) where
       (first-drops dist k b s e (best-right dist (suc k) b s e .linked .1))
   table-drops dist (suc k) b s {p = w ∷ ws} e (suc i) j m h l =
       table-drops dist k (suc b) (w .goal) (behind words ends dist k b s e .best-is) i j m (omega arith) (omega arith)
+
+-- ---- a path's distance is the sum of its words' distances
+
+pub distance-sum : (dist : ℕ → Word → ℕ) (b : ℕ) (p : List Word)
+    → pathDistance dist b p ≡ sum (λ i. dist (b + i) (wordAt p i)) 0 (length p)
+unfolding pathDistance sum
+distance-sum dist b [] = refl
+distance-sum dist b (w ∷ p) =
+    ap₂ (λ x y. x + y) (ap (λ k. dist k w) (sym (add-zero b)))
+    (distance-sum dist (suc b) p
+    ∙ sum-eq (λ i. dist (suc b + i) (wordAt p i)) (λ i. dist (b + suc i) (wordAt p i)) 0 (length p)
+    (λ i l h. ap (λ k. dist k (wordAt p i)) (suc-add b i ∙ sym (add-suc b i)))
+    ∙ sum-suc (λ i. dist (b + i) (wordAt (w ∷ p) i)) 0 (length p))

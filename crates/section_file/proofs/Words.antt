@@ -141,3 +141,8 @@ module _ {l : List ℕ} (s : Sound l) where
   goal-below w m =
       let r = read-of w m in
       omega (arith, ap (λ (v : Word). v .goal) (r .is), s .goalsBelow (r .path .end) (r .fits .end-fits))
+
+  pub label-short : (w : Word) → w ∈ sectionWords l → w .label < 4 ^ nOf l
+  label-short w m =
+      let r = read-of w m in
+      omega (arith, ap (λ (v : Word). v .label) (r .is), pack-short (r .fits .symbols-fit) 0)

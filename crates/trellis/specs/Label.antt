@@ -1,9 +1,8 @@
 -- Labels: n symbols packed at two bits each, the first symbol highest. So a label is a number below 4 ^ n, and its symbols are its base-4
 -- digits. Everything here is for general n. Symbols are counted from 0: symbol t stands between depth t and depth t + 1.
-use mathlib.Core.Bool.{Bool, true, _&&_, not}
+use mathlib.Core.Bool.{Bool, true, _&&_}
 use Prim.Native.Nat.{ℕ, zero, suc, _+_, _-_, _*_, _/_, _%_, _^_}
-use lib.Dec.{ltb, eqb}
-use Rattle.trellis.specs.Lists.{one-if}
+use lib.Dec.{ltb}
 
 -- symbol t of a label of n symbols
 unfoldable pub symbol : ℕ → ℕ → ℕ → ℕ
@@ -29,8 +28,3 @@ symbolsBelow q (suc k) x = ltb (x % 4) q && symbolsBelow q k (x / 4)
 -- whether x is a label of n symbols below q
 unfoldable pub isLabel : ℕ → ℕ → ℕ → Bool
 isLabel q n x = ltb x (4 ^ n) && symbolsBelow q n x
-
--- how many of the last k symbols differ in x and y
-unfoldable pub distance : ℕ → ℕ → ℕ → ℕ
-distance zero x y = 0
-distance (suc k) x y = one-if (not (eqb (x % 4) (y % 4))) + distance k (x / 4) (y / 4)

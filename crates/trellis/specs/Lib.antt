@@ -2,6 +2,7 @@
 pub mod Bounds
 pub mod Lists
 pub mod Label
+pub mod Comparing
 pub mod Word
 pub mod Own
 pub mod Selections

@@ -11,7 +11,7 @@ returns : tie.Need-returns
 returns c =
     let asked = c .before in
     let a = asked .before .args in
-    fits-label (a .q) (a .n) (a .received) (a .mask) (asked .is-label .ensures) (c .if1 .taken)
+    fits-label (a .q) (a .n) (a .received) (a .erased) (asked .is-label .ensures) (c .if1 .taken)
 
 mask-fits-requires : tie.Need-mask-fits-requires
 mask-fits-requires c κs = search needs
@@ -22,7 +22,8 @@ returns-2 c =
     let label = fits .before in
     let asked = label .before in
     let a = asked .before .args in
-    fits-mask (a .q) (a .n) (a .received) (a .mask) (asked .is-label .ensures) (label .if1 .left) (fits .mask-fits .ensures) (c .if2 .taken)
+    fits-mask (a .q) (a .n) (a .received) (a .erased) (asked .is-label .ensures) (label .if1 .left) (fits .mask-fits .ensures)
+    (c .if2 .taken)
 
 is-clear-requires : tie.Need-is-clear-requires
 is-clear-requires c κs = search needs
@@ -34,7 +35,7 @@ returns-3 c =
     let label = fits .before in
     let asked = label .before in
     let a = asked .before .args in
-    fits-all (a .q) (a .n) (a .received) (a .mask) (asked .is-label .ensures) (label .if1 .left) (fits .mask-fits .ensures)
+    fits-all (a .q) (a .n) (a .received) (a .erased) (asked .is-label .ensures) (label .if1 .left) (fits .mask-fits .ensures)
     (mask .if2 .left)
     (c .is-clear .ensures)
 

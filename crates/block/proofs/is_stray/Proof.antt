@@ -1,23 +1,26 @@
 -- `block::is_stray` is the test of the definition, by whether the symbol is erased.
-use mathlib.Core.Path.{sym}
-use Rattle.block.specs.Received.{stray}
 use borrow.Author.Needs.{needs}
+use Rattle.block.proofs.Masks.{stray-erased, stray-kept}
 use Rattle.block.proofs.is_stray.Statement.{statement}
 use Rattle.block.proofs.is_stray.Tie as tie
 
-is-erased-requires : tie.Need-is-erased-requires
-is-erased-requires c κs = search needs
+bit-at-requires : tie.Need-bit-at-requires
+bit-at-requires c κs = search needs
 
 symbol-requires : tie.Need-symbol-requires
 symbol-requires c κs = search needs
 
 returns : tie.Need-returns
-unfolding stray
-returns c = simp (sym (c .before .before .is-erased .ensures), (c .before .if1 .taken), sym (c .symbol .ensures))
+returns c =
+    let bit = c .before .before in
+    let a = bit .before .args in
+    stray-erased (a .n) (a .t) (a .received) (a .erased) (bit .bit-at .ensures .0) (c .symbol .ensures) (c .before .if1 .taken)
 
 returns-2 : tie.Need-returns-2
-unfolding stray
-returns-2 c = simp (sym (c .before .is-erased .ensures), (c .if1 .left))
+returns-2 c =
+    let bit = c .before in
+    let a = bit .before .args in
+    stray-kept (a .n) (a .t) (a .received) (a .erased) (bit .bit-at .ensures .0) (c .if1 .left)
 
 pub is-stray-spec : {M : Type 1} → statement M
-is-stray-spec = tie.close (tie.spec is-erased-requires symbol-requires returns returns-2)
+is-stray-spec = tie.close (tie.spec bit-at-requires symbol-requires returns returns-2)

@@ -17,13 +17,13 @@ find-requires c κs = search needs
 
 returns : tie.Need-returns
 returns c =
-    let entry = c .before .before .before .before .before .before .before .before .before in
+    let entry = c .before .before .before .before .before .before .before .before .before .before in
     let L = c .before .find .ensures in
-    ends-section (frame-of entry) _ _ _ (L .badIs ∙ c .if1 .taken) (L .indexIs)
+    ends-section (frame-of entry) _ _ _ _ (L .badIs ∙ c .if1 .taken) (L .indexIs)
 
 decode-frame-requires : tie.Need-decode-frame-requires
 decode-frame-requires c κs =
-    let else1 = c .before .before .before .before .before .before in
+    let else1 = c .before .before .before .before .before .before .before in
     else1 .before .find .ensures .found (else1 .if1 .left)
 
 same-length : tie.Need-same-length
@@ -35,15 +35,26 @@ same-length-2 c = search needs
 same-length-3 : tie.Need-same-length-3
 same-length-3 c = search needs
 
+same-length-4 : tie.Need-same-length-4
+same-length-4 c = search needs
+
 returns-2 : tie.Need-returns-2
 returns-2 c =
-    let decode-frame = c .before .before .before .before .before .before in
-    let else1 = decode-frame .before .before .before .before .before .before .before in
+    let decode-frame = c .before .before .before .before .before .before .before .before in
+    let else1 = decode-frame .before .before .before .before .before .before .before .before in
     let find = else1 .before in
-    let entry = find .before .before .before .before .before .before .before .before in
-    past-sections (frame-of entry) _ _ _ (find .find .ensures .badIs ∙ else1 .if1 .left) (decode-frame .decode-frame .ensures)
+    let entry = find .before .before .before .before .before .before .before .before .before in
+    past-sections (frame-of entry) _ _ _ _ (find .find .ensures .badIs ∙ else1 .if1 .left) (decode-frame .decode-frame .ensures)
 
 pub decode-spec : {M : Type 1} → statement M
 decode-spec =
     tie.close
-    (tie.spec find-requires returns decode-frame-requires same-length same-length-2 same-length-3 returns-2)
+    (tie.spec
+    find-requires
+    returns
+    decode-frame-requires
+    same-length
+    same-length-2
+    same-length-3
+    same-length-4
+    returns-2)

@@ -1,6 +1,7 @@
 -- `chain::decode_with` goes backward, forward, and turns the notes into costs: what is left is what the frame's best path gives.
 use borrow.Author.Needs.{needs}
-use Rattle.chain.proofs.Ends.{ready, with-notes, with-none, with-way, with-path}
+use Rattle.chain.proofs.Ends.{ready}
+use Rattle.chain.proofs.Held.{with-notes, with-none, with-way, with-labels, with-path}
 use Rattle.chain.proofs.decode_with.Statement.{statement}
 use Rattle.chain.proofs.decode_with.Tie as tie
 
@@ -16,7 +17,7 @@ ends-in-requires c κs = search needs
 fill-requires : tie.Need-fill-requires
 fill-requires c κs =
     let ends-in = c .before in
-    let entry = ends-in .before .before .before .before .before .before .before .before .before .before in
+    let entry = ends-in .before .before .before .before .before .before .before .before .before .before .before in
     (ready (entry .pre .0 .checks), ends-in .ends-in .ensures .long, entry .pre .1 .forCosts)
 
 mul-distance : tie.Need-mul-distance
@@ -31,7 +32,7 @@ settle-requires c κs =
     let ends-in = fill .before .before in
     let widened2 = ends-in .before in
     let widened = widened2 .before in
-    let entry = widened .before .before .before .before .before .before .before .before in
+    let entry = widened .before .before .before .before .before .before .before .before .before in
     with-notes (entry .pre .0) (widened .widened .ensures .0) (widened2 .widened2 .ensures .0) (ends-in .ends-in .ensures) (entry .pre .1)
     (fill .fill .ensures)
 
@@ -46,7 +47,7 @@ returns c =
     let ends-in = fill .before .before in
     let widened2 = ends-in .before in
     let widened = widened2 .before in
-    let entry = widened .before .before .before .before .before .before .before .before in
+    let entry = widened .before .before .before .before .before .before .before .before .before in
     with-none (entry .pre .0) (widened .widened .ensures .0) (widened2 .widened2 .ensures .0) (ends-in .ends-in .ensures) (entry .pre .1)
     (fill .fill .ensures)
     (then1 .if1 .taken) (settle .settle .ensures)
@@ -58,19 +59,34 @@ follow-requires c κs =
     let ends-in = fill .before .before in
     let widened2 = ends-in .before in
     let widened = widened2 .before in
-    let entry = widened .before .before .before .before .before .before .before .before in
+    let entry = widened .before .before .before .before .before .before .before .before .before in
     with-way (entry .pre .0) (widened .widened .ensures .0) (widened2 .widened2 .ensures .0) (ends-in .ends-in .ensures) (entry .pre .1)
     (fill .fill .ensures)
     (else1 .if1 .left)
 
-settle-requires-2 : tie.Need-settle-requires-2
-settle-requires-2 c κs =
-    let else1 = c .before .before .before .before .before .before .before .before .before in
+put-masks-requires : tie.Need-put-masks-requires
+put-masks-requires c κs =
+    let follow = c .before .before .before .before .before .before in
+    let else1 = follow .before .before .before .before in
     let fill = else1 .before .before .before in
     let ends-in = fill .before .before in
     let widened2 = ends-in .before in
     let widened = widened2 .before in
-    let entry = widened .before .before .before .before .before .before .before .before in
+    let entry = widened .before .before .before .before .before .before .before .before .before in
+    with-labels (entry .pre .0) (widened .widened .ensures .0) (widened2 .widened2 .ensures .0) (ends-in .ends-in .ensures) (entry .pre .1)
+    (fill .fill .ensures)
+    (else1 .if1 .left) (follow .follow .ensures)
+
+settle-requires-2 : tie.Need-settle-requires-2
+settle-requires-2 c κs =
+    let put-masks = c .before .before .before in
+    let follow = put-masks .before .before .before .before .before .before .before in
+    let else1 = follow .before .before .before .before in
+    let fill = else1 .before .before .before in
+    let ends-in = fill .before .before in
+    let widened2 = ends-in .before in
+    let widened = widened2 .before in
+    let entry = widened .before .before .before .before .before .before .before .before .before in
     with-notes (entry .pre .0) (widened .widened .ensures .0) (widened2 .widened2 .ensures .0) (ends-in .ends-in .ensures) (entry .pre .1)
     (fill .fill .ensures)
 
@@ -83,19 +99,23 @@ same-length-3 c = search needs
 same-length-4 : tie.Need-same-length-4
 same-length-4 c = search needs
 
+same-length-5 : tie.Need-same-length-5
+same-length-5 c = search needs
+
 returns-2 : tie.Need-returns-2
 returns-2 c =
     let settle2 = c .before .before in
-    let follow = settle2 .before .before .before .before .before .before in
+    let put-masks = settle2 .before .before .before .before in
+    let follow = put-masks .before .before .before .before .before .before .before in
     let else1 = follow .before .before .before .before in
     let fill = else1 .before .before .before in
     let ends-in = fill .before .before in
     let widened2 = ends-in .before in
     let widened = widened2 .before in
-    let entry = widened .before .before .before .before .before .before .before .before in
+    let entry = widened .before .before .before .before .before .before .before .before .before in
     with-path (entry .pre .0) (widened .widened .ensures .0) (widened2 .widened2 .ensures .0) (ends-in .ends-in .ensures) (entry .pre .1)
     (fill .fill .ensures)
-    (else1 .if1 .left) (follow .follow .ensures) (settle2 .settle2 .ensures)
+    (else1 .if1 .left) (follow .follow .ensures) (put-masks .put-masks .ensures) (settle2 .settle2 .ensures)
 
 pub decode-with-spec : {M : Type 1} → statement M
 decode-with-spec =
@@ -111,8 +131,10 @@ decode-with-spec =
     same-length
     returns
     follow-requires
+    put-masks-requires
     settle-requires-2
     same-length-2
     same-length-3
     same-length-4
+    same-length-5
     returns-2)

@@ -7,13 +7,13 @@ use lib.ListN.{length, getD, drop}
 use Rattle.trellis.specs.Bounds.{mostStates, mostWords, mostSections, mostBlocks, costsABlock}
 use Rattle.trellis.specs.Word.{Word}
 use Rattle.trellis.specs.Layout.{nOf, vertexCountOf, rootState, sectionWords}
+use Rattle.trellis.specs.Comparing.{labelDistance}
 use Rattle.paths.specs.Chain.{unreached, endsIn}
 use Rattle.paths.specs.inner.Chains.{atEnd}
 use Rattle.section_file.specs.inner.View.{Seen}
 use Rattle.section_file.specs.declared.View.{View}
 use Rattle.paths.specs.inner.Ranked.{PriceRoom}
 use Rattle.sections.specs.inner.Found.{noView}
-use Rattle.block.specs.Received.{blockDistance}
 use Rattle.block.specs.inner.Prices.{Prices}
 use Rattle.passes.specs.inner.Blocks.{BlockPassed}
 use Rattle.passes.specs.inner.Chains.{Chain, LeftAt, NotesFrom}
@@ -75,7 +75,7 @@ module _ (H : HeldBlocks) where
     pub blocksIs : C .blocks ≡ length (H .indices)
     pub wordsAre : (b : ℕ) → b < length (H .indices) → C .words b ≡ sectionWords (blockPart b)
     pub priceIs : (b : ℕ) → b < length (H .indices) → (w : Word)
-        → C .price b w ≡ blockDistance (nOf (blockPart b)) (getD (H .received) b 0) (getD (H .erased) b 0) (w .label)
+        → C .price b w ≡ labelDistance (nOf (blockPart b)) (getD (H .received) b 0) (getD (H .erased) b 0) (w .label)
 
   -- from block b on, a state that is no root of its block has the note of no path
   pub record Unrooted (b : ℕ) (notes : List ℕ) : Type 0 where

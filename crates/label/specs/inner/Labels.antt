@@ -4,7 +4,7 @@ use mathlib.Core.Path.{_≡_}
 use mathlib.Core.Bool.{Bool, true, not}
 use mathlib.Core.Logic.{_↔_}
 use Prim.Native.Nat.{ℕ, zero, suc, _+_, _*_, _/_, _%_, _^_, _<_}
-use lib.Bits.{bitAnd}
+use lib.Bits.{bitAnd, bitOr}
 use lib.Dec.{ltb, eqb}
 use Rattle.trellis.specs.Lists.{one-if}
 use Rattle.trellis.specs.Label.{symbol}
@@ -30,11 +30,11 @@ pub record InOrder (x y : ℕ) (before : Bool) : Type 0 where
   pub asNumbers : before ≡ ltb x y
   pub asSymbols : (n : ℕ) → x < 4 ^ n → y < 4 ^ n → (before ≡ true) ↔ Earlier n x y
 
--- the label of n symbols with 1 where x and y differ, and 0 elsewhere
+-- the mask of n bits that marks the symbols in which x and y differ, the first symbol highest
 unfoldable pub differences : ℕ → ℕ → ℕ → ℕ
 differences zero x y = 0
-differences (suc n) x y = differences n (x / 4) (y / 4) * 4 + one-if (not (eqb (x % 4) (y % 4)))
+differences (suc n) x y = differences n (x / 4) (y / 4) * 2 + one-if (not (eqb (y % 4) (x % 4)))
 
--- r adds what the mask keeps of x and of y
-pub record MaskedSum (x y mask r : ℕ) : Type 0 where
-  pub is : r ≡ bitAnd x mask + bitAnd y mask
+-- r has what the mask keeps of x and of y
+pub record MaskedOr (x y mask r : ℕ) : Type 0 where
+  pub is : r ≡ bitAnd (bitOr x y) mask

@@ -22,10 +22,14 @@ same-length-2 c = search needs
 same-length-3 : tie.Need-same-length-3
 same-length-3 c = search needs
 
+same-length-4 : tie.Need-same-length-4
+same-length-4 c = search needs
+
 returns : tie.Need-returns
 returns c =
     let o = c .before .before in
-    decode-left (o .before .before .before .before .before .before .before .decode .ensures) (c .store .ensures _ (o .outcome .ensures))
+    let decode = o .before .before .before .before .before .before .before .before .before in
+    decode-left (decode .decode .ensures) (c .store .ensures _ (o .outcome .ensures))
 
 pub link-decode-spec : {M : Type 1} → statement M
 link-decode-spec =
@@ -37,4 +41,5 @@ link-decode-spec =
     same-length
     same-length-2
     same-length-3
+    same-length-4
     returns)

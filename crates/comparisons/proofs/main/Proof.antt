@@ -1,29 +1,29 @@
--- `distances::main` goes over the labels, each of which adds at most 8 to the sum and 1 to the other count.
+-- `comparisons::main` makes the comparisons, each of which adds at most 8 to the sum and 1 to the other count.
 use Prim.Native.Nat.{_≤_, _-_, _*_}
 use borrow.Author.Needs.{needs}
-use Rattle.distances.proofs.main.Statement.{statement}
-use Rattle.distances.proofs.main.Tie as tie
+use Rattle.comparisons.proofs.main.Statement.{statement}
+use Rattle.comparisons.proofs.main.Tie as tie
 
 abbrev Inv-loop : tie.InvT-loop
-Inv-loop x₀ sum₀ otherwise₀ t5 t6 t7 x sum otherwise = (sum ≤ 8 * x) × (otherwise ≤ x) × (x ≤ 65536)
+Inv-loop i₀ sum₀ otherwise₀ t7 t8 t9 i sum otherwise = (sum ≤ 8 * i) × (otherwise ≤ i) × (i ≤ 524288)
 
 abbrev μ-loop : tie.MeasureT-loop
-μ-loop x₀ sum₀ otherwise₀ t5 t6 t7 x sum otherwise = 65536 - x
+μ-loop i₀ sum₀ otherwise₀ t7 t8 t9 i sum otherwise = 524288 - i
 
 loop-holds : tie.Need-loop-holds Inv-loop μ-loop
 loop-holds c = search needs
 
-cast-at-once : tie.Need-cast-at-once Inv-loop μ-loop
-cast-at-once c = search needs
+cast-x : tie.Need-cast-x Inv-loop μ-loop
+cast-x c = search needs
+
+array-read-erased : tie.Need-array-read-erased Inv-loop μ-loop
+array-read-erased c = search needs
 
 at-once-requires : tie.Need-at-once-requires Inv-loop μ-loop
 at-once-requires c κs = search needs
 
 add-sum : tie.Need-add-sum Inv-loop μ-loop
 add-sum c = search needs
-
-cast-one-at-a-time : tie.Need-cast-one-at-a-time Inv-loop μ-loop
-cast-one-at-a-time c = search needs
 
 one-at-a-time-requires : tie.Need-one-at-a-time-requires Inv-loop μ-loop
 one-at-a-time-requires c κs = search needs
@@ -34,8 +34,8 @@ one-unless-same-requires c κs = search needs
 add-otherwise : tie.Need-add-otherwise Inv-loop μ-loop
 add-otherwise c = search needs
 
-add-x : tie.Need-add-x Inv-loop μ-loop
-add-x c = search needs
+add-i : tie.Need-add-i Inv-loop μ-loop
+add-i c = search needs
 
 loop-less : tie.Need-loop-less Inv-loop μ-loop
 loop-less c = search needs
@@ -74,14 +74,14 @@ main-spec =
     Inv-loop
     μ-loop
     loop-holds
-    cast-at-once
+    cast-x
+    array-read-erased
     at-once-requires
     add-sum
-    cast-one-at-a-time
     one-at-a-time-requires
     one-unless-same-requires
     add-otherwise
-    add-x
+    add-i
     loop-less
     loop-again
     slice-aggregate-put-line
