@@ -111,7 +111,7 @@ static int read_back(void) {
 /* Decodes over one section: its length and numbers, then the frame: B indices, B received labels, B masks, start state, end state. */
 static int decoded(void) {
     static uint16_t frame[3 * LINK_MOST_BLOCKS + 2], best[LINK_MOST_BLOCKS];
-    static uint8_t indices[LINK_MOST_BLOCKS], erased[LINK_MOST_BLOCKS], goals[LINK_MOST_BLOCKS];
+    static uint8_t indices[LINK_MOST_BLOCKS], erased[LINK_MOST_BLOCKS], goals[LINK_MOST_BLOCKS], masks[LINK_MOST_BLOCKS];
     static uint32_t costs[LINK_COSTS_LEN(LINK_MOST_BLOCKS)];
     size_t length;
     if (scanf("%zu", &length) != 1 || length > LINK_ANY_SECTION || read_numbers(section, length) != length)
@@ -125,12 +125,15 @@ static int decoded(void) {
         erased[b] = (uint8_t)frame[2 * blocks + b];
     }
     const uint32_t number = link_decode(section, length, 1, indices, blocks, frame + blocks, blocks, erased, blocks, (uint8_t)frame[3 * blocks],
-                                        (uint8_t)frame[3 * blocks + 1], costs, LINK_COSTS_LEN(LINK_MOST_BLOCKS), best, blocks, goals, blocks, values);
+                                        (uint8_t)frame[3 * blocks + 1], costs, LINK_COSTS_LEN(LINK_MOST_BLOCKS), best, blocks, goals, blocks,
+                                        masks, blocks, values);
     printf("%u\n%u\n", number, values[0]);
     for (size_t b = 0; b < blocks; b++)
         printf("%u ", best[b]);
     for (size_t b = 0; b < blocks; b++)
         printf("%u ", goals[b]);
+    for (size_t b = 0; b < blocks; b++)
+        printf("%u ", masks[b]);
     /* The page shows the states below S; the others have no path. */
     for (size_t b = 0; b < blocks; b++)
         for (size_t s = 0; s < LINK_MOST_STATES; s++)

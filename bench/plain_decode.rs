@@ -1,8 +1,8 @@
 //! Decoding in plain Rust by the kit's own algorithm: each section is checked; over the edges, from the last block to the first, a number is kept at
-//! each vertex that ranks distance, label and goal, and its low 32 bits are noted in the cost table; forward the words in the notes are followed; and
-//! then the notes are turned into costs.
+//! each vertex that ranks distance, label and goal, and its low 32 bits are noted in the cost table; forward the words in the notes are followed, and
+//! each is held against what was received; and then the notes are turned into costs.
 
-use super::access::Access;
+use super::access::{Access, Checked};
 use super::plain_section::Section;
 use link_kit::{COSTS_A_BLOCK, Decoded, Frame, MOST_STATES, NO_COST, Room};
 
@@ -37,12 +37,22 @@ impl Heard {
         self.label as u32 >> (2 * n) == 0 && self.mask as u32 >> n == 0 && (0..n).all(right)
     }
 
-    /// What each symbol of a step adds: its cost, and below it its place in the label.
+    /// What each symbol of a step adds: its cost, and below it its place in the label. The kit has the costs of a block from four comparisons; in plain
+    /// Rust one symbol at a time is quicker.
     fn prices(self, n: usize, t: usize) -> [u64; 4] {
         [0, 1, 2, 3].map(|symbol| {
             let cost = (!self.is_erased(n, t) && self.symbol(n, t) != symbol) as u64;
             cost << WORD_BITS | (symbol as u64) << (2 * (n - 1 - t) as u32 + GOAL_BITS)
         })
+    }
+
+    /// A bit for each symbol in which a label differs and that is not erased: of the two bits of each symbol one is kept, and those are moved together.
+    fn wrong(self, label: u16) -> u8 {
+        let both = self.label ^ label;
+        let one = (both | both >> 1) & 0x5555;
+        let pairs = (one | one >> 1) & 0x3333;
+        let fours = (pairs | pairs >> 2) & 0x0f0f;
+        (fours | fours >> 4) as u8 & !self.mask
     }
 }
 
@@ -124,7 +134,7 @@ fn check(frame: &Frame, room: &Room, sections: &[Option<Section>; 16]) -> Result
     }
     for b in 0..blocks {
         let section = sections.get(frame.indices[b] as usize).copied().flatten();
-        if !section.is_some_and(|section| heard(frame, b).fits(section.q, section.n)) {
+        if !section.is_some_and(|section| heard::<Checked>(frame, b).fits(section.q, section.n)) {
             return Err(Decoded::Block(b));
         }
     }
@@ -132,6 +142,7 @@ fn check(frame: &Frame, room: &Room, sections: &[Option<Section>; 16]) -> Result
         (room.costs.len(), COSTS_A_BLOCK * blocks),
         (room.labels.len(), blocks),
         (room.goals.len(), blocks),
+        (room.masks.len(), blocks),
     ];
     match needs.iter().find(|(length, needed)| length < needed) {
         Some(&(_, needed)) => Err(Decoded::Short(needed)),
@@ -139,8 +150,8 @@ fn check(frame: &Frame, room: &Room, sections: &[Option<Section>; 16]) -> Result
     }
 }
 
-fn heard(frame: &Frame, b: usize) -> Heard {
-    let (label, mask) = (frame.received[b], frame.erased[b]);
+fn heard<A: Access>(frame: &Frame, b: usize) -> Heard {
+    let (label, mask) = (A::get(frame.received, b), A::get(frame.erased, b));
     Heard { label, mask }
 }
 
@@ -156,7 +167,7 @@ fn fill_notes<A: Access>(frame: &Frame, sections: &[Option<Section>; 16], notes:
     for (b, row) in notes.chunks_exact_mut(COSTS_A_BLOCK).enumerate().rev() {
         let section = section_of(frame, sections, b);
         put_goals::<A>(section, &left, &mut rows);
-        sweep::<A>(section, heard(frame, b), &mut rows);
+        sweep::<A>(section, heard::<A>(frame, b), &mut rows);
         put_roots::<A>(section, &rows, &mut left, row);
     }
     left
@@ -180,14 +191,16 @@ fn settle<A: Access>(frame: &Frame, sections: &[Option<Section>; 16], notes: &mu
     }
 }
 
-/// Forward: the words that the notes name, from the start state on.
-fn follow<A: Access>(frame: &Frame, notes: &[u32], labels: &mut [u16], goals: &mut [u8]) {
+/// Forward: the words that the notes name, from the start state on, and their wrong symbols.
+fn follow<A: Access>(frame: &Frame, notes: &[u32], labels: &mut [u16], goals: &mut [u8], masks: &mut [u8]) {
     let mut state = frame.start;
     for b in 0..frame.indices.len() {
         let note = A::get(notes, COSTS_A_BLOCK * b + state as usize);
+        let label = (note >> GOAL_BITS) as u16;
         state = (note % (1 << GOAL_BITS)) as u8;
-        A::put(labels, b, (note >> GOAL_BITS) as u16);
+        A::put(labels, b, label);
         A::put(goals, b, state);
+        A::put(masks, b, heard::<A>(frame, b).wrong(label));
     }
 }
 
@@ -195,7 +208,7 @@ fn search<A: Access>(frame: &Frame, room: Room, sections: &[Option<Section>; 16]
     let notes = &mut room.costs[..COSTS_A_BLOCK * frame.indices.len()];
     let distance = fill_notes::<A>(frame, sections, notes)[frame.start as usize];
     if distance < NO_COST {
-        follow::<A>(frame, notes, room.labels, room.goals);
+        follow::<A>(frame, notes, room.labels, room.goals, room.masks);
     }
     settle::<A>(frame, sections, notes);
     if distance < NO_COST {

@@ -76,12 +76,14 @@ uint32_t link_read_back(const uint16_t *section, size_t section_len, uint8_t *fi
 /* Finds the first path of least distance through a chain of blocks over k sections, which stand one behind another in `sections`. Block b goes
  * through section indices[b]; received[b] is its received label and erased[b] its erasure mask of n bits, the first symbol highest; an erased
  * symbol has digit 0 in the label and costs nothing, any other costs 1 where it differs. Success returns the distance, and writes the labels and goals
- * of the path and the cost table (LINK_COSTS_LEN(blocks) places).
- * Outcomes 0, 8, 9, 10 (cost table, labels, goals) and 11, checked in this order. */
+ * of the path, its masks and the cost table (LINK_COSTS_LEN(blocks) places). masks[b] says which symbols of block b were wrong: it has n bits, the first
+ * symbol highest, and 1 for each symbol of the path's label that differs from the received one and is not erased. The number of ones in all masks is
+ * the distance.
+ * Outcomes 0, 8, 9, 10 (cost table, labels, goals, masks) and 11, checked in this order. */
 uint32_t link_decode(const uint16_t *sections, size_t sections_len, size_t k, const uint8_t *indices, size_t blocks,
                      const uint16_t *received, size_t received_len, const uint8_t *erased, size_t erased_len, uint8_t start, uint8_t end,
                      uint32_t *costs, size_t costs_len, uint16_t *labels, size_t labels_len, uint8_t *goals, size_t goals_len,
-                     uint32_t values[4]);
+                     uint8_t *masks, size_t masks_len, uint32_t values[4]);
 
 /* Writes the printed sizes of a table's section as text, or the line of its refusal. Success, also for a table that is refused, returns the text's
  * length; no 0 byte is put behind it. Outcomes 0 and 10. */

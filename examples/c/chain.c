@@ -1,5 +1,5 @@
 /* Merges the table of labels 00 and 11 (marked case 3) and prints its sizes, decodes two blocks received as 01 and 11 (marked case 7), prints the
- * path, and prints what both blocks cost. Valid C and C++. */
+ * path and which symbols were wrong, and prints what both blocks cost. Valid C and C++. */
 #include "link_kit.h"
 
 #include <stdio.h>
@@ -52,13 +52,13 @@ int main(void) {
     const uint16_t received[2] = {1, 5};
     uint32_t costs[LINK_COSTS_LEN(2)];
     uint16_t labels[2];
-    uint8_t goals[2];
-    number = link_decode(section, length, 1, indices, 2, received, 2, erased, 2, 0, 0, costs, LINK_COSTS_LEN(2), labels, 2, goals, 2, values);
+    uint8_t goals[2], masks[2];
+    number = link_decode(section, length, 1, indices, 2, received, 2, erased, 2, 0, 0, costs, LINK_COSTS_LEN(2), labels, 2, goals, 2, masks, 2, values);
     if (number != LINK_SUCCESS)
         return refused("decode", number, values);
     printf("distance %u\n", values[0]);
     for (unsigned b = 0; b < 2; b++)
-        printf("block %u: label %u%u, goal %u, distance from state 0 onward %u\n", b, labels[b] >> 2 & 3, labels[b] & 3, goals[b],
-               costs[LINK_COST_PLACE(b, 0)]);
+        printf("block %u: label %u%u, mask of wrong symbols %u%u, goal %u, distance from state 0 onward %u\n", b, labels[b] >> 2 & 3, labels[b] & 3,
+               masks[b] >> 1 & 1, masks[b] & 1, goals[b], costs[LINK_COST_PLACE(b, 0)]);
     return print_sheet();
 }

@@ -37,13 +37,13 @@ pub enum ReadBack {
 /// What decoding answers.
 #[derive(Clone, Copy, PartialEq, Eq, Debug)]
 pub enum Decoded {
-    /// The path's distance: cost table, labels and goals are written.
+    /// The path's distance: cost table, labels, goals and masks are written.
     Distance(usize),
     /// K if it is outside its bounds, else the first unusable section, else K for numbers left over.
     Section(usize),
     /// The first bad block, or B for a fault of lengths or states.
     Block(usize),
-    /// The least length that the first short buffer needs: cost table, labels, goals.
+    /// The least length that the first short buffer needs: cost table, labels, goals, masks.
     Short(usize),
     /// No path leads from the start state to the end state. The cost table is written.
     NoPath,

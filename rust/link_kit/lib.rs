@@ -11,12 +11,12 @@
 //! let (mut map, mut section) = ([0; 6], [0; ANY_SECTION]);
 //! assert_eq!(link_kit::merge(&file, &mut map, &mut section), Merged::Section(22));
 //!
-//! // Two blocks received as 01 and 11: the best path is 00, 11.
+//! // Two blocks received as 01 and 11: the best path is 00, 11, and the second symbol of the first block was wrong.
 //! let frame = Frame { sections: &section[..22], k: 1, indices: &[0, 0], received: &[1, 5], erased: &[0, 0], start: 0, end: 0 };
-//! let (mut costs, mut labels, mut goals) = ([0; 2 * COSTS_A_BLOCK], [0; 2], [0; 2]);
-//! let room = Room { costs: &mut costs, labels: &mut labels, goals: &mut goals };
+//! let (mut costs, mut labels, mut goals, mut masks) = ([0; 2 * COSTS_A_BLOCK], [0; 2], [0; 2], [0; 2]);
+//! let room = Room { costs: &mut costs, labels: &mut labels, goals: &mut goals, masks: &mut masks };
 //! assert_eq!(link_kit::decode(&frame, room), Decoded::Distance(1));
-//! assert_eq!((labels, goals), ([0, 5], [0, 0]));
+//! assert_eq!((labels, goals, masks), ([0, 5], [0, 0], [0b01, 0b00]));
 //! ```
 //!
 //! A returned number over 4,294,967,295, as a file's length can be, is given as 4,294,967,295.
@@ -78,6 +78,9 @@ pub struct Room<'a> {
     pub labels: &'a mut [u16],
     /// B places for the goals of the path.
     pub goals: &'a mut [u8],
+    /// B places for which symbols were wrong: n bits, the first symbol highest, with 1 for each symbol of the path's label that differs from the
+    /// received one and is not erased. The number of ones in all masks is the distance.
+    pub masks: &'a mut [u8],
 }
 
 /// Merges the table in `file` into the smallest section with just its words.
@@ -122,23 +125,23 @@ pub fn read_back(section: &[u16], file: &mut [u8]) -> ReadBack {
 /// use link_kit::{COSTS_A_BLOCK, Decoded, Frame, NO_COST, Room};
 /// let section = [2, 1, 2, 1, 1, 1, 0, 1, 0, 0, 0]; // from state 0 to state 1 by the symbol 0
 /// let frame = Frame { sections: &section, k: 1, indices: &[0], received: &[0], erased: &[0], start: 0, end: 0 };
-/// let (mut costs, mut labels, mut goals) = ([0; COSTS_A_BLOCK], [9; 1], [9; 1]);
-/// let room = Room { costs: &mut costs, labels: &mut labels, goals: &mut goals };
+/// let (mut costs, mut labels, mut goals, mut masks) = ([0; COSTS_A_BLOCK], [9; 1], [9; 1], [9; 1]);
+/// let room = Room { costs: &mut costs, labels: &mut labels, goals: &mut goals, masks: &mut masks };
 /// assert_eq!(link_kit::decode(&frame, room), Decoded::NoPath);
-/// assert_eq!((costs, labels, goals), ([NO_COST; COSTS_A_BLOCK], [9], [9]));
+/// assert_eq!((costs, labels, goals, masks), ([NO_COST; COSTS_A_BLOCK], [9], [9], [9]));
 /// ```
 ///
-/// An erased symbol costs nothing, whatever the path has there:
+/// An erased symbol costs nothing, whatever the path has there, and is not among the wrong ones:
 ///
 /// ```
 /// use link_kit::{COSTS_A_BLOCK, Decoded, Frame, Room};
 /// let section = [2, 1, 1, 1, 1, 1, 0, 0, 0, 0, 1]; // from state 0 to state 0 by the symbol 1
-/// for (mask, distance) in [(0, 1), (1, 0)] {
-///     let frame = Frame { sections: &section, k: 1, indices: &[0], received: &[0], erased: &[mask], start: 0, end: 0 };
-///     let (mut costs, mut labels, mut goals) = ([9; COSTS_A_BLOCK], [9; 1], [9; 1]);
-///     let room = Room { costs: &mut costs, labels: &mut labels, goals: &mut goals };
+/// for (erased, distance, wrong) in [(0, 1, 1), (1, 0, 0)] {
+///     let frame = Frame { sections: &section, k: 1, indices: &[0], received: &[0], erased: &[erased], start: 0, end: 0 };
+///     let (mut costs, mut labels, mut goals, mut masks) = ([9; COSTS_A_BLOCK], [9; 1], [9; 1], [9; 1]);
+///     let room = Room { costs: &mut costs, labels: &mut labels, goals: &mut goals, masks: &mut masks };
 ///     assert_eq!(link_kit::decode(&frame, room), Decoded::Distance(distance));
-///     assert_eq!((costs[0], labels, goals), (distance as u32, [1], [0]));
+///     assert_eq!((costs[0], labels, goals, masks), (distance as u32, [1], [0], [wrong]));
 /// }
 /// ```
 pub fn decode(frame: &Frame, room: Room) -> Decoded {

@@ -39,6 +39,8 @@ unsafe extern "C" {
         labels_len: usize,
         goals: *mut u8,
         goals_len: usize,
+        masks: *mut u8,
+        masks_len: usize,
         values: &mut [u32; 4],
     ) -> u32;
     fn link_listing(file: *const u8, file_len: usize, text: *mut u8, text_len: usize, values: &mut [u32; 4]) -> u32;
@@ -95,6 +97,8 @@ pub fn decode(frame: &Frame, room: Room, values: &mut [u32; 4]) -> u32 {
             room.labels.len(),
             room.goals.as_mut_ptr(),
             room.goals.len(),
+            room.masks.as_mut_ptr(),
+            room.masks.len(),
             values,
         )
     }

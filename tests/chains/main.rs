@@ -1,13 +1,15 @@
-//! Decodes many small chains with the compiled `link_decode` and compares the answer and every place of the three buffers with a plain listing of all
+//! Decodes many small chains with the compiled `link_decode` and compares the answer and every place of the four buffers with a plain listing of all
 //! paths, written from documents 01 and 02 alone; then long chains, the bounds on blocks, sections and states, large distances, chains with most
-//! symbols erased, and marked cases 7 and 8.
+//! symbols erased, all sets of wrong symbols, short buffers, and marked cases 7 and 8.
 
 #[path = "../common/mod.rs"]
 mod common;
 
+mod masks;
+
 use common::archive::{self, Answer, Frame};
 use common::decoding;
-use common::frames;
+use common::frames::{self, Lengths};
 use common::merging::section_of;
 use common::tables::{Table, across, large_tables};
 use common::{Differing, MOST_STATES, Numbers};
@@ -22,11 +24,12 @@ struct Tally {
     outcomes: BTreeMap<u32, usize>,
     ties: usize,
     with_erasures: usize,
+    with_wrong: usize,
 }
 
 impl Tally {
-    /// Compares the compiled answer and buffers with the plain ones.
-    fn compare(&mut self, differing: &mut Differing, frame: &Frame, lengths: [usize; 3], small: bool) -> Answer {
+    /// Compares the compiled answer and buffers with the plain ones, and the distance with the ones in the masks.
+    fn compare(&mut self, differing: &mut Differing, frame: &Frame, lengths: Lengths, small: bool) -> Answer {
         let mut wanted = frames::buffers(lengths);
         let mut got = wanted.clone();
         let (answer, passed) = decoding::decode(frame, &mut wanted);
@@ -39,6 +42,11 @@ impl Tally {
             self.with_erasures += frame.erased.iter().any(|&m| m != 0) as usize;
         }
         let given = archive::decode(frame, &mut got);
+        if given.number == 0 {
+            let ones = got.ones(frame.indices.len());
+            differing.compare(&given.value(), &ones, || format!("the ones in the masks: {frame:?}"));
+            self.with_wrong += (ones > 0) as usize;
+        }
         self.chains += 1;
         *self.outcomes.entry(answer.number).or_default() += 1;
         differing.compare(&(&answer, wanted), &(&given, got), || format!("{frame:?}"));
@@ -51,8 +59,10 @@ impl Tally {
             outcomes,
             ties,
             with_erasures,
+            with_wrong,
         } = self;
-        println!("{what}: {chains} chains, outcomes {outcomes:?}, {ties} with ties, {with_erasures} with erasures");
+        print!("{what}: {chains} chains, outcomes {outcomes:?}, {ties} with ties, {with_erasures} with erasures, ");
+        println!("{with_wrong} with wrong symbols");
     }
 }
 
@@ -116,7 +126,7 @@ fn copies(table: &Table, k: usize, blocks: usize, received: u16) -> Frame {
 fn bounds(differing: &mut Differing) {
     let mut tally = Tally::default();
     let table = across(LAST + 1);
-    let lengths = [MOST_STATES * 257 + 3, 260, 259];
+    let lengths = [MOST_STATES * 257 + 3, 260, 259, 258];
     for (k, blocks, start, end, number, value) in [
         (1, 256, LAST, 0, 0, 1),
         (1, 257, LAST, 0, 9, 257),
@@ -206,18 +216,19 @@ fn marked_cases(differing: &mut Differing) {
         states: 1,
         words: vec![(0, 0, 0), (0, 5, 0)],
     };
-    for (received, erased, distance, labels) in
-        [(vec![1, 5], vec![0, 0], 1, vec![0, 5]), (vec![0], vec![1], 0, vec![0])]
-    {
+    for (received, erased, distance, labels, masks) in [
+        (vec![1, 5], vec![0, 0], 1, vec![0, 5], vec![0b01, 0b00]),
+        (vec![0], vec![1], 0, vec![0], vec![0b00]),
+    ] {
         let mut frame = copies(&table, 1, labels.len(), 0);
         (frame.received, frame.erased, frame.start) = (received, erased, 0);
         let mut got = frames::buffers(frames::lengths_of(labels.len()));
         let answer = archive::decode(&frame, &mut got);
         let goals = vec![0; labels.len()];
-        let wanted = (Answer::new(0, &[distance]), labels, goals, distance as u32);
-        let given = (answer, got.labels, got.goals, got.costs[0]);
+        let wanted = (Answer::new(0, &[distance]), labels, goals, masks, distance as u32);
+        let given = (answer, got.labels, got.goals, got.masks, got.costs[0]);
         differing.compare(&wanted, &given, || format!("a marked case: {frame:?}"));
-        Tally::default().compare(differing, &frame, [MOST_STATES * wanted.1.len() + 5, 4, 5], true);
+        Tally::default().compare(differing, &frame, [MOST_STATES * wanted.1.len() + 5, 4, 5, 6], true);
     }
     println!("marked cases 7 and 8");
 }
@@ -231,6 +242,7 @@ fn main() {
     bounds(&mut differing);
     far_chains(&mut differing, &mut numbers);
     bursts(&mut differing, &mut numbers);
+    masks::run(&mut differing, &mut numbers);
     marked_cases(&mut differing);
     differing.finish();
 }

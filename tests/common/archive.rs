@@ -106,15 +106,23 @@ pub struct Buffers {
     pub costs: Vec<u32>,
     pub labels: Vec<u16>,
     pub goals: Vec<u8>,
+    pub masks: Vec<u8>,
 }
 
 impl Buffers {
-    pub fn new(costs: usize, labels: usize, goals: usize) -> Buffers {
+    pub fn new(costs: usize, labels: usize, goals: usize, masks: usize) -> Buffers {
         Buffers {
             costs: pattern(costs).map(u32::from).collect(),
             labels: pattern(labels).collect(),
             goals: byte_pattern(goals),
+            masks: byte_pattern(masks),
         }
+    }
+
+    /// The ones in the masks of so many blocks.
+    pub fn ones(&self, blocks: usize) -> usize {
+        let masks = self.masks.iter().take(blocks);
+        masks.map(|mask| mask.count_ones() as usize).sum()
     }
 
     pub fn lent(&mut self) -> Room<'_> {
@@ -122,6 +130,7 @@ impl Buffers {
             costs: &mut self.costs,
             labels: &mut self.labels,
             goals: &mut self.goals,
+            masks: &mut self.masks,
         }
     }
 }

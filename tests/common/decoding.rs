@@ -1,6 +1,6 @@
-//! Decoding as document 01 says it, but that an erased symbol costs 0 and that there are 16 states at most (document 02, requests 1 and 2): the checks
-//! in order, then every path of the chain listed and measured. A second way, over the words of one block after another, serves chains whose paths are too
-//! many to list; on small chains it is held to the first.
+//! Decoding as document 01 says it, but that an erased symbol costs 0, that there are 16 states at most, and that a mask a block says which symbols were
+//! wrong (document 02, requests 1, 2 and 5): the checks in order, then every path of the chain listed and measured. A second way, over the words of one
+//! block after another, serves chains whose paths are too many to list; on small chains it is held to the first.
 
 use super::MOST_STATES;
 use super::archive::{Answer, Buffers, Frame};
@@ -37,6 +37,17 @@ fn distance(label: u16, received: u16, mask: u8, n: u8, erasure: u32) -> u32 {
         }
     };
     (0..n).zip(pairs).map(cost).sum()
+}
+
+/// One bit for each symbol, the first symbol highest: 1 where the word's symbol differs from the received one and is not erased.
+fn wrong(label: u16, received: u16, mask: u8, n: u8) -> u8 {
+    let (sent, got) = (symbols(label, n), symbols(received, n));
+    let mut bits = 0;
+    for t in 0..n {
+        let differs = sent[t as usize] != got[t as usize];
+        bits = 2 * bits + (differs && !erased(mask, n, t)) as u8;
+    }
+    bits
 }
 
 /// Whether a label or a mask does not fit a section of q and n.
@@ -84,6 +95,7 @@ pub fn blocks_by(erasure: u32, frame: &Frame, buffers: &Buffers) -> Result<Vec<B
         (buffers.costs.len(), MOST_STATES * count),
         (buffers.labels.len(), count),
         (buffers.goals.len(), count),
+        (buffers.masks.len(), count),
     ];
     if let Some((_, needed)) = lengths.into_iter().find(|(length, needed)| length < needed) {
         return Err(Answer::new(10, &[needed]));
@@ -179,14 +191,17 @@ pub fn by_words(blocks: &[Block], start: u8, end: u8) -> Found {
 }
 
 /// What decoding leaves in the buffers, and its answer: 11 or success.
-fn write(found: &Found, buffers: &mut Buffers) -> Answer {
+fn write(frame: &Frame, found: &Found, buffers: &mut Buffers) -> Answer {
     buffers.costs[..found.costs.len()].copy_from_slice(&found.costs);
     let Some((distance, words)) = &found.best else {
         return Answer::new(11, &[]);
     };
+    let sections = sections_of(frame).expect("usable sections");
     for (b, word) in words.iter().enumerate() {
+        let n = sections[frame.indices[b] as usize].n as u8;
         buffers.labels[b] = word.1;
         buffers.goals[b] = word.2;
+        buffers.masks[b] = wrong(word.1, frame.received[b], frame.erased[b], n);
     }
     Answer::new(0, &[*distance as usize])
 }
@@ -196,7 +211,7 @@ pub fn decode(frame: &Frame, buffers: &mut Buffers) -> (Answer, Option<(Vec<Bloc
     match blocks_by(0, frame, buffers) {
         Ok(blocks) => {
             let found = by_words(&blocks, frame.start, frame.end);
-            (write(&found, buffers), Some((blocks, found)))
+            (write(frame, &found, buffers), Some((blocks, found)))
         }
         Err(answer) => (answer, None),
     }

@@ -8,6 +8,9 @@ use super::tables::{Table, Word, drawn, scattered, symbols};
 use super::{MOST_STATES, Numbers};
 use std::collections::BTreeSet;
 
+/// Lengths of the cost table, the labels, the goals and the masks.
+pub type Lengths = [usize; 4];
+
 /// Ascending states that stand for 0, 1, 2 ..; neighbours of a chain meet only if they share them.
 pub fn some_states(count: usize, numbers: &mut Numbers) -> Vec<u8> {
     if numbers.one_in(2) {
@@ -135,7 +138,7 @@ fn put<T>(list: &mut [T], value: T, numbers: &mut Numbers) {
 }
 
 /// Puts a fault of any kind into a chain or its buffers' lengths; some leave it without fault.
-pub fn spoil(frame: &mut Frame, lengths: &mut [usize; 3], numbers: &mut Numbers) {
+pub fn spoil(frame: &mut Frame, lengths: &mut Lengths, numbers: &mut Numbers) {
     let low_bits = numbers.below(16);
     let number = (numbers.below(65_536) >> low_bits) as u16;
     let byte = (numbers.below(256) >> (low_bits / 2)) as u8;
@@ -153,22 +156,23 @@ pub fn spoil(frame: &mut Frame, lengths: &mut [usize; 3], numbers: &mut Numbers)
         10 => frame.start = byte,
         11 => frame.end = byte,
         _ => {
-            let which = numbers.below(3);
+            let which = numbers.below(lengths.len());
             lengths[which] = lengths[which].saturating_sub(numbers.from_to(1, 20));
         }
     }
 }
 
-/// The lengths that the three buffers need.
-pub fn lengths_of(blocks: usize) -> [usize; 3] {
-    [MOST_STATES * blocks, blocks, blocks]
+/// The lengths that the four buffers need.
+pub fn lengths_of(blocks: usize) -> Lengths {
+    [MOST_STATES * blocks, blocks, blocks, blocks]
 }
 
 /// Lengths of buffers for some blocks, some places longer than needed.
-pub fn lengths_for(blocks: usize, numbers: &mut Numbers) -> [usize; 3] {
+pub fn lengths_for(blocks: usize, numbers: &mut Numbers) -> Lengths {
     lengths_of(blocks).map(|needed| needed + numbers.below(10))
 }
 
-pub fn buffers(lengths: [usize; 3]) -> Buffers {
-    Buffers::new(lengths[0], lengths[1], lengths[2])
+pub fn buffers(lengths: Lengths) -> Buffers {
+    let [costs, labels, goals, masks] = lengths;
+    Buffers::new(costs, labels, goals, masks)
 }

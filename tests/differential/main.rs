@@ -12,6 +12,7 @@ mod states;
 
 use common::archive::{self, Buffers, byte_pattern};
 use common::codes::{Sum, benchmarked, full_linear};
+use common::frames::Lengths;
 use common::shapes;
 use common::tables::{Table, large_tables};
 use common::{Differing, Numbers, decoding, frames, listing, merging, sections};
@@ -115,7 +116,7 @@ impl Tally {
         self.decode(&frame, lengths);
     }
 
-    fn decode(&mut self, frame: &archive::Frame, lengths: [usize; 3]) -> archive::Answer {
+    fn decode(&mut self, frame: &archive::Frame, lengths: Lengths) -> archive::Answer {
         let mut wanted: Buffers = frames::buffers(lengths);
         let mut got = wanted.clone();
         let (answer, passed) = decoding::decode(frame, &mut wanted);

@@ -36,7 +36,7 @@ fn all_calls(tally: &mut Tally, states: u8, numbers: &mut Numbers) {
 fn costs(tally: &mut Tally, numbers: &mut Numbers) {
     let frame = over(&[across(MOST_STATES as u8)], [0, 0], BLOCKS, usize::MAX, numbers);
     for (costs, answer) in [(48, None), (47, Some(Answer::new(10, &[48])))] {
-        let given = tally.decode(&frame, [costs, BLOCKS, BLOCKS]);
+        let given = tally.decode(&frame, [costs, BLOCKS, BLOCKS, BLOCKS]);
         let refused = Some(given).filter(|given| given.number != 0);
         let what = || format!("a cost table of {costs} places");
         tally.differing.compare(&answer, &refused, what);

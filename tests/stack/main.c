@@ -16,7 +16,7 @@ static const uint8_t broken[] = {2, 2, 1, 3, 0, 0, 0, 0, 0, 0, 0, 0, 0, 1, 0, 4,
 
 static uint8_t file[LINK_ANY_FILE], text[LINK_ANY_TEXT], sheet[LINK_ANY_SHEET];
 static uint16_t map[LINK_ANY_MAP], section[LINK_ANY_SECTION];
-static uint8_t indices[LINK_MOST_BLOCKS], erased[LINK_MOST_BLOCKS], goals[LINK_MOST_BLOCKS];
+static uint8_t indices[LINK_MOST_BLOCKS], erased[LINK_MOST_BLOCKS], goals[LINK_MOST_BLOCKS], masks[LINK_MOST_BLOCKS];
 static uint16_t received[LINK_MOST_BLOCKS], labels[LINK_MOST_BLOCKS];
 static uint32_t costs[LINK_COSTS_LEN(LINK_MOST_BLOCKS)], values[4], outcome;
 
@@ -38,7 +38,7 @@ static void read_section(void) {
 
 static void decode_frame(void) {
     outcome = link_decode(section, 22, 1, indices, LINK_MOST_BLOCKS, received, LINK_MOST_BLOCKS, erased, LINK_MOST_BLOCKS, 0, 0, costs,
-                          LINK_COSTS_LEN(LINK_MOST_BLOCKS), labels, LINK_MOST_BLOCKS, goals, LINK_MOST_BLOCKS, values);
+                          LINK_COSTS_LEN(LINK_MOST_BLOCKS), labels, LINK_MOST_BLOCKS, goals, LINK_MOST_BLOCKS, masks, LINK_MOST_BLOCKS, values);
 }
 
 static void list_table(void) {
