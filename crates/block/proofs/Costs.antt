@@ -9,20 +9,19 @@ use lib.Dec.{lit<}
 use lib.ListN.{length, getD, set, length-set}
 use lib.Seq.{getD-set-same, getD-set-other, set-out}
 use Rattle.trellis.specs.Bounds.{mostSymbols}
-use Rattle.trellis.specs.Label.{symbol}
 use Rattle.trellis.specs.Comparing.{symbolCost}
 use Rattle.paths.specs.inner.Ranked.{labelUnit, distanceUnit, topRank, ranked, rankedCost, PriceRoom}
 use Rattle.block.specs.inner.Prices.{Prices}
 
 -- what the symbols from t on add is there, and the next one's weight is known
-pub record InPrices (n received mask : ℕ) (prices : List ℕ) (weight t : ℕ) : Type 0 where
+pub record InPrices (n received erased : ℕ) (prices : List ℕ) (weight t : ℕ) : Type 0 where
   pub t-le : t ≤ n
   pub room : PriceRoom prices
   pub weightIs : weight ≡ 4 ^ (n - t) * labelUnit
   pub light : weight ≤ distanceUnit
-  pub at : (u a : ℕ) → t ≤ u → u < n → a < 4 → getD prices (4 * u + a) 0 ≡ rankedCost n (symbolCost n received mask) u a
+  pub at : (u a : ℕ) → t ≤ u → u < n → a < 4 → getD prices (4 * u + a) 0 ≡ rankedCost n (symbolCost n received erased) u a
 
-pub prices-start : {n received mask : ℕ} {prices : List ℕ} → PriceRoom prices → InPrices n received mask prices labelUnit n
+pub prices-start : {n received erased : ℕ} {prices : List ℕ} → PriceRoom prices → InPrices n received erased prices labelUnit n
 prices-start {n} h =
     let e : n - n ≡ 0 = omega arith in
     record {
@@ -34,7 +33,7 @@ prices-start {n} h =
           λ u a k l. absurd (omega arith);
     }
 
-pub step-inside : {n received mask weight t : ℕ} {prices : List ℕ} → InPrices n received mask prices weight t → 0 < t → t - 1 < n
+pub step-inside : {n received erased weight t : ℕ} {prices : List ℕ} → InPrices n received erased prices weight t → 0 < t → t - 1 < n
 step-inside I h = omega (arith, I .t-le)
 
 -- four places written, one behind another
@@ -93,15 +92,15 @@ price-is n t cost a weight e =
     let m : a * (4 ^ (n - suc t) * labelUnit) ≡ a * 4 ^ (n - suc t) * labelUnit = sym (mul-assoc a (4 ^ (n - suc t)) labelUnit) in
     ap (λ x. cost * distanceUnit + a * x) e ∙ omega (arith, m)
 
-pub prices-more : {n received mask t weight c₀ c₁ c₂ c₃ w x y z : ℕ} {prices : List ℕ} → n ≤ mostSymbols
-    → InPrices n received mask prices weight t → 0 < t
-    → c₀ ≡ symbolCost n received mask (t - 1) 0 → (w ≡ c₀ * distanceUnit + 0 * weight) × (w ≤ topRank)
-    → c₁ ≡ symbolCost n received mask (t - 1) 1 → (x ≡ c₁ * distanceUnit + 1 * weight) × (x ≤ topRank)
-    → c₂ ≡ symbolCost n received mask (t - 1) 2 → (y ≡ c₂ * distanceUnit + 2 * weight) × (y ≤ topRank)
-    → c₃ ≡ symbolCost n received mask (t - 1) 3 → (z ≡ c₃ * distanceUnit + 3 * weight) × (z ≤ topRank)
-    → InPrices n received mask (four prices (4 * (t - 1)) w x y z) (weight * 4) (t - 1)
+pub prices-more : {n received erased t weight c₀ c₁ c₂ c₃ w x y z : ℕ} {prices : List ℕ} → n ≤ mostSymbols
+    → InPrices n received erased prices weight t → 0 < t
+    → c₀ ≡ symbolCost n received erased (t - 1) 0 → (w ≡ c₀ * distanceUnit + 0 * weight) × (w ≤ topRank)
+    → c₁ ≡ symbolCost n received erased (t - 1) 1 → (x ≡ c₁ * distanceUnit + 1 * weight) × (x ≤ topRank)
+    → c₂ ≡ symbolCost n received erased (t - 1) 2 → (y ≡ c₂ * distanceUnit + 2 * weight) × (y ≤ topRank)
+    → c₃ ≡ symbolCost n received erased (t - 1) 3 → (z ≡ c₃ * distanceUnit + 3 * weight) × (z ≤ topRank)
+    → InPrices n received erased (four prices (4 * (t - 1)) w x y z) (weight * 4) (t - 1)
 unfolding rankedCost
-prices-more {n} {received} {mask} {t} {weight} {w = w} {x} {y} {z} {prices} few I h c₀-is a c₁-is b c₂-is c c₃-is d =
+prices-more {n} {received} {erased} {t} {weight} {w = w} {x} {y} {z} {prices} few I h c₀-is a c₁-is b c₂-is c c₃-is d =
     record {
       t-le = omega (arith, I .t-le);
       room = record { long = simp length-set (I .room .long); small = small };
@@ -129,12 +128,12 @@ prices-more {n} {received} {mask} {t} {weight} {w = w} {x} {y} {z} {prices} few 
     heavy : weight ≡ 4 ^ (n - suc (t - 1)) * labelUnit
     heavy = let e : n - t ≡ n - suc (t - 1) = omega arith in I .weightIs ∙ ap (λ k. 4 ^ k * labelUnit) e
 
-    is : (s : ℕ) {k : ℕ} → k ≡ symbolCost n received mask (t - 1) s
-        → k * distanceUnit + s * weight ≡ rankedCost n (symbolCost n received mask) (t - 1) s
+    is : (s : ℕ) {k : ℕ} → k ≡ symbolCost n received erased (t - 1) s
+        → k * distanceUnit + s * weight ≡ rankedCost n (symbolCost n received erased) (t - 1) s
     is s {k} k-is = price-is n (t - 1) k s weight heavy ∙ ap (λ k. ranked k (s * 4 ^ (n - suc (t - 1))) 0) k-is
 
     here : (s : ℕ) → s < 4
-        → getD (four prices (4 * (t - 1)) w x y z) (4 * (t - 1) + s) 0 ≡ rankedCost n (symbolCost n received mask) (t - 1) s
+        → getD (four prices (4 * (t - 1)) w x y z) (4 * (t - 1) + s) 0 ≡ rankedCost n (symbolCost n received erased) (t - 1) s
     here zero l = rw (add-zero (4 * (t - 1))) (four-0 prices (4 * (t - 1)) w x y z inside ∙ a .0 ∙ is 0 c₀-is)
     here (suc zero) l = four-1 prices (4 * (t - 1)) w x y z inside ∙ b .0 ∙ is 1 c₁-is
     here (suc (suc zero)) l = four-2 prices (4 * (t - 1)) w x y z inside ∙ c .0 ∙ is 2 c₂-is
@@ -142,16 +141,16 @@ prices-more {n} {received} {mask} {t} {weight} {w = w} {x} {y} {z} {prices} few 
     here (suc (suc (suc (suc s)))) l = absurd (omega arith)
 
     at : (u s : ℕ) → t - 1 ≤ u → u < n → s < 4
-        → getD (four prices (4 * (t - 1)) w x y z) (4 * u + s) 0 ≡ rankedCost n (symbolCost n received mask) u s
+        → getD (four prices (4 * (t - 1)) w x y z) (4 * u + s) 0 ≡ rankedCost n (symbolCost n received erased) u s
     at u s l m k = go (ℕ-discrete u (t - 1))
       where
-        go : Dec (u ≡ t - 1) → getD (four prices (4 * (t - 1)) w x y z) (4 * u + s) 0 ≡ rankedCost n (symbolCost n received mask) u s
-        go (yes e) = subst (λ v. getD (four prices (4 * (t - 1)) w x y z) (4 * v + s) 0 ≡ rankedCost n (symbolCost n received mask) v s)
+        go : Dec (u ≡ t - 1) → getD (four prices (4 * (t - 1)) w x y z) (4 * u + s) 0 ≡ rankedCost n (symbolCost n received erased) u s
+        go (yes e) = subst (λ v. getD (four prices (4 * (t - 1)) w x y z) (4 * v + s) 0 ≡ rankedCost n (symbolCost n received erased) v s)
             (sym e) (here s k)
         go (no e) = four-other prices (4 * (t - 1)) w x y z inside (4 * u + s) (omega arith) ∙ I .at u s (omega arith) m k
 
-pub prices-end : {n received mask weight t : ℕ} {prices : List ℕ} → InPrices n received mask prices weight t → t ≤ 0
-    → Prices n received mask prices
+pub prices-end : {n received erased weight t : ℕ} {prices : List ℕ} → InPrices n received erased prices weight t → t ≤ 0
+    → Prices n received erased prices
 prices-end I h = record { room = I .room; at = λ u a k. I .at u a (omega arith) k }
 
 -- ---- the size of a price

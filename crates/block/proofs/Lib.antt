@@ -1,5 +1,4 @@
 -- Laws of a block's symbols, lowest first.
-pub mod Masks
+pub mod Received
 pub mod Costs
-pub mod Erasures
-pub mod Marking
+pub mod Masks

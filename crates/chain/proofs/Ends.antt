@@ -17,7 +17,7 @@ use Rattle.trellis.specs.Layout.{nOf, sectionWords}
 use Rattle.trellis.specs.Lists.{_∈_, over}
 use Rattle.trellis.proofs.Lists.{length-run, each-at}
 use Rattle.trellis.proofs.Buffers.{over-is}
-use Rattle.label.proofs.Comparing.{distance-most}
+use Rattle.trellis.proofs.Comparing.{distance-most}
 use Rattle.paths.specs.Choice.{Choice, none, some}
 use Rattle.paths.specs.Chain.{bestPath, costTable, IsChainPath, unreached, endsIn}
 use Rattle.paths.proofs.Chain.{cost-table, least-le, best-traced, no-path}

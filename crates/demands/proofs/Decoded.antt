@@ -16,7 +16,7 @@ use Rattle.trellis.specs.Layout.{nOf, sectionWords}
 use Rattle.trellis.specs.Outcome.{Outcome, success, noPath}
 use Rattle.trellis.proofs.Lists.{length-run, each-at, sum-eq}
 use Rattle.trellis.proofs.Buffers.{over-front}
-use Rattle.label.proofs.Comparing.{compares}
+use Rattle.trellis.proofs.Comparing.{compares}
 use Rattle.paths.specs.Choice.{Choice, none, some}
 use Rattle.paths.specs.Chain.{endsIn, pathDistance, costTable}
 use Rattle.paths.specs.inner.Ordered.{Ordered}

@@ -12,7 +12,7 @@ use Rattle.paths.specs.Choice.{Choice, none, some}
 use Rattle.paths.specs.Chain.{endsIn}
 use Rattle.paths.proofs.Choose.{extend}
 use Rattle.paths.proofs.Dearer.{best-path-dearer}
-use Rattle.block.proofs.Erasures.{distance-by}
+use Rattle.trellis.proofs.Erasures.{distance-by}
 use Rattle.chain.specs.Frame.{Frame, blockCount, blockSection, blockWords, wordDistanceBy, wordDistance}
 use Rattle.chain.specs.Decoding.{bestBy, bestOf}
 use Rattle.demands.specs.Decoded.{dearer, erasures, Untouched}

@@ -1,12 +1,11 @@
--- A label of n + 1 symbols x is the label x / 4 of n symbols with the symbol x % 4 behind it: symbol t < n of x is symbol t of x / 4, since
--- dividing by 4 and then by 4 ^ k is dividing by 4 ^ (k + 1), and symbol n of x is x % 4. So whatever holds of labels is shown by dropping
--- the last symbol.
+-- A label of n + 1 symbols x is the label x / 4 of n symbols with the symbol x % 4 behind it, as symbols are digits in base 4: symbol t < n
+-- of x is symbol t of x / 4, and symbol n of x is x % 4. So whatever holds of labels is shown by dropping the last symbol.
 use mathlib.Core.Path.{_≡_}
 use Prim.Native.Nat.{ℕ, suc, _-_, _/_, _%_, _^_, _<_}
-use native.Mathlib.Omega.{arith}
-use native.Mathlib.Nat.{sub-self, pow-suc, pow-succ', mod-lt, div-one, div-lt-iff-lt-mul, div-div-eq-div-mul}
+use native.Mathlib.Nat.{pow-suc, mod-lt, div-lt-iff-lt-mul}
 use lib.Dec.{lit<}
 use Rattle.trellis.specs.Label.{symbol}
+use Rattle.trellis.proofs.Digits.{digit-last, digit-drop}
 
 -- the bound of a label with its last symbol dropped, and back
 pub drop-short : (n : ℕ) {x : ℕ} → x < 4 ^ suc n → x / 4 < 4 ^ n
@@ -22,10 +21,8 @@ module _ (n : ℕ) where
 
   pub symbol-last : (x : ℕ) → symbol (suc n) n x ≡ x % 4
   unfolding symbol
-  symbol-last x = rw (sub-self, div-one)
+  symbol-last = digit-last 4 n
 
   pub symbol-drop : (t x : ℕ) → t < n → symbol (suc n) t x ≡ symbol n t (x / 4)
   unfolding symbol
-  symbol-drop t x h =
-      let e : suc n - suc t ≡ suc (n - suc t) = omega arith in
-      rw (e, pow-succ', ← div-div-eq-div-mul)
+  symbol-drop = digit-drop 4 n

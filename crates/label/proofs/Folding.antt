@@ -2,9 +2,8 @@
 -- the lower bit of each symbol, and a mask keeps that bit alone.
 use mathlib.Core.Path.{_≡_, refl, sym, _∙_, ap, ap₂}
 use mathlib.Core.Bool.{not}
-use Prim.Native.Nat.{ℕ, zero, suc, _+_, _*_, _/_, _%_, _^_, _<_}
+use Prim.Native.Nat.{ℕ, zero, suc, _+_, _*_, _/_, _%_, _<_}
 use native.Mathlib.Omega.{arith}
-use native.Mathlib.Nat.{pow-suc}
 use native.Mathlib.Decide.{ℕ-discrete}
 use lib.Arith.{digits-div, digits-mod, mod-mul}
 use lib.Bits.{bitAnd, bitOr, bitXor, and-zero-r, and-le-l, and-le-r}
@@ -12,8 +11,10 @@ use lib.Bits.{or-lt, or-shr, or-mod, or-add-and, xor-self, xor-comm, xor-shr, xo
 use lib.Dec.{eqb, lit<}
 use borrow.Author.Tests.{eq-eqb, ne-eqb}
 use Rattle.trellis.specs.Lists.{one-if}
+use Rattle.trellis.specs.Comparing.{differing}
 use Rattle.trellis.proofs.Bools.{one-if-le}
-use Rattle.label.specs.inner.Labels.{differences, MaskedOr}
+use Rattle.trellis.proofs.Comparing.{differing-last}
+use Rattle.label.specs.inner.Labels.{MaskedOr}
 use Rattle.label.proofs.Fields.{lowHalves, spread, kept, swapped}
 
 -- 1 where two symbols differ
@@ -54,27 +55,22 @@ fold-last x y =
     ∙ sym (unlike-xor (y % 4) (x % 4))
 
 -- one bit a symbol
-fold-all : (n x y : ℕ) → bitAnd (bitOr (bitXor x y) (bitXor x y / 2)) (lowHalves 1 n) ≡ spread 1 n (differences n x y)
-unfolding differences lowHalves spread
+fold-all : (n x y : ℕ) → bitAnd (bitOr (bitXor x y) (bitXor x y / 2)) (lowHalves 1 n) ≡ spread 1 n (differing n x 0 y)
+unfolding lowHalves spread
 fold-all zero x y = and-zero-r (bitOr (bitXor x y) (bitXor x y / 2))
 fold-all (suc n) x y =
     let b = bitXor x y in
-    let front = differences n (x / 4) (y / 4) in
+    let front = differing n (x / 4) 0 (y / 4) in
     let last : unlike (y % 4) (x % 4) < 2 = omega (arith, one-if-le (not (eqb (y % 4) (x % 4)))) in
     let rest : bitOr b (b / 2) / 4 ≡ bitOr (bitXor (x / 4) (y / 4)) (bitXor (x / 4) (y / 4) / 2) =
     or-shr b (b / 2) 2 ∙ ap (bitOr (b / 4)) (swapped 1 2 b) ∙ ap (λ w. bitOr w (w / 2)) (xor-shr x y 2) in
     kept 1 n (bitOr b (b / 2))
     ∙ ap₂ (λ front last. front * 4 + last) (ap (λ w. bitAnd w (lowHalves 1 n)) rest ∙ fold-all n (x / 4) (y / 4)) (fold-last x y)
     ∙ sym (ap₂ (λ v s. spread 1 n v * 4 + s) (digits-div front last) (digits-mod front last))
+    ∙ ap (spread 1 (suc n)) (sym (differing-last n x 0 y))
 
 -- as the code has it, with its shift and its mask
 pub folded : (n x y : ℕ) {b shifted mask r : ℕ} → MaskedOr b shifted mask r → b ≡ bitXor x y → shifted ≡ b / 2 → mask ≡ lowHalves 1 n
-    → r ≡ spread 1 n (differences n x y)
+    → r ≡ spread 1 n (differing n x 0 y)
 folded n x y {b} s e d low =
     s .is ∙ ap₂ (λ w mask. bitAnd (bitOr b w) mask) d low ∙ ap (λ w. bitAnd (bitOr w (w / 2)) (lowHalves 1 n)) e ∙ fold-all n x y
-
-pub differences-short : (n x y : ℕ) → differences n x y < 2 ^ n
-unfolding differences
-differences-short zero x y = omega arith
-differences-short (suc n) x y =
-    omega (arith, pow-suc 2 n, differences-short n (x / 4) (y / 4), one-if-le (not (eqb (y % 4) (x % 4))))

@@ -4,8 +4,8 @@ ghost use mathlib.Core.Path.{_≡_};
 ghost use Prim.Native.Nat.{ℕ, _-_, _/_, _%_, _^_, _<_, _≤_, min};
 ghost use Rattle.trellis.specs.Bounds.{mostSymbols};
 ghost use Rattle.trellis.specs.Label.{symbol, front, back, isLabel};
-ghost use Rattle.trellis.specs.Comparing.{Compared};
-ghost use Rattle.label.specs.inner.Labels.{appended, InOrder, differences, MaskedOr};
+ghost use Rattle.trellis.specs.Comparing.{differing, Compared};
+ghost use Rattle.label.specs.inner.Labels.{appended, InOrder, MaskedOr};
 
 // How many symbols stand behind depth t.
 fn behind(n: usize, t: usize) -> usize
@@ -102,7 +102,7 @@ fn masked_or(x: u16, y: u16, mask: u16) -> u16
 // folded onto the lower one. Then the eight fields of two bits, with one bit in each, are drawn together: four fields of four bits have two
 // in each, two of eight have four, and one of sixteen has all.
 fn differences(x: u16, y: u16) -> u8
-    ensures { λ r. ⌜ r ≡ differences 8 x y ⌝ }
+    ensures { λ r. ⌜ r ≡ differing 8 x 0 y ⌝ }
 {
     let unlike = x ^ y;
     let ones = masked_or(unlike, unlike >> 1, 0x5555);

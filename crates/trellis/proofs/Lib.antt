@@ -4,6 +4,9 @@ pub mod Lists
 pub mod ThreeNumbers
 pub mod Ascending
 pub mod Distinct
+pub mod Digits
+pub mod Comparing
+pub mod Erasures
 pub mod Labels
 pub mod Words
 pub mod Vertices

@@ -8,7 +8,7 @@ use lib.Dec.{eqb}
 use Rattle.trellis.specs.Lists.{one-if, sum}
 use Rattle.trellis.specs.Label.{symbol}
 
--- whether a mask of n bits marks symbol t
+-- whether a mask of n bits, the first symbol highest, marks symbol t; an erasure mask marks what is erased
 unfoldable pub markedAt : ℕ → ℕ → ℕ → Bool
 markedAt n t mask = eqb (mask / 2 ^ (n - suc t) % 2) 1
 

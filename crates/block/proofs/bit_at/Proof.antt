@@ -6,7 +6,7 @@ use lib.Dec.{lit<}
 use borrow.Author.Needs.{needs}
 use Rattle.trellis.specs.Comparing.{markedAt}
 use Rattle.trellis.proofs.Bools.{one-if-le}
-use Rattle.block.proofs.Masks.{bit-at}
+use Rattle.block.proofs.Received.{bit-at}
 use Rattle.block.proofs.bit_at.Statement.{statement}
 use Rattle.block.proofs.bit_at.Tie as tie
 

@@ -1,5 +1,5 @@
 -- `block::fits` makes the tests of the definition one after the other.
-use Rattle.block.proofs.Masks.{fits-label, fits-mask, fits-all}
+use Rattle.block.proofs.Received.{fits-label, fits-mask, fits-all}
 use borrow.Author.Needs.{needs}
 use Rattle.block.proofs.fits.Statement.{statement}
 use Rattle.block.proofs.fits.Tie as tie

@@ -2,7 +2,7 @@
 -- how many are left.
 use borrow.Author.Needs.{needs}
 use Prim.Native.Nat.{_-_}
-use Rattle.block.proofs.Masks.{stray-start, stray-found, stray-more, stray-none, InStray}
+use Rattle.block.proofs.Received.{stray-start, stray-found, stray-more, stray-none, InStray}
 use Rattle.block.proofs.is_clear.Statement.{statement}
 use Rattle.block.proofs.is_clear.Tie as tie
 

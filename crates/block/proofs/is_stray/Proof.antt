@@ -1,6 +1,6 @@
 -- `block::is_stray` is the test of the definition, by whether the symbol is erased.
 use borrow.Author.Needs.{needs}
-use Rattle.block.proofs.Masks.{stray-erased, stray-kept}
+use Rattle.block.proofs.Received.{stray-erased, stray-kept}
 use Rattle.block.proofs.is_stray.Statement.{statement}
 use Rattle.block.proofs.is_stray.Tie as tie
 

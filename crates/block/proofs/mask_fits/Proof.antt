@@ -1,6 +1,6 @@
 -- `block::mask_fits` shifts the n bits away: nothing is left exactly if the mask is below 2^n. A mask of eight bits always fits eight
 -- symbols.
-use Rattle.block.proofs.Masks.{mask-fits, mask-all}
+use Rattle.block.proofs.Received.{mask-fits, mask-all}
 use borrow.Author.Needs.{needs}
 use Rattle.block.proofs.mask_fits.Statement.{statement}
 use Rattle.block.proofs.mask_fits.Tie as tie

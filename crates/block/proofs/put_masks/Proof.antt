@@ -4,7 +4,7 @@ use Prim.Native.Nat.{_-_, _≤_}
 use lib.ListN.{length}
 use borrow.Author.Needs.{needs}
 use Rattle.block.specs.inner.Masks.{MasksPut}
-use Rattle.block.proofs.Marking.{masks-start, masks-more, masks-end}
+use Rattle.block.proofs.Masks.{masks-start, masks-more, masks-end}
 use Rattle.block.proofs.put_masks.Statement.{statement}
 use Rattle.block.proofs.put_masks.Tie as tie
 

@@ -1,7 +1,7 @@
 -- `comparisons::at_once`: of eight symbols, eight differ at most.
 use lib.Dec.{lit<}
 use borrow.Author.Needs.{needs}
-use Rattle.label.proofs.Comparing.{distance-most}
+use Rattle.trellis.proofs.Comparing.{distance-most}
 use Rattle.comparisons.proofs.at_once.Statement.{statement}
 use Rattle.comparisons.proofs.at_once.Tie as tie
 

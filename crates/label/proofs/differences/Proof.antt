@@ -3,9 +3,10 @@
 use mathlib.Core.Path.{refl, _∙_}
 use lib.Dec.{lit<}
 use borrow.Author.Needs.{needs}
-use Rattle.label.specs.inner.Labels.{differences}
+use Rattle.trellis.specs.Comparing.{differing}
+use Rattle.trellis.proofs.Comparing.{differing-short}
 use Rattle.label.proofs.Fields.{lowHalves, drawn-together, one-field, kept-below}
-use Rattle.label.proofs.Folding.{folded, differences-short}
+use Rattle.label.proofs.Folding.{folded}
 use Rattle.label.proofs.differences.Statement.{statement}
 use Rattle.label.proofs.differences.Tie as tie
 
@@ -31,11 +32,11 @@ returns c =
     let entry = twos .before .before in
     let x = entry .args .x in
     let y = entry .args .y in
-    let v = differences 8 x y in
+    let v = differing 8 x 0 y in
     let by-two = folded 8 x y (twos .before .masked-or .ensures) refl refl refl in
     let by-four = drawn-together 1 4 v (twos .masked-or2 .ensures) by-two refl refl in
     let by-eight = drawn-together 2 2 v (c .before .masked-or3 .ensures) by-four refl refl in
-    drawn-together 4 1 v (c .masked-or4 .ensures) by-eight refl refl ∙ one-field 8 (differences-short 8 x y)
+    drawn-together 4 1 v (c .masked-or4 .ensures) by-eight refl refl ∙ one-field 8 (differing-short 8 x 0 y)
 
 pub differences-spec : {M : Type 1} → statement M
 differences-spec =

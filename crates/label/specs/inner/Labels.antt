@@ -1,12 +1,11 @@
 -- Labels as the code of this crate handles them: a symbol put behind a label, labels told from other numbers, labels in order, labels held
 -- against each other. Everything here is for general n, but that `appended` keeps eight symbols, as many as a label of two bytes has.
 use mathlib.Core.Path.{_≡_}
-use mathlib.Core.Bool.{Bool, true, not}
+use mathlib.Core.Bool.{Bool, true}
 use mathlib.Core.Logic.{_↔_}
-use Prim.Native.Nat.{ℕ, zero, suc, _+_, _*_, _/_, _%_, _^_, _<_}
+use Prim.Native.Nat.{ℕ, _+_, _*_, _%_, _^_, _<_}
 use lib.Bits.{bitAnd, bitOr}
-use lib.Dec.{ltb, eqb}
-use Rattle.trellis.specs.Lists.{one-if}
+use lib.Dec.{ltb}
 use Rattle.trellis.specs.Label.{symbol}
 
 -- the symbol s behind the label; a ninth symbol pushes the first one out
@@ -29,11 +28,6 @@ pub record Earlier (n x y : ℕ) : Type 0 where
 pub record InOrder (x y : ℕ) (before : Bool) : Type 0 where
   pub asNumbers : before ≡ ltb x y
   pub asSymbols : (n : ℕ) → x < 4 ^ n → y < 4 ^ n → (before ≡ true) ↔ Earlier n x y
-
--- the mask of n bits that marks the symbols in which x and y differ, the first symbol highest
-unfoldable pub differences : ℕ → ℕ → ℕ → ℕ
-differences zero x y = 0
-differences (suc n) x y = differences n (x / 4) (y / 4) * 2 + one-if (not (eqb (y % 4) (x % 4)))
 
 -- r has what the mask keeps of x and of y
 pub record MaskedOr (x y mask r : ℕ) : Type 0 where
