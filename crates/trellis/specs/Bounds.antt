@@ -29,6 +29,10 @@ mostSections = 16
 abbrev pub mostBlocks : ℕ
 mostBlocks = 256
 
+-- the paths that are listed at most are 1 to 16, by document 02's request 6
+abbrev pub mostPaths : ℕ
+mostPaths = 16
+
 -- the cost table has a place for each state below this bound, block after block
 abbrev pub costsABlock : ℕ
 costsABlock = mostStates

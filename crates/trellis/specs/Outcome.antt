@@ -10,7 +10,7 @@ pub record Outcome : Type 0 where
 abbrev pub outcome : ℕ → List ℕ → Outcome
 outcome k vs = record { number = k; values = vs }
 
--- the section's length for merging, the file's length for reading back, the distance for decoding
+-- the section's length for merging, the file's length for reading back, the distance for decoding, the number of paths for listing them
 abbrev pub success : ℕ → Outcome
 success value = outcome 0 (value ∷ [])
 
@@ -61,3 +61,7 @@ noPath = outcome 11 []
 -- reading back finds over 1,024 words
 abbrev pub tooManyWords : Outcome
 tooManyWords = outcome 12 []
+
+-- by document 02's request 6: the number of paths to be listed is outside its bounds
+abbrev pub badPathCount : ℕ → Outcome
+badPathCount paths = outcome 13 (paths ∷ [])

@@ -14,6 +14,8 @@ pub const MOST_SECTIONS: usize = 16;
 
 pub const MOST_BLOCKS: usize = 256;
 
+pub const MOST_PATHS: usize = 16;
+
 pub const COSTS_A_BLOCK: usize = MOST_STATES;
 
 pub const MOST_BYTES: usize = 65535;
