@@ -1,5 +1,5 @@
--- What `Ends` says of a frame, as the code has it: it widens the states, and behind fault 9 K plays no part, so that what holds of one K
--- holds of any.
+-- What `Ends` and `Best` say of a frame, as the code has it: it widens the states, and behind fault 9 K plays no part, so that what holds
+-- of one K holds of any.
 use mathlib.Core.Path.{_≡_, refl, sym, ap, subst, _∙_}
 use mathlib.Core.List.{List}
 use Prim.Native.Nat.{ℕ}
@@ -14,7 +14,8 @@ use Rattle.cost_table.specs.inner.Settled.{Settling, Settled}
 use Rattle.chain.specs.Frame.{frame, blockWords, wordDistanceBy, wordMask}
 use Rattle.chain.specs.Decoding.{left, bestBy, tableOf, masksOf, found, fitted}
 use Rattle.chain.specs.inner.Checked.{Checked, Room}
-use Rattle.chain.proofs.Ends.{settling, ends-none, followed, marking, ends-path}
+use Rattle.chain.proofs.Ends.{settling}
+use Rattle.chain.proofs.Best.{ends-none, followed, marking, ends-path}
 
 -- behind fault 9 K plays no part
 pub any-k : (sections indices received erased : List ℕ) (start end i j : ℕ) (costs labels goals masks : List ℕ)
@@ -31,7 +32,7 @@ module _ {sections starts : List ℕ} {views : List View} {indices received eras
   E-end = subst (λ x. EndRow x ends) q E
 
   pub with-notes : Settling sections starts indices ends notes
-  with-notes = settling (C .checks) E-end R F
+  with-notes = settling (C .checks) E-end (R .forCosts) F
 
   pub with-none : getD toPay from 0 ≡ unreached → {new : List ℕ} → Settled (length indices) ends notes new
       → (k : ℕ) → left noPath new labels goals masks ≡ fitted (frame sections k indices received erased start end) costs labels goals masks

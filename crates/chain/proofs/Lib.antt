@@ -3,4 +3,5 @@ pub mod Buffers
 pub mod Checks
 pub mod Faults
 pub mod Ends
+pub mod Best
 pub mod Held

@@ -52,7 +52,7 @@ pub fn outcome(answer: Decoded) -> Returned
     }
 }
 
-fn frame_bad(indices: &[u8], received: &[u16], erased: &[u8], start: u8, end: u8) -> bool
+pub fn frame_bad(indices: &[u8], received: &[u16], erased: &[u8], start: u8, end: u8) -> bool
     ensures { λ r. ⌜ ((sections : List ℕ) (k : ℕ)
         → r ≡ frameBad (frame sections k (now (indices .entry)) (now (received .entry)) (now (erased .entry)) start end)) ⌝ }
 {
@@ -72,7 +72,7 @@ fn frame_bad(indices: &[u8], received: &[u16], erased: &[u8], start: u8, end: u8
 }
 
 // The first bad block, or the number of blocks.
-fn first_bad(
+pub fn first_bad(
     views: [View; MOST_SECTIONS],
     k: usize,
     indices: &[u8],

@@ -33,7 +33,7 @@ pub record InFill (H : HeldBlocks) (ends old notes left prices even odd : List �
   pub noted : (C : Chain) → ChainOf H C → EndsAs C ends → NotesFrom C b notes
 
 -- prices that are not there yet
-room-none : PriceRoom (replicate 32 0)
+pub room-none : PriceRoom (replicate 32 0)
 room-none = record { long = length-replicate {A = ℕ} 32 0; small = λ i. go i (decLt i 32) }
   where
     go : (i : ℕ) → Dec (i < 32) → getD (replicate 32 0) i 0 ≤ topRank

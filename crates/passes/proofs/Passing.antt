@@ -88,6 +88,21 @@ pub sweep-asked : {l prices left even odd : List ℕ} {at : View} → Seen l at 
     → SweepAsked l prices even odd
 sweep-asked S R G e o = record { room = R; evenLong = e; oddLong = o; small = G .small }
 
+-- what is left to pay in the state of a goal is the least cost of no step
+abbrev pub goalNumber : List ℕ → (ℕ → ℕ) → ℕ → ℕ
+goalNumber l rest g = rankedLeft (rest (goalState l g)) (goalState l g)
+
+pub last-row : {l prices left row : List ℕ} {at : View} {cost : ℕ → ℕ → ℕ} {rest : ℕ → ℕ} → Seen l at
+    → GoalsRanked l left row (vertexCountOf l (nOf l)) → Costs l prices left cost rest
+    → LeastRow l (rankedCost (nOf l) cost) (goalNumber l rest) (nOf l) row
+last-row {l} {cost = cost} {rest} S G C = record {
+  at = λ v h.
+      let z : nOf l - nOf l ≡ 0 = omega arith in
+      G .at v h ∙ ap (λ x. rankedLeft x (goalState l v)) (C .behind (goalState l v) (goals-at S .small v h))
+      ∙ sym (ap (λ j. sectionLeast (stepEdges l) (rankedCost (nOf l) cost) topRank (goalNumber l rest) j (nOf l) v) z
+      ∙ least-last (stepEdges l) (rankedCost (nOf l) cost) topRank (goalNumber l rest) (nOf l) v);
+}
+
 -- ---- the whole block
 
 module _ {l prices left even odd newEven newOdd new notes : List ℕ} {at : View} (S : Seen l at)
@@ -97,23 +112,11 @@ module _ {l prices left even odd newEven newOdd new notes : List ℕ} {at : View
     abbrev rank : ℕ → ℕ
     rank v = rankFrom (uses (S .sound) cost) (rankable (S .sound) cost) rest (C .bound) v
 
-    abbrev number : ℕ → ℕ
-    number g = rankedLeft (rest (goalState l g)) (goalState l g)
-
-    last : LeastRow l (rankedCost (nOf l) cost) number (nOf l) (side (nOf l) even odd)
-    last = record {
-      at = λ v h.
-          let z : nOf l - nOf l ≡ 0 = omega arith in
-          G .at v h ∙ ap (λ x. rankedLeft x (goalState l v)) (C .behind (goalState l v) (goals-at S .small v h))
-          ∙ sym (ap (λ j. sectionLeast (stepEdges l) (rankedCost (nOf l) cost) topRank number j (nOf l) v) z
-          ∙ least-last (stepEdges l) (rankedCost (nOf l) cost) topRank number (nOf l) v);
-    }
-
     ranks : (v : ℕ) → v < vertexCountOf l 0 → getD newEven v 0 ≡ rank v
     ranks v h =
         let z : nOf l - 0 ≡ nOf l = omega arith in
-        W .row (rankedCost (nOf l) cost) number (C .priced) last .at v h
-        ∙ ap (λ j. sectionLeast (stepEdges l) (rankedCost (nOf l) cost) topRank number j 0 v) z
+        W .row (rankedCost (nOf l) cost) (goalNumber l rest) (C .priced) (last-row S G C) .at v h
+        ∙ ap (λ j. sectionLeast (stepEdges l) (rankedCost (nOf l) cost) topRank (goalNumber l rest) j 0 v) z
 
     abbrev least : ℕ → ℕ
     least s = leastOver (sectionWords l) (wordPrice (nOf l) cost) unreached rest s

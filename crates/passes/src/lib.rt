@@ -52,7 +52,7 @@ fn put_goals(l: &[u16], at: View, left: &[u32; COSTS_A_BLOCK], row: &mut [u64; M
 }
 
 // The same, in the array of depth n's parity.
-fn put_goals_side(
+pub fn put_goals_side(
     l: &[u16],
     at: View,
     left: &[u32; COSTS_A_BLOCK],
@@ -73,7 +73,7 @@ fn put_goals_side(
 }
 
 // The cost of a rank, and its note.
-fn cost_of(rank: u64) -> u32
+pub fn cost_of(rank: u64) -> u32
     requires { ⌜ rank ≤ topRank ⌝ }
     ensures { λ r. ⌜ r ≡ rank / distanceUnit ⌝ }
 {

@@ -4,34 +4,27 @@ use mathlib.Core.Path.{_≡_, refl, sym, ap, ap₂, _∙_}
 use mathlib.Core.List.{List, _∷_, map, map-map, flatMap}
 use Prim.Native.Nat.{ℕ, zero, suc, _+_, _-_, _*_, _≤_, _<_}
 use native.Mathlib.Omega.{arith}
-use native.Mathlib.Nat.{zero-add, le-of-lt}
+use native.Mathlib.Nat.{zero-add}
 use native.Mathlib.Numerals.{add-one}
 use lib.ListN.{length, getD, take, length-map}
 use Rattle.trellis.specs.Bounds.{mostWords}
 use Rattle.trellis.specs.Lists.{run, each}
 use Rattle.trellis.specs.Own.{Edge}
-use Rattle.trellis.specs.Layout.{nOf, vertexCountOf, edgeCountOf, edgesBefore, pairsPlace, symbolsPlace, rootState}
+use Rattle.trellis.specs.Layout.{nOf, vertexCountOf, rootState}
 use Rattle.trellis.proofs.Lists.{length-run}
-use Rattle.trellis.proofs.Laid.{before-none, before-more}
 use Rattle.section_file.specs.inner.View.{Seen}
 use Rattle.section_file.specs.inner.Answer.{edgeIn}
 use Rattle.section_file.specs.declared.View.{View}
-use Rattle.section_file.proofs.Seen.{Viewed, viewed, Near, near-of, laid-of, before-in}
+use Rattle.section_file.proofs.Seen.{Viewed, viewed, Near, near-of, laid-of}
 use Rattle.read_back.specs.inner.Levels.{begun, level, code, coded, grownCodes}
-use Rattle.read_back.specs.inner.Growing.{PutBehind, partFrom, StepAt, Gathered, FirstLevel, RootCodes}
+use Rattle.read_back.specs.inner.Growing.{PutBehind, partFrom, Gathered, FirstLevel, RootCodes}
 use Rattle.read_back.proofs.Levels.{levels-rise, level-coded}
-use Rattle.read_back.proofs.Sections.{step-edges, step-in}
+use Rattle.read_back.proofs.Places.{StepPlaces, places-start, places-next, edges-are}
 
 map-run : {A B : Type 0} (f : A → B) (g : ℕ → A) (at count : ℕ) → map f (run g at count) ≡ run (λ k. f (g k)) at count
 unfolding run
 map-run f g at zero = refl
 map-run f g at (suc count) = ap (λ l. f (g at) ∷ l) (map-run f g (suc at) count)
-
-pub twice-near : (count : ℕ) → count < 65536 → 2 * count < 200000
-twice-near count h = omega arith
-
-pub next-less : (n t : ℕ) → t < n → n - (t + 1) < n - t
-next-less n t h = omega arith
 
 -- the beginnings up to depth t stand in the array; the pairs and symbols of the edges that go on from there begin at two places
 pub record Depth (s : List ℕ) (codes : List ℕ) (have pairs symbols t : ℕ) : Type 0 where
@@ -40,8 +33,7 @@ pub record Depth (s : List ℕ) (codes : List ℕ) (have pairs symbols t : ℕ) 
   pub long : length codes ≡ mostWords
   pub filled : take have codes ≡ map coded (level s t)
   pub count : have ≡ length (level s t)
-  pub pairsAt : pairs ≡ pairsPlace s + 2 * edgesBefore s t
-  pub symbolsAt : symbols ≡ symbolsPlace s + edgesBefore s t
+  pub places : StepPlaces s pairs symbols t
 
 module _ {s : List ℕ} {at : View} (S : Seen s at) where
   at-is : Viewed s at
@@ -82,58 +74,20 @@ module _ {s : List ℕ} {at : View} (S : Seen s at) where
         ∙ map-run (λ v. code (rootState s v) v 0) (λ v. v) 0 (vertexCountOf s 0));
     count = roots-count ∙ sym
         (length-map (each (λ v. v) (vertexCountOf s 0)) (λ v. begun (rootState s v) 0 v) ∙ length-run (λ v. v) 0 (vertexCountOf s 0));
-    pairsAt = omega (arith, at-is .pairs-is, before-none s);
-    symbolsAt = omega (arith, at-is .symbols-is, before-none s);
+    places = places-start S;
   }
-
-  -- ---- sums that the code makes are small
-
-  pub counts-near : 4 + at .n < 13
-  counts-near = omega (arith, near .steps-few)
 
   module _ {codes : List ℕ} {have pairs symbols t : ℕ} (d : Depth s codes have pairs symbols t) (h : t < at .n) where
     deep : t < nOf s
     deep = omega (arith, at-is .n-is)
 
-    pub count-near : 4 + at .n + t < 21
-    count-near = omega (arith, near .steps-few)
-
-    pub next-near : t + 1 < 21
-    next-near = omega (arith, near .steps-few)
-
-    before-among : edgesBefore s t ≤ at .edges
-    before-among = before-in (laid-of S) (le-of-lt h) refl
-
-    pairs-first : pairs ≤ at .symbols
-    pairs-first = omega (arith, near .pairs-to, d .pairsAt, at-is .pairs-is, before-among)
-
-    symbols-first : symbols ≤ at .end
-    symbols-first = omega (arith, near .symbols-to, d .symbolsAt, at-is .symbols-is, before-among)
-
     module _ {y count : ℕ} (y-is : y ≡ getD s (4 + at .n + t) 0) (count-is : (count ≡ y) × (count < 65536)) where
-      pub pairs-near : pairs + 2 * count < 200000
-      pairs-near = omega (arith, pairs-first, near .symbols-to, near .end-near, count-is .1)
-
-      pub symbols-near : symbols + count < 200000
-      symbols-near = omega (arith, symbols-first, near .end-near, count-is .1)
-
-      edges-count : count ≡ edgeCountOf s t
-      unfolding edgeCountOf
-      edges-count = count-is .0 ∙ y-is ∙ ap (λ m. getD s (4 + m + t) 0) (at-is .n-is)
-
-      pub depth-step : StepAt s pairs symbols count
-      depth-step = record {
-        pairsIn = omega (arith, pairs-first, near .symbols-to, near .end-in);
-        symbolsIn = omega (arith, symbols-first, near .end-in);
-        edges = step-in (S .sound) t deep (d .pairsAt) (d .symbolsAt) edges-count;
-      }
-
       abbrev edges : List Edge
       edges = run (edgeIn (partFrom pairs s) (partFrom symbols s)) 0 count
 
       next-codes : flatMap (grownCodes edges) (take have codes) ≡ map coded (level s (suc t))
       next-codes =
-          ap₂ (λ es cs. flatMap (grownCodes es) cs) (step-edges (S .sound) t deep (d .pairsAt) (d .symbolsAt) edges-count) (d .filled)
+          ap₂ (λ es cs. flatMap (grownCodes es) cs) (edges-are S (d .places) h y-is count-is) (d .filled)
           ∙ level-coded (S .sound) t deep
 
       next-count : length (flatMap (grownCodes edges) (take have codes)) ≡ length (level s (suc t))
@@ -147,8 +101,7 @@ module _ {s : List ℕ} {at : View} (S : Seen s at) where
           long = m .long;
           filled = m .filled b ∙ next-codes ∙ ap (λ u. map coded (level s u)) (sym (add-one t));
           count = m .count b ∙ zero-add _ ∙ next-count ∙ ap (λ u. length (level s u)) (sym (add-one t));
-          pairsAt = rw (add-one t) (omega (arith, d .pairsAt, edges-count, before-more s t));
-          symbolsAt = rw (add-one t) (omega (arith, d .symbolsAt, edges-count, before-more s t));
+          places = places-next S (d .places) h y-is count-is;
         }
 
         pub depth-over : mostWords < r → Gathered s new r

@@ -125,7 +125,7 @@ pub record Putting (f : Edge → ℕ) (e : ℕ → Edge) (count v : ℕ) (old : 
   pub above : k < count → v ≤ e k .from
 
 module _ (e : ℕ → Edge) (v : ℕ) where
-  none-later : (k m : ℕ) → ((j : ℕ) → k ≤ j → j < k + m → e j .from ≡ v → ⊥) → leaving v (run e k m) ≡ []
+  pub none-later : (k m : ℕ) → ((j : ℕ) → k ≤ j → j < k + m → e j .from ≡ v → ⊥) → leaving v (run e k m) ≡ []
   unfolding run
   none-later k zero g = leaving-none v
   none-later k (suc m) g = leaving-no v (e k) (run e (suc k) m) (ne-eqb (e k .from) v (g k (omega arith) (omega arith)))

@@ -4,6 +4,7 @@ pub mod Levels
 pub mod Growing
 pub mod Writing
 pub mod Sections
+pub mod Places
 pub mod Depths
 pub mod Outcomes
 pub mod Again

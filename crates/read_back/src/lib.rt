@@ -72,26 +72,26 @@ fn byte_at(l: &[u16], i: usize) -> u8
     byte(wide(number(l, i)))
 }
 
-fn root_of(c: u32) -> usize
+pub fn root_of(c: u32) -> usize
     ensures { λ r. ⌜ r ≡ codeRoot c ⌝ }
 {
     (c / 67108864) as usize
 }
 
-fn vertex_of(c: u32) -> usize
+pub fn vertex_of(c: u32) -> usize
     ensures { λ r. ⌜ r ≡ codeVertex c ⌝ }
 {
     (c / 65536 % 1024) as usize
 }
 
-fn label_of(c: u32) -> u16
+pub fn label_of(c: u32) -> u16
     ensures { λ r. ⌜ r ≡ codeLabel c ⌝ }
 {
     (c % 65536) as u16
 }
 
 // A beginning one step further along an edge.
-fn further(c: u32, e: Edge) -> u32
+pub fn further(c: u32, e: Edge) -> u32
     requires { ⌜ (e .symbol < mostQ) × (e .to < mostWords) ⌝ }
     ensures { λ r. ⌜ r ≡ furtherCode c (meantEdge e) ⌝ }
 {

@@ -86,7 +86,7 @@ fn lower_depth(
 }
 
 // The same, where the rows of even depths stand in one array and those of odd depths in the other.
-fn lower_side(
+pub fn lower_side(
     l: &[u16],
     at: View,
     t: usize,

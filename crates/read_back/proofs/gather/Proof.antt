@@ -1,8 +1,8 @@
 -- `read_back::gather` meets its contract. The loop's invariant: the array holds the beginnings up to depth t, and the edges that go on from
 -- there begin at two places. The measure is what is left of the depths.
 use Prim.Native.Nat.{_-_}
-use Rattle.read_back.proofs.Depths.{Depth, roots-first, roots-level, depth-start, counts-near, count-near, depth-step}
-use Rattle.read_back.proofs.Depths.{twice-near, pairs-near, symbols-near, next-near, next-less, depth-next, depth-over, depth-all}
+use Rattle.read_back.proofs.Places.{counts-near, count-near, step-at, twice-near, pairs-near, symbols-near, next-near, next-less}
+use Rattle.read_back.proofs.Depths.{Depth, roots-first, roots-level, depth-start, depth-next, depth-over, depth-all}
 use borrow.Author.Needs.{needs, fits-under}
 use Rattle.read_back.proofs.gather.Statement.{statement}
 use Rattle.read_back.proofs.gather.Tie as tie
@@ -32,7 +32,7 @@ add-number : tie.Need-add-number Inv-loop μ-loop
 add-number c = fits-under _ _ 13 (counts-near (start c .pre .0)) tt
 
 add-number-2 : tie.Need-add-number-2 Inv-loop μ-loop
-add-number-2 c = fits-under _ _ 21 (count-near (start c .pre .0) (c .before .loop .inv) (c .loop-test .taken)) tt
+add-number-2 c = fits-under _ _ 21 (count-near (start c .pre .0) (c .loop-test .taken)) tt
 
 number-requires : tie.Need-number-requires Inv-loop μ-loop
 number-requires c κs = search needs
@@ -42,7 +42,7 @@ wide-requires c κs = search needs
 
 grow-step-requires : tie.Need-grow-step-requires Inv-loop μ-loop
 grow-step-requires c κs = let w = c .before in let h = w .before .before in let i = h .before .loop .inv in
-    (depth-step (start h .pre .0) i (h .loop-test .taken) (w .before .number .ensures) (w .wide .ensures), i .room, i .long)
+    (step-at (start h .pre .0) (i .places) (h .loop-test .taken) (w .before .number .ensures) (w .wide .ensures), i .room, i .long)
 
 returns : tie.Need-returns Inv-loop μ-loop
 returns c = let g = c .before in let w = read g in let h = w .before .before in
@@ -54,17 +54,17 @@ mul-pairs c = let w = read (c .before) in fits-under _ _ 200000 (twice-near _ (w
 
 add-pairs : tie.Need-add-pairs Inv-loop μ-loop
 add-pairs c = let w = read (c .before) in let h = w .before .before in
-    fits-under _ _ 200000 (pairs-near (start h .pre .0) (h .before .loop .inv) (h .loop-test .taken) (w .before .number .ensures)
+    fits-under _ _ 200000 (pairs-near (start h .pre .0) (h .before .loop .inv .places) (h .loop-test .taken) (w .before .number .ensures)
     (w .wide .ensures)) tt
 
 add-symbols : tie.Need-add-symbols Inv-loop μ-loop
 add-symbols c = let w = read (c .before) in let h = w .before .before in
-    fits-under _ _ 200000 (symbols-near (start h .pre .0) (h .before .loop .inv) (h .loop-test .taken) (w .before .number .ensures)
+    fits-under _ _ 200000 (symbols-near (start h .pre .0) (h .before .loop .inv .places) (h .loop-test .taken) (w .before .number .ensures)
     (w .wide .ensures)) tt
 
 add-t : tie.Need-add-t Inv-loop μ-loop
 add-t c = let h = read (c .before) .before .before in
-    fits-under _ _ 21 (next-near (start h .pre .0) (h .before .loop .inv) (h .loop-test .taken)) tt
+    fits-under _ _ 21 (next-near (start h .pre .0) (h .loop-test .taken)) tt
 
 loop-less : tie.Need-loop-less Inv-loop μ-loop
 loop-less c = let h = read (c .before) .before .before in next-less _ _ (h .loop-test .taken)

@@ -1,0 +1,2 @@
+-- The forward pass for the k best paths of a chain, as the code makes it.
+pub mod inner
