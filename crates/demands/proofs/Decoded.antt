@@ -32,6 +32,33 @@ use Rattle.chain.proofs.Checks.{FramePassed, index-good}
 use Rattle.chain.proofs.Faults.{ends-section, ends-frame, ends-block, ends-short, past-sections, past-frame, past-room}
 use Rattle.demands.specs.Decoded.{leastDistance, Tabled, NoneFound, Won, Meaning}
 
+-- the cost table stands in front of its buffer
+pub tabled : (f : Frame) (costs : List ℕ) → Tabled f (over (tableOf f) costs)
+unfolding tableOf
+tabled f costs = record { at = at }
+  where
+    place : ℕ → ℕ
+    place i = leastDistance f (i / costsABlock) (i % costsABlock)
+
+    at : (b s : ℕ) → b < blockCount f → s < mostStates
+        → getD (over (tableOf f) costs) (costsABlock * b + s) 0
+        ≡ leastDistance f b s
+    at b s h l =
+        let n = length-run place 0 (costsABlock * blockCount f) in
+        let e : (costsABlock * b + s) / costsABlock ≡ b = omega arith in
+        let r : (costsABlock * b + s) % costsABlock ≡ s = omega arith in
+        over-front (tableOf f) costs (costsABlock * b + s) (omega arith)
+        ∙ each-at place (costsABlock * blockCount f) (costsABlock * b + s) 0 (omega arith)
+        ∙ ap₂ (leastDistance f) e r
+
+-- the words of a block stand in order, since its section is usable
+pub words-ordered : (f : Frame) → sectionsBad (f .sections) (f .k) ≡ false → FramePassed f → (b : ℕ) → b < blockCount f
+    → Ordered Before (blockWords f b)
+unfolding blockWords
+words-ordered f s P b h =
+    words-ascend (usable-sound (blockSection f b)
+    (sections-usable (f .sections) (f .k) s (getD (f .indices) b 0) (index-good P b h)))
+
 module _ (f : Frame) (costs labels goals masks : List ℕ) where
   abbrev decoded : Decoding
   decoded = decoding f costs labels goals masks
@@ -99,26 +126,6 @@ module _ (f : Frame) (costs labels goals masks : List ℕ) where
           (ends-section f costs labels goals masks e refl)))
       by-sections false e = by-frame e (frameBad f) refl
 
-  -- ---- the buffers
-
-  tabled : Tabled f (over (tableOf f) costs)
-  unfolding tableOf
-  tabled = record { at = at }
-    where
-      place : ℕ → ℕ
-      place i = leastDistance f (i / costsABlock) (i % costsABlock)
-
-      at : (b s : ℕ) → b < blockCount f → s < mostStates
-          → getD (over (tableOf f) costs) (costsABlock * b + s) 0
-          ≡ leastDistance f b s
-      at b s h l =
-          let n = length-run place 0 (costsABlock * blockCount f) in
-          let e : (costsABlock * b + s) / costsABlock ≡ b = omega arith in
-          let r : (costsABlock * b + s) % costsABlock ≡ s = omega arith in
-          over-front (tableOf f) costs (costsABlock * b + s) (omega arith)
-          ∙ each-at place (costsABlock * blockCount f) (costsABlock * b + s) 0 (omega arith)
-          ∙ ap₂ (leastDistance f) e r
-
   -- ---- no path
 
   none-right : best ≡ none → NoneFound f (foundWith none)
@@ -127,16 +134,10 @@ module _ (f : Frame) (costs labels goals masks : List ℕ) where
     none = λ p I.
         let a = none-listed words (endsIn (f .end)) dist (blockCount f) 0 (f .start) e in
         List·Memᴰ·not-nil (subst (λ ps. p ∈ ps) a (in-paths words (endsIn (f .end)) (blockCount f) 0 (f .start) p I));
-    table = tabled;
+    table = tabled f costs;
   }
 
   -- ---- the winner
-
-  ordered : Passed → (b : ℕ) → b < blockCount f → Ordered Before (words b)
-  unfolding blockWords
-  ordered P b h =
-      words-ascend (usable-sound (blockSection f b)
-      (sections-usable (f .sections) (f .k) (P .sectionsGood) (getD (f .indices) b 0) (index-good (P .framePassed) b h)))
 
   -- what is written of a word
   written : (f : Word → ℕ) → f (word 0 0 0) ≡ 0 → (ws : List Word) (old : List ℕ) (b : ℕ) → b < length ws
@@ -174,7 +175,7 @@ module _ (f : Frame) (costs labels goals masks : List ℕ) where
   some-right P {d} {ws} e =
       let I = best-right words (endsIn (f .end)) dist (blockCount f) 0 (f .start) e in
       let l = I .long in
-      let B = best-wins words (endsIn (f .end)) (blockCount f) (ordered P) dist (blockCount f) 0 (f .start) (omega arith) e in
+      let B = best-wins words (endsIn (f .end)) (blockCount f) (words-ordered f (P .sectionsGood) (P .framePassed)) dist (blockCount f) 0 (f .start) (omega arith) e in
       record {
         words = ws;
         wins = B .0;
@@ -185,7 +186,7 @@ module _ (f : Frame) (costs labels goals masks : List ℕ) where
         ones = ones-are ws l ∙ sym (B .1);
         inSection = λ b h. subst (λ x. wordAt ws b ∈ sectionWords (blockSection f x)) (zero-add b)
             (word-of words (endsIn (f .end)) 0 (f .start) ws (I .linked) b (omega arith));
-        table = tabled;
+        table = tabled f costs;
         drops = λ b h.
             let j : blockCount f - b ≡ suc (blockCount f - suc b) = omega arith in
             ap (λ x. costTable words (endsIn (f .end)) dist x b (wordAt ws b .root)) j

@@ -7,8 +7,8 @@ use Prim.Native.Nat.{ℕ}
 use native.Mathlib.Nat.{not-suc-le-zero}
 use lib.ListN.{length}
 use lib.Dec.{T, ltb, eqb, eqb→eq, eqb-refl}
-use Rattle.trellis.specs.Bounds.{mostWords}
-use Rattle.trellis.specs.Lists.{_∈_, first, isIn}
+use Rattle.trellis.specs.Bounds.{mostWords, mostPaths}
+use Rattle.trellis.specs.Lists.{_∈_, first, isIn, within}
 use Rattle.trellis.specs.Word.{Word}
 use Rattle.trellis.specs.Outcome.{outcome}
 use Rattle.trellis.specs.Layout.{sectionOf, sectionWords}
@@ -22,7 +22,9 @@ use Rattle.read_back.specs.ReadingBack.{ReadingBack, isSection, fileLength, rea
 use Rattle.sections.specs.Sections.{sectionsBad}
 use Rattle.chain.specs.Frame.{Frame, blockCount, frameBad, blockBad}
 use Rattle.chain.specs.Decoding.{Decoding, left, neededOf, bestOf, found as decoded, fitted, framed, decoding}
-use Rattle.demands.specs.Demands.{MergingEnds, ReadingBackEnds, DecodingEnds}
+use Rattle.chain_list.specs.Listing as listing
+use Rattle.chain_list.specs.Listing.{Listing, found as listed}
+use Rattle.demands.specs.Demands.{MergingEnds, ReadingBackEnds, DecodingEnds, ListingEnds}
 
 -- what holds of both ends of a test
 ends : {A : Type 0} (P : A → Type 0) (b : Bool) {x y : A} → P x → P y → P (cond b x y)
@@ -125,3 +127,38 @@ module _ (f : Frame) (costs labels goals masks : List ℕ) where
       (ends DecodingKept (ltb (first (blockBad f) (blockCount f)) (blockCount f)) (all-kept 9 _ tt)
       (ends DecodingKept (ltb 0 (neededOf (blockCount f) (length costs) (length labels) (length goals) (length masks))) (all-kept 10 _ tt)
       (by-path (bestOf f)))))
+
+-- ---- listing paths
+
+module _ (f : Frame) (paths : ℕ) (costs distances labels goals : List ℕ) where
+  abbrev ListingKept : Listing → Type 0
+  ListingKept d = ListingEnds costs distances labels goals d
+
+  by-list : (ps : List (List Word)) → ListingKept (listed f paths costs distances labels goals ps)
+  unfolding listed isIn
+  by-list [] = record {
+    listed = is-in 11 _ tt;
+    wordsKept = λ h. (refl, refl, refl);
+    costsKept = λ m. absurd (not-in 11 _ (λ t. t) m);
+  }
+  by-list (p ∷ ps) = record {
+    listed = is-in 0 _ tt;
+    wordsKept = λ h. absurd (not-suc-le-zero h);
+    costsKept = λ m. absurd (not-in 0 _ (λ t. t) m);
+  }
+
+  -- a refusal that keeps all four
+  four-kept : (number : ℕ) (values : List ℕ) → T (isIn eqb number (0 ∷ 8 ∷ 9 ∷ 13 ∷ 10 ∷ 11 ∷ []))
+      → ListingKept (listing.left (outcome number values) costs distances labels goals)
+  four-kept number values t = record { listed = is-in number _ t; wordsKept = λ h. (refl, refl, refl); costsKept = λ m. refl }
+
+  pub listing-ends : ListingKept (listing.listing f paths costs distances labels goals)
+  unfolding listing.listing listing.framed listing.counted listing.fitted isIn
+  listing-ends =
+      ends ListingKept (sectionsBad (f .sections) (f .k)) (four-kept 8 _ tt)
+      (ends ListingKept (frameBad f) (four-kept 9 _ tt)
+      (ends ListingKept (ltb (first (blockBad f) (blockCount f)) (blockCount f)) (four-kept 9 _ tt)
+      (ends ListingKept (within 1 mostPaths paths)
+      (ends ListingKept (ltb 0 (listing.neededOf (blockCount f) paths (length costs) (length distances) (length labels) (length goals)))
+      (four-kept 10 _ tt) (by-list (listing.listOf f paths)))
+      (four-kept 13 _ tt))))

@@ -3,5 +3,6 @@ pub mod Ends
 pub mod SameDrawing
 pub mod Demanded
 pub mod Decoded
+pub mod Several
 pub mod Erasures
 pub mod Demands

@@ -1,5 +1,5 @@
--- The three demands, quoted sentence by sentence, each with its statement. It speaks of `merging`, `readingBack` and `decoding`: what the
--- calls leave for all arguments, by their promises. That nothing but lent memory is touched is the form of these promises: they give the
+-- The three demands, quoted sentence by sentence, each with its statement. It speaks of `merging`, `readingBack`, `decoding`
+-- and `listing`: what the calls leave for all arguments, by their promises. That nothing but lent memory is touched is the form of these promises: they give the
 -- answer and the whole content of every buffer lent for writing.
 use mathlib.Core.Path.{_≡_}
 use mathlib.Core.Logic.{_↔_}
@@ -17,7 +17,9 @@ use Rattle.merge.specs.Merging.{Merging, mapLength, merging}
 use Rattle.read_back.specs.ReadingBack.{ReadingBack, left, readingBack}
 use Rattle.chain.specs.Frame.{Frame}
 use Rattle.chain.specs.Decoding.{Decoding, decoding}
+use Rattle.chain_list.specs.Listing.{Listing, listing}
 use Rattle.demands.specs.Decoded.{Meaning}
+use Rattle.demands.specs.Several.{ListMeaning}
 
 -- ---- demand 1: "The call ends with an outcome from a fixed list, touches only lent memory, and each refusal states a fixed result and
 -- a fixed content of every buffer."
@@ -42,6 +44,12 @@ pub record DecodingEnds (costs labels goals masks : List ℕ) (d : Decoding) : T
   pub listed : OneOf (0 ∷ 8 ∷ 9 ∷ 10 ∷ 11 ∷ []) (d .answer)
   pub wordsKept : 0 < d .answer .number → (d .labels ≡ labels) × (d .goals ≡ goals) × (d .masks ≡ masks)
   pub costsKept : OneOf (8 ∷ 9 ∷ 10 ∷ []) (d .answer) → d .costs ≡ costs
+
+-- document 02's request 6: the same of listing several paths
+pub record ListingEnds (costs distances labels goals : List ℕ) (d : Listing) : Type 0 where
+  pub listed : OneOf (0 ∷ 8 ∷ 9 ∷ 13 ∷ 10 ∷ 11 ∷ []) (d .answer)
+  pub wordsKept : 0 < d .answer .number → (d .distances ≡ distances) × (d .labels ≡ labels) × (d .goals ≡ goals)
+  pub costsKept : OneOf (8 ∷ 9 ∷ 13 ∷ 10 ∷ []) (d .answer) → d .costs ≡ costs
 
 -- ---- demand 2
 
@@ -97,11 +105,15 @@ pub record Demands : Type 0 where
   pub readingBackEnds : (section file : List ℕ) → ReadingBackEnds file (readingBack section file)
   pub decodingEnds : (f : Frame) (costs labels goals masks : List ℕ)
       → DecodingEnds costs labels goals masks (decoding f costs labels goals masks)
+  pub listingEnds : (f : Frame) (paths : ℕ) (costs distances labels goals : List ℕ)
+      → ListingEnds costs distances labels goals (listing f paths costs distances labels goals)
   pub decided : {file map section : List ℕ} {q n states : ℕ} {table : List Word} → Fair file q n states table map section
       → Decided n table (merging file map section)
   pub sameWords : {file map section : List ℕ} {q n states : ℕ} {table : List Word} → Fair file q n states table map section
       → IsAccepted (merging file map section) → SameWords file q n states table (sectionLeft (merging file map section))
   pub decoder : (f : Frame) (costs labels goals masks : List ℕ)
       → Meaning f (decoding f costs labels goals masks)
+  pub lister : (f : Frame) (paths : ℕ) (costs distances labels goals : List ℕ)
+      → ListMeaning f paths (listing f paths costs distances labels goals)
   pub smallest : {file map section : List ℕ} {q n states : ℕ} {table : List Word} → Fair file q n states table map section
       → IsAccepted (merging file map section) → Smallest n table (sectionLeft (merging file map section))

@@ -1,3 +1,4 @@
 -- The three demands on the kit.
 pub mod Decoded
+pub mod Several
 pub mod Demands

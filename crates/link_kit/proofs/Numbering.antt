@@ -10,8 +10,9 @@ use Rattle.merge.specs.Merging.{Merging}
 use Rattle.merge.specs.declared.Merged.{Merged}
 use Rattle.read_back.specs.ReadingBack as reading
 use Rattle.chain.specs.Decoding as decoding
+use Rattle.chain_list.specs.Listing as paths
 use Rattle.listing.specs.Listing as printing
-use Rattle.link_kit.specs.Left.{MergeLeft, ReadBackLeft, DecodeLeft, ListingLeft, stored, fourOf, Numbered}
+use Rattle.link_kit.specs.Left.{MergeLeft, ReadBackLeft, DecodeLeft, DecodeListLeft, ListingLeft, stored, fourOf, Numbered}
 
 pub numbered : {o : Outcome} {number count : ℕ} {values : List ℕ} {a b c d : ℕ} → Holds o number count values
     → a ≡ stored (getD values 0 0) → b ≡ stored (getD values 1 0) → c ≡ stored (getD values 2 0) → d ≡ stored (getD values 3 0)
@@ -51,6 +52,20 @@ decode-left e N =
       labelsAre = ap (λ m. m .labels) e;
       goalsAre = ap (λ m. m .goals) e;
       masksAre = ap (λ m. m .masks) e;
+    }
+
+pub decode-list-left :
+    {o : Outcome} {m : paths.Listing} {number : ℕ} {costs distances labels goals values : List ℕ} →
+    paths.left o costs distances labels goals ≡ m →
+    Numbered o number values →
+    DecodeListLeft m number costs distances labels goals values
+decode-list-left e N =
+    record {
+      answerIs = numbered-by (ap (λ m. m .answer) e) N;
+      costsAre = ap (λ m. m .costs) e;
+      distancesAre = ap (λ m. m .distances) e;
+      labelsAre = ap (λ m. m .labels) e;
+      goalsAre = ap (λ m. m .goals) e;
     }
 
 pub listing-left :

@@ -8,6 +8,7 @@ use Rattle.trellis.specs.Outcome.{Outcome}
 use Rattle.merge.specs.Merging.{Merging}
 use Rattle.read_back.specs.ReadingBack.{ReadingBack}
 use Rattle.chain.specs.Decoding.{Decoding}
+use Rattle.chain_list.specs.Listing.{Listing as PathListing}
 use Rattle.listing.specs.Listing.{Listing}
 
 -- a place holds four bytes: a returned number that is larger, as a file's length can be, is stored as the largest that fits
@@ -38,6 +39,13 @@ pub record DecodeLeft (m : Decoding) (number : ℕ) (costs labels goals masks va
   pub labelsAre : labels ≡ m .labels
   pub goalsAre : goals ≡ m .goals
   pub masksAre : masks ≡ m .masks
+
+pub record DecodeListLeft (m : PathListing) (number : ℕ) (costs distances labels goals values : List ℕ) : Type 0 where
+  pub answerIs : Numbered (m .answer) number values
+  pub costsAre : costs ≡ m .costs
+  pub distancesAre : distances ≡ m .distances
+  pub labelsAre : labels ≡ m .labels
+  pub goalsAre : goals ≡ m .goals
 
 pub record ListingLeft (m : Listing) (number : ℕ) (text values : List ℕ) : Type 0 where
   pub answerIs : Numbered (m .outcome) number values

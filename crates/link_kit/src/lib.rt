@@ -10,9 +10,12 @@ ghost use Rattle.sheet.specs.Sheet.{sheet};
 ghost use Rattle.link_kit.specs.Left.{MergeLeft, ReadBackLeft, DecodeLeft, ListingLeft};
 
 mod answers;
+mod several;
 
 pub use chain::Decoded;
 pub use chain::decode;
+pub use chain_list::DecodedList;
+pub use chain_list::decode_list;
 pub use label::Comparison;
 pub use label::compare as compare_labels;
 pub use listing::Listed;
