@@ -108,25 +108,38 @@ static int read_back(void) {
     return 0;
 }
 
-/* Decodes over one section: its length and numbers, then the frame: B indices, B received labels, B masks, start state, end state. */
-static int decoded(void) {
-    static uint16_t frame[3 * LINK_MOST_BLOCKS + 2], best[LINK_MOST_BLOCKS];
-    static uint8_t indices[LINK_MOST_BLOCKS], erased[LINK_MOST_BLOCKS], goals[LINK_MOST_BLOCKS], masks[LINK_MOST_BLOCKS];
-    static uint32_t costs[LINK_COSTS_LEN(LINK_MOST_BLOCKS)];
-    size_t length;
-    if (scanf("%zu", &length) != 1 || length > LINK_ANY_SECTION || read_numbers(section, length) != length)
-        return 1;
+/* A chain over one section. */
+static uint8_t indices[LINK_MOST_BLOCKS], erased[LINK_MOST_BLOCKS], start, end;
+static uint16_t received[LINK_MOST_BLOCKS];
+static uint32_t costs[LINK_COSTS_LEN(LINK_MOST_BLOCKS)];
+static size_t section_length, blocks;
+
+/* Reads the length and the numbers of a section, then the frame: B indices, B received labels, B masks, start state, end state. */
+static int read_chain(void) {
+    static uint16_t frame[3 * LINK_MOST_BLOCKS + 2];
+    if (scanf("%zu", &section_length) != 1 || section_length > LINK_ANY_SECTION || read_numbers(section, section_length) != section_length)
+        return 0;
     const size_t given = read_numbers(frame, 3 * LINK_MOST_BLOCKS + 2);
     if (given < 2 || given % 3 != 2)
-        return 1;
-    const size_t blocks = (given - 2) / 3;
+        return 0;
+    blocks = (given - 2) / 3;
     for (size_t b = 0; b < blocks; b++) {
         indices[b] = (uint8_t)frame[b];
+        received[b] = frame[blocks + b];
         erased[b] = (uint8_t)frame[2 * blocks + b];
     }
-    const uint32_t number = link_decode(section, length, 1, indices, blocks, frame + blocks, blocks, erased, blocks, (uint8_t)frame[3 * blocks],
-                                        (uint8_t)frame[3 * blocks + 1], costs, LINK_COSTS_LEN(LINK_MOST_BLOCKS), best, blocks, goals, blocks,
-                                        masks, blocks, values);
+    start = (uint8_t)frame[3 * blocks];
+    end = (uint8_t)frame[3 * blocks + 1];
+    return 1;
+}
+
+static int decoded(void) {
+    static uint16_t best[LINK_MOST_BLOCKS];
+    static uint8_t goals[LINK_MOST_BLOCKS], masks[LINK_MOST_BLOCKS];
+    if (!read_chain())
+        return 1;
+    const uint32_t number = link_decode(section, section_length, 1, indices, blocks, received, blocks, erased, blocks, start, end, costs,
+                                        LINK_COSTS_LEN(LINK_MOST_BLOCKS), best, blocks, goals, blocks, masks, blocks, values);
     printf("%u\n%u\n", number, values[0]);
     for (size_t b = 0; b < blocks; b++)
         printf("%u ", best[b]);
@@ -145,6 +158,28 @@ static int decoded(void) {
     return 0;
 }
 
+/* The page asks for four paths. */
+static int listed(void) {
+    enum { paths = 4 };
+    static uint32_t distances[paths];
+    static uint16_t labels[LINK_LIST_LEN(paths, LINK_MOST_BLOCKS)];
+    static uint8_t goals[LINK_LIST_LEN(paths, LINK_MOST_BLOCKS)];
+    if (!read_chain())
+        return 1;
+    const size_t words = LINK_LIST_LEN(paths, blocks);
+    const uint32_t number = link_decode_list(section, section_length, 1, indices, blocks, received, blocks, erased, blocks, start, end, paths, costs,
+                                             LINK_COSTS_LEN(LINK_MOST_BLOCKS), distances, paths, labels, words, goals, words, values);
+    printf("%u\n%u\n", number, values[0]);
+    for (size_t p = 0; p < values[0]; p++)
+        printf("%u ", distances[p]);
+    for (size_t place = 0; place < LINK_LIST_LEN(values[0], blocks); place++)
+        printf("%u ", labels[place]);
+    for (size_t place = 0; place < LINK_LIST_LEN(values[0], blocks); place++)
+        printf("%u ", goals[place]);
+    printf("\n");
+    return 0;
+}
+
 int main(int count, char **words) {
     const char *what = count == 2 ? words[1] : "";
     if (strcmp(what, "labels") == 0)
@@ -159,5 +194,7 @@ int main(int count, char **words) {
         return read_back();
     if (strcmp(what, "decoded") == 0)
         return decoded();
+    if (strcmp(what, "listed") == 0)
+        return listed();
     return 2;
 }

@@ -8,17 +8,17 @@ use link_kit::{COSTS_A_BLOCK, Decoded, Frame, MOST_STATES, NO_COST, Room};
 
 /// Below the distance a number has 16 bits for the label, and then one more than a state has for the goal.
 const GOAL_BITS: u32 = (2 * MOST_STATES).ilog2();
-const WORD_BITS: u32 = GOAL_BITS + 16;
+pub const WORD_BITS: u32 = GOAL_BITS + 16;
 
 /// The number of no path: what a block adds to it stays above all others, and below 2^64. Its low 32 bits are those of a place with no cost.
-const NO_PATH: u64 = (1 << (32 + WORD_BITS)) - 1;
+pub const NO_PATH: u64 = (1 << (32 + WORD_BITS)) - 1;
 
 /// A note has the remainder of a distance by this.
 const CYCLE: u32 = 1 << (32 - WORD_BITS);
 
 /// What was received over one block.
 #[derive(Clone, Copy)]
-struct Heard {
+pub struct Heard {
     label: u16,
     mask: u8,
 }
@@ -39,7 +39,7 @@ impl Heard {
 
     /// What each symbol of a step adds: its cost, and below it its place in the label. The kit has the costs of a block from four comparisons; in plain
     /// Rust one symbol at a time is quicker.
-    fn prices(self, n: usize, t: usize) -> [u64; 4] {
+    pub fn prices(self, n: usize, t: usize) -> [u64; 4] {
         [0, 1, 2, 3].map(|symbol| {
             let cost = (!self.is_erased(n, t) && self.symbol(n, t) != symbol) as u64;
             cost << WORD_BITS | (symbol as u64) << (2 * (n - 1 - t) as u32 + GOAL_BITS)
@@ -57,20 +57,36 @@ impl Heard {
 }
 
 /// Of the depths only two are needed at a time: even ones have the first row, odd ones the second.
-type Rows = [[u64; 1024]; 2];
+pub type Rows = [[u64; 1024]; 2];
+
+/// The K sections of a frame, in the first places.
+pub type Sections<'a> = [Option<Section<'a>>; 16];
 
 /// The row of a depth, and the row of the next.
-fn two_rows(rows: &mut Rows, t: usize) -> (&mut [u64; 1024], &[u64; 1024]) {
+pub fn two_rows(rows: &mut Rows, t: usize) -> (&mut [u64; 1024], &[u64; 1024]) {
     let [even, odd] = rows;
     if t % 2 == 0 { (even, odd) } else { (odd, even) }
 }
 
 /// The numbers of the goals, where `after` is what it costs to go on from each state.
-fn put_goals<A: Access>(section: &Section, after: &[u32; COSTS_A_BLOCK], rows: &mut Rows) {
+pub fn put_goals<A: Access>(section: &Section, after: &[u32; COSTS_A_BLOCK], rows: &mut Rows) {
     let (row, _) = two_rows(rows, section.n);
     for (place, &goal) in section.goals.iter().enumerate() {
         let cost = A::get(after, goal as usize) as u64;
         A::put(row, place, cost << WORD_BITS | goal as u64);
+    }
+}
+
+/// The least number from each vertex of depth t, over the edges from `lo` to `hi`, which are those of its step.
+#[inline(always)]
+pub fn lower<A: Access>(section: &Section, t: usize, lo: usize, hi: usize, prices: &[u64; 4], rows: &mut Rows) {
+    let (here, next) = two_rows(rows, t);
+    here[..section.vertices[t] as usize].fill(NO_PATH);
+    let pairs = section.pairs[2 * lo..2 * hi].chunks_exact(2);
+    for (pair, &symbol) in pairs.zip(&section.symbols[lo..hi]) {
+        let number = A::get(next, pair[1] as usize) + A::get(prices, symbol as usize);
+        let least = A::get(here, pair[0] as usize);
+        A::put(here, pair[0] as usize, number.min(least));
     }
 }
 
@@ -79,15 +95,7 @@ fn sweep<A: Access>(section: &Section, heard: Heard, rows: &mut Rows) {
     let mut hi = section.symbols.len();
     for t in (0..section.n).rev() {
         let lo = hi - section.edges[t] as usize;
-        let prices = heard.prices(section.n, t);
-        let (here, next) = two_rows(rows, t);
-        here[..section.vertices[t] as usize].fill(NO_PATH);
-        let pairs = section.pairs[2 * lo..2 * hi].chunks_exact(2);
-        for (pair, &symbol) in pairs.zip(&section.symbols[lo..hi]) {
-            let number = A::get(next, pair[1] as usize) + A::get(&prices, symbol as usize);
-            let least = A::get(here, pair[0] as usize);
-            A::put(here, pair[0] as usize, number.min(least));
-        }
+        lower::<A>(section, t, lo, hi, &heard.prices(section.n, t), rows);
         hi = lo;
     }
 }
@@ -104,7 +112,7 @@ fn put_roots<A: Access>(section: &Section, rows: &Rows, left: &mut [u32; COSTS_A
 }
 
 /// The sections of a frame, or refusal 8.
-fn sections_of<'a>(frame: &Frame<'a>) -> Result<[Option<Section<'a>>; 16], Decoded> {
+fn sections_of<'a>(frame: &Frame<'a>) -> Result<Sections<'a>, Decoded> {
     let mut found = [None; 16];
     if !(1..=16).contains(&frame.k) {
         return Err(Decoded::Section(frame.k));
@@ -124,8 +132,8 @@ fn sections_of<'a>(frame: &Frame<'a>) -> Result<[Option<Section<'a>>; 16], Decod
     }
 }
 
-/// Refusals 9 and 10.
-fn check(frame: &Frame, room: &Room, sections: &[Option<Section>; 16]) -> Result<(), Decoded> {
+/// Refusal 9.
+fn check_blocks(frame: &Frame, sections: &Sections) -> Result<(), Decoded> {
     let blocks = frame.indices.len();
     let lengths = frame.received.len() == blocks && frame.erased.len() == blocks;
     let ends_outside = frame.start.max(frame.end) as usize >= MOST_STATES;
@@ -138,6 +146,11 @@ fn check(frame: &Frame, room: &Room, sections: &[Option<Section>; 16]) -> Result
             return Err(Decoded::Block(b));
         }
     }
+    Ok(())
+}
+
+/// Refusal 10.
+fn check_room(blocks: usize, room: &Room) -> Result<(), Decoded> {
     let needs = [
         (room.costs.len(), COSTS_A_BLOCK * blocks),
         (room.labels.len(), blocks),
@@ -150,17 +163,24 @@ fn check(frame: &Frame, room: &Room, sections: &[Option<Section>; 16]) -> Result
     }
 }
 
-fn heard<A: Access>(frame: &Frame, b: usize) -> Heard {
+/// The sections of a frame, or refusal 8 or 9.
+pub fn checked<'a>(frame: &Frame<'a>) -> Result<Sections<'a>, Decoded> {
+    let sections = sections_of(frame)?;
+    check_blocks(frame, &sections)?;
+    Ok(sections)
+}
+
+pub fn heard<A: Access>(frame: &Frame, b: usize) -> Heard {
     let (label, mask) = (A::get(frame.received, b), A::get(frame.erased, b));
     Heard { label, mask }
 }
 
-fn section_of<'a, 'b>(frame: &Frame, sections: &'b [Option<Section<'a>>; 16], b: usize) -> &'b Section<'a> {
+pub fn section_of<'a, 'b>(frame: &Frame, sections: &'b Sections<'a>, b: usize) -> &'b Section<'a> {
     sections[frame.indices[b] as usize].as_ref().expect("an index below K")
 }
 
 /// Backward: the notes, and what is left to pay before the first block.
-fn fill_notes<A: Access>(frame: &Frame, sections: &[Option<Section>; 16], notes: &mut [u32]) -> [u32; COSTS_A_BLOCK] {
+pub fn fill_notes<A: Access>(frame: &Frame, sections: &Sections, notes: &mut [u32]) -> [u32; COSTS_A_BLOCK] {
     let mut rows: Rows = [[NO_PATH; 1024]; 2];
     let mut left = [NO_COST; COSTS_A_BLOCK];
     left[frame.end as usize] = 0;
@@ -174,7 +194,7 @@ fn fill_notes<A: Access>(frame: &Frame, sections: &[Option<Section>; 16], notes:
 }
 
 /// Backward again: the costs of which the notes have the remainders. The note of no path leads to the last place behind, which has no cost.
-fn settle<A: Access>(frame: &Frame, sections: &[Option<Section>; 16], notes: &mut [u32]) {
+pub fn settle<A: Access>(frame: &Frame, sections: &Sections, notes: &mut [u32]) {
     let mut behind = [NO_COST; 1 << GOAL_BITS];
     behind[frame.end as usize] = 0;
     for (b, row) in notes.chunks_exact_mut(COSTS_A_BLOCK).enumerate().rev() {
@@ -204,7 +224,7 @@ fn follow<A: Access>(frame: &Frame, notes: &[u32], labels: &mut [u16], goals: &m
     }
 }
 
-fn search<A: Access>(frame: &Frame, room: Room, sections: &[Option<Section>; 16]) -> Decoded {
+fn search<A: Access>(frame: &Frame, room: Room, sections: &Sections) -> Decoded {
     let notes = &mut room.costs[..COSTS_A_BLOCK * frame.indices.len()];
     let distance = fill_notes::<A>(frame, sections, notes)[frame.start as usize];
     if distance < NO_COST {
@@ -219,11 +239,11 @@ fn search<A: Access>(frame: &Frame, room: Room, sections: &[Option<Section>; 16]
 }
 
 pub fn decode<A: Access>(frame: &Frame, room: Room) -> Decoded {
-    let sections = match sections_of(frame) {
+    let sections = match checked(frame) {
         Ok(sections) => sections,
         Err(refusal) => return refusal,
     };
-    match check(frame, &room, &sections) {
+    match check_room(frame.indices.len(), &room) {
         Ok(()) => search::<A>(frame, room, &sections),
         Err(refusal) => refusal,
     }

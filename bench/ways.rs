@@ -1,19 +1,20 @@
 //! The calls that are measured, and the ways in which each is done: the kit's first.
 
 use super::access::{Checked, Unchecked};
-use super::common::archive::{Buffers, Frame};
+use super::common::archive::{Buffers, Frame, ListBuffers};
 use super::common::codes::{benchmarked, case_3};
 use super::common::hard::hard;
 use super::common::tables::Table;
 use super::common::{Numbers, frames};
 use super::measuring::Job;
-use super::{hashed, plain_decode, plain_merge};
-use link_kit::{ANY_MAP, ANY_SECTION, Decoded, Merged, Room};
+use super::{hashed, plain_decode, plain_list, plain_merge};
+use link_kit::{ANY_MAP, ANY_SECTION, Decoded, DecodedList, ListRoom, Merged, Room};
 
 pub const BLOCKS: usize = 256;
 
 type Merging = fn(&[u8], &mut [u16], &mut [u16]) -> Merged;
 type Decoding = fn(&link_kit::Frame, Room) -> Decoded;
+type Listing = fn(&link_kit::Frame, usize, ListRoom) -> DecodedList;
 
 pub const NAMES: [&str; 4] = ["kit", "safe", "unchecked", "hash map"];
 
@@ -28,6 +29,11 @@ const DECODING: [Decoding; 3] = [
     link_kit::decode,
     plain_decode::decode::<Checked>,
     plain_decode::decode::<Unchecked>,
+];
+const LISTING: [Listing; 3] = [
+    link_kit::decode_list,
+    plain_list::decode_list::<Checked>,
+    plain_list::decode_list::<Unchecked>,
 ];
 
 fn merge_job(table: &Table, merge: Merging) -> Job {
@@ -67,14 +73,32 @@ fn decode_jobs(frame: &Frame) -> [Job; 3] {
     })
 }
 
-/// The jobs of a call in all its ways, for words that name it: `merge CODE`; `decode CODE`, a chain in all ways and then its first block; `frame`,
-/// one block of case 3; `refuse FAMILY NUMBER..`.
+fn room_for_list(frame: &Frame, paths: usize) -> ListBuffers {
+    frames::list_buffers(frames::list_lengths_of(frame.indices.len(), paths))
+}
+
+fn list_jobs(frame: &Frame, paths: usize) -> [Job; 3] {
+    LISTING.map(|list| {
+        let (frame, mut buffers) = (frame.clone(), room_for_list(frame, paths));
+        let job: Job = Box::new(move || {
+            std::hint::black_box(list(&frame.lent(), paths, buffers.lent()));
+        });
+        job
+    })
+}
+
+/// The jobs of a call in all its ways, for words that name it: `merge CODE`; `decode CODE` and `list CODE PATHS`, a chain in all ways and then its first
+/// block; `frame`, one block of case 3; `refuse FAMILY NUMBER..`.
 pub fn jobs(words: &[String]) -> Vec<Job> {
     let number = |word: &String| word.parse::<usize>().expect("a number");
     let code = |word: &String| benchmarked()[number(word)].1.clone();
     match words[0].as_str() {
         "merge" => MERGING.map(|merge| merge_job(&code(&words[1]), merge)).into(),
         "decode" => chain(&code(&words[1])).iter().flat_map(decode_jobs).collect(),
+        "list" => {
+            let (chains, paths) = (chain(&code(&words[1])), number(&words[2]));
+            chains.iter().flat_map(|frame| list_jobs(frame, paths)).collect()
+        }
         "frame" => decode_jobs(&chain(&case_3())[1]).into(),
         "refuse" => {
             let table = hard(&words[1], &words[2..].iter().map(number).collect::<Vec<usize>>());
@@ -107,5 +131,18 @@ pub fn decode_alike(table: &Table) {
             (answer, buffers)
         });
         assert!(left[0] == left[1] && left[0] == left[2], "decoding differs");
+    }
+}
+
+/// The same of their lists of so many paths.
+pub fn list_alike(table: &Table, paths: usize) {
+    for frame in chain(table) {
+        let left = LISTING.map(|list| {
+            let mut buffers = room_for_list(&frame, paths);
+            let answer = list(&frame.lent(), paths, buffers.lent());
+            assert_eq!(answer.number(), 0, "the chains have a path");
+            (answer, buffers)
+        });
+        assert!(left[0] == left[1] && left[0] == left[2], "listing differs");
     }
 }

@@ -1,4 +1,4 @@
-/* The link kit for C and C++ on x86-64, five functions: link with liblink_kit.a, which `rt staticlib link_kit` writes. Table files, sections, frames,
+/* The link kit for C and C++ on x86-64, six functions: link with liblink_kit.a, which `rt staticlib link_kit` writes. Table files, sections, frames,
  * block sheets and outcomes are those of document 01, the customer's paper on tables, sections and outcomes, with what the requests of document 02
  * changed; docs/FORMATS.md says all of them, with a worked table. The outcome numbers are the LINK_ constants below.
  *
@@ -18,7 +18,7 @@ extern "C" {
 #endif
 
 /* Outcomes, what values holds, and what the buffers hold then; "unchanged" means every buffer but values. */
-#define LINK_SUCCESS 0u         /* section's length, file's length, distance or text's length; places beyond those written are unchanged */
+#define LINK_SUCCESS 0u         /* section's, file's or text's length, distance or number of paths; places beyond those written are unchanged */
 #define LINK_FILE_LENGTH 1u     /* file length: under 5 bytes, or not 5 + 4 W; unchanged */
 #define LINK_SIZE 2u            /* 0 to 3, the first of q, n, S, W outside its bounds; unchanged */
 #define LINK_WORD 3u            /* first word with a state not below S, a label not below 4^n, or a symbol not below q; unchanged */
@@ -31,6 +31,7 @@ extern "C" {
 #define LINK_SHORT_BUFFER 10u   /* least length that the first short buffer needs; unchanged */
 #define LINK_NO_PATH 11u        /* nothing; cost table as on success, others unchanged */
 #define LINK_TOO_MANY_WORDS 12u /* nothing: the section has over 1,024 words; unchanged */
+#define LINK_PATH_COUNT 13u     /* how many paths are asked for, outside 1 to 16; unchanged */
 
 /* Bounds. */
 #define LINK_MOST_WORDS 1024u
@@ -38,12 +39,16 @@ extern "C" {
 #define LINK_MOST_SYMBOLS 8u   /* n */
 #define LINK_MOST_SECTIONS 16u /* K */
 #define LINK_MOST_BLOCKS 256u  /* B */
+#define LINK_MOST_PATHS 16u    /* paths of a list */
 #define LINK_NO_COST 4294967295u /* in the cost table: no path from here */
 
 /* Lengths, in elements. */
 #define LINK_FILE_LEN(words) (5u + 4u * (words))
 #define LINK_MAP_LEN(words, n) ((words) * ((n) + 1u))
 #define LINK_COSTS_LEN(blocks) (LINK_MOST_STATES * (blocks))
+#define LINK_LIST_LEN(paths, blocks) ((paths) * (blocks)) /* labels of a list, and goals */
+/* The place of a path's block in the labels and goals of a list. */
+#define LINK_LIST_PLACE(path, blocks, block) ((path) * (blocks) + (block))
 /* The place in the cost table of the least distance from a state before a block to the end state after the last. */
 #define LINK_COST_PLACE(block, state) (LINK_MOST_STATES * (block) + (state))
 
@@ -60,7 +65,8 @@ extern "C" {
  * first called needs some 4,096 bytes more for that one call. */
 #define LINK_MERGE_STACK 35840u
 #define LINK_READ_BACK_STACK 19456u
-#define LINK_DECODE_STACK 28160u /* 28,672 when S went to 64 */
+#define LINK_DECODE_STACK 20992u
+#define LINK_DECODE_LIST_STACK 91648u
 #define LINK_LISTING_STACK 55296u
 #define LINK_BLOCK_SHEET_STACK 66560u
 
@@ -84,6 +90,17 @@ uint32_t link_decode(const uint16_t *sections, size_t sections_len, size_t k, co
                      const uint16_t *received, size_t received_len, const uint8_t *erased, size_t erased_len, uint8_t start, uint8_t end,
                      uint32_t *costs, size_t costs_len, uint16_t *labels, size_t labels_len, uint8_t *goals, size_t goals_len,
                      uint8_t *masks, size_t masks_len, uint32_t values[4]);
+
+/* Lists the best paths through a chain, as many as `paths` says, 1 to 16, or all where fewer exist: by distance, and those of one distance in the order
+ * of their words, compared block by block from the first. So the first is the path of link_decode, and a list of fewer is the start of a longer one.
+ * The frame, from `sections` to `end`, is that of link_decode. Success returns how many are listed, and writes the cost table as link_decode does, and
+ * path after path a distance (`paths` places are needed) and the labels and goals of its words (LINK_LIST_LEN(paths, blocks) places each); those of
+ * block b of path p, from 0, are at place LINK_LIST_PLACE(p, blocks, b). Places of paths that are not listed are unchanged. There are no masks.
+ * Outcomes 0, 8, 9, 13, 10 (cost table, distances, labels, goals) and 11, checked in this order. */
+uint32_t link_decode_list(const uint16_t *sections, size_t sections_len, size_t k, const uint8_t *indices, size_t blocks,
+                          const uint16_t *received, size_t received_len, const uint8_t *erased, size_t erased_len, uint8_t start, uint8_t end,
+                          size_t paths, uint32_t *costs, size_t costs_len, uint32_t *distances, size_t distances_len, uint16_t *labels,
+                          size_t labels_len, uint8_t *goals, size_t goals_len, uint32_t values[4]);
 
 /* Writes the printed sizes of a table's section as text, or the line of its refusal. Success, also for a table that is refused, returns the text's
  * length; no 0 byte is put behind it. Outcomes 0 and 10. */

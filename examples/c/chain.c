@@ -1,5 +1,5 @@
 /* Merges the table of labels 00 and 11 (marked case 3) and prints its sizes, decodes two blocks received as 01 and 11 (marked case 7), prints the
- * path and which symbols were wrong, and prints what both blocks cost. Valid C and C++. */
+ * path and which symbols were wrong, lists the best paths up to the first whose check sum is right, and prints what both blocks cost. Valid C and C++. */
 #include "link_kit.h"
 
 #include <stdio.h>
@@ -8,11 +8,63 @@
 /* q 2, n 2, S 1, two words: pairs (root, goal), then labels, low byte first. */
 static const uint8_t file[LINK_FILE_LEN(2)] = {2, 2, 1, 2, 0, /* */ 0, 0, 0, 0, /* */ 0, 0, 5, 0};
 
+/* Two blocks over one section, with no symbol erased. */
+#define BLOCKS 2u
+static const uint8_t indices[BLOCKS] = {0, 0}, erased[BLOCKS] = {0, 0};
+static const uint16_t received[BLOCKS] = {1, 5};
+
 static uint16_t section[LINK_ANY_SECTION];
+static uint32_t costs[LINK_COSTS_LEN(BLOCKS)];
 
 static int refused(const char *call, uint32_t number, const uint32_t values[4]) {
     fprintf(stderr, "%s: refused %u, %u %u %u %u\n", call, number, values[0], values[1], values[2], values[3]);
     return 1;
+}
+
+static int print_path(size_t length) {
+    uint16_t labels[BLOCKS];
+    uint8_t goals[BLOCKS], masks[BLOCKS];
+    uint32_t values[4];
+    uint32_t number = link_decode(section, length, 1, indices, BLOCKS, received, BLOCKS, erased, BLOCKS, 0, 0, costs, LINK_COSTS_LEN(BLOCKS),
+                                  labels, BLOCKS, goals, BLOCKS, masks, BLOCKS, values);
+    if (number != LINK_SUCCESS)
+        return refused("decode", number, values);
+    printf("distance %u\n", values[0]);
+    for (unsigned b = 0; b < BLOCKS; b++)
+        printf("block %u: label %u%u, mask of wrong symbols %u%u, goal %u, distance from state 0 onward %u\n", b, labels[b] >> 2 & 3, labels[b] & 3,
+               masks[b] >> 1 & 1, masks[b] & 1, goals[b], costs[LINK_COST_PLACE(b, 0)]);
+    return 0;
+}
+
+/* The outer check sum of a path is right if its labels add up to 0, each bit by itself. */
+static int is_right(const uint16_t *labels) {
+    unsigned sum = 0;
+    for (unsigned b = 0; b < BLOCKS; b++)
+        sum ^= labels[b];
+    return sum == 0;
+}
+
+/* The listed paths, up to the first with a right check sum: that is the one to take. */
+static int print_list(size_t length) {
+    uint32_t distances[LINK_MOST_PATHS], values[4];
+    uint16_t labels[LINK_LIST_LEN(LINK_MOST_PATHS, BLOCKS)];
+    uint8_t goals[LINK_LIST_LEN(LINK_MOST_PATHS, BLOCKS)];
+    uint32_t number = link_decode_list(section, length, 1, indices, BLOCKS, received, BLOCKS, erased, BLOCKS, 0, 0, LINK_MOST_PATHS, costs,
+                                       LINK_COSTS_LEN(BLOCKS), distances, LINK_MOST_PATHS, labels, LINK_LIST_LEN(LINK_MOST_PATHS, BLOCKS),
+                                       goals, LINK_LIST_LEN(LINK_MOST_PATHS, BLOCKS), values);
+    if (number != LINK_SUCCESS)
+        return refused("decode list", number, values);
+    printf("%u paths\n", values[0]);
+    for (uint32_t p = 0; p < values[0]; p++) {
+        const uint16_t *path = labels + LINK_LIST_PLACE(p, BLOCKS, 0);
+        printf("path %u: distance %u, labels", p, distances[p]);
+        for (unsigned b = 0; b < BLOCKS; b++)
+            printf(" %u%u", path[b] >> 2 & 3, path[b] & 3);
+        printf(", check sum %s\n", is_right(path) ? "right" : "wrong");
+        if (is_right(path))
+            return 0;
+    }
+    return 0;
 }
 
 /* The sheet of two blocks over one section: K, B low byte first, the section of each block, the table. */
@@ -48,17 +100,5 @@ int main(void) {
     if (number != LINK_SUCCESS || values[0] != sizeof file || memcmp(file, again, sizeof file) != 0)
         return refused("read back", number, values);
 
-    const uint8_t indices[2] = {0, 0}, erased[2] = {0, 0};
-    const uint16_t received[2] = {1, 5};
-    uint32_t costs[LINK_COSTS_LEN(2)];
-    uint16_t labels[2];
-    uint8_t goals[2], masks[2];
-    number = link_decode(section, length, 1, indices, 2, received, 2, erased, 2, 0, 0, costs, LINK_COSTS_LEN(2), labels, 2, goals, 2, masks, 2, values);
-    if (number != LINK_SUCCESS)
-        return refused("decode", number, values);
-    printf("distance %u\n", values[0]);
-    for (unsigned b = 0; b < 2; b++)
-        printf("block %u: label %u%u, mask of wrong symbols %u%u, goal %u, distance from state 0 onward %u\n", b, labels[b] >> 2 & 3, labels[b] & 3,
-               masks[b] >> 1 & 1, masks[b] & 1, goals[b], costs[LINK_COST_PLACE(b, 0)]);
-    return print_sheet();
+    return print_path(length) || print_list(length) || print_sheet();
 }

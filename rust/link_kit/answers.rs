@@ -49,6 +49,23 @@ pub enum Decoded {
     NoPath,
 }
 
+/// What decoding to several paths answers.
+#[derive(Clone, Copy, PartialEq, Eq, Debug)]
+pub enum DecodedList {
+    /// How many paths are listed: the cost table and their distances, labels and goals are written.
+    Paths(usize),
+    /// K if it is outside its bounds, else the first unusable section, else K for numbers left over.
+    Section(usize),
+    /// The first bad block, or B for a fault of lengths or states.
+    Block(usize),
+    /// How many paths were asked for: it is outside 1 to 16.
+    Count(usize),
+    /// The least length that the first short buffer needs: cost table, distances, labels, goals.
+    Short(usize),
+    /// No path leads from the start state to the end state. The cost table is written.
+    NoPath,
+}
+
 /// What the listing and the block sheet answer.
 #[derive(Clone, Copy, PartialEq, Eq, Debug)]
 pub enum Listed {
@@ -172,6 +189,43 @@ impl Decoded {
         match self {
             Decoded::Distance(x) | Decoded::Section(x) | Decoded::Block(x) | Decoded::Short(x) => places(&[x]),
             Decoded::NoPath => places(&[]),
+        }
+    }
+}
+
+impl DecodedList {
+    /// The case of a number and its values, as the archive gives them.
+    pub fn of(number: u32, values: [u32; 4]) -> DecodedList {
+        let first = values[0] as usize;
+        match number {
+            0 => DecodedList::Paths(first),
+            8 => DecodedList::Section(first),
+            9 => DecodedList::Block(first),
+            10 => DecodedList::Short(first),
+            11 => DecodedList::NoPath,
+            13 => DecodedList::Count(first),
+            other => no_outcome(other),
+        }
+    }
+
+    /// Document 01's number; 13 is document 02's.
+    pub fn number(self) -> u32 {
+        match self {
+            DecodedList::Paths(_) => 0,
+            DecodedList::Section(_) => 8,
+            DecodedList::Block(_) => 9,
+            DecodedList::Short(_) => 10,
+            DecodedList::NoPath => 11,
+            DecodedList::Count(_) => 13,
+        }
+    }
+
+    /// The numbers returned with it, 0 in the places not used.
+    pub fn values(self) -> [usize; 4] {
+        match self {
+            DecodedList::Paths(x) | DecodedList::Section(x) | DecodedList::Block(x) => places(&[x]),
+            DecodedList::Count(x) | DecodedList::Short(x) => places(&[x]),
+            DecodedList::NoPath => places(&[]),
         }
     }
 }

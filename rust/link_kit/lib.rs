@@ -1,7 +1,7 @@
-//! The link kit for Rust: tables merged into trellis sections, sections read back, chains of blocks decoded, sizes listed, block sheets added up.
-//! Safe calls of `liblink_kit.a`, whose every answer and every place of every buffer is proved to be what document 01 says, the customer's paper on
-//! tables, sections and outcomes, with what the requests of document 02 changed. Formats and outcomes are in `docs/FORMATS.md`, with a worked table.
-//! Nothing here allocates or keeps anything between calls.
+//! The link kit for Rust: tables merged into trellis sections, sections read back, chains of blocks decoded to their best path or to several of the
+//! best, sizes listed, block sheets added up. Safe calls of `liblink_kit.a`, whose every answer and every place of every buffer is proved to be what
+//! document 01 says, the customer's paper on tables, sections and outcomes, with what the requests of document 02 changed. Formats and outcomes are in
+//! `docs/FORMATS.md`, with a worked table. Nothing here allocates or keeps anything between calls.
 //!
 //! ```
 //! use link_kit::{ANY_SECTION, COSTS_A_BLOCK, Decoded, Frame, Merged, Room};
@@ -24,7 +24,7 @@
 mod answers;
 pub mod numbers;
 
-pub use answers::{Decoded, Listed, Merged, ReadBack};
+pub use answers::{Decoded, DecodedList, Listed, Merged, ReadBack};
 
 /// A table file of 1,024 words in bytes, the longest there is.
 pub const ANY_FILE: usize = 5 + 4 * 1024;
@@ -44,12 +44,14 @@ pub const MOST_STATES: usize = 16;
 pub const MOST_SECTIONS: usize = 16;
 /// The most blocks of a chain.
 pub const MOST_BLOCKS: usize = 256;
+/// The most paths of a list.
+pub const MOST_PATHS: usize = 16;
 /// The places of the cost table for one block, one for each state.
 pub const COSTS_A_BLOCK: usize = MOST_STATES;
 /// In the cost table: no path from here.
 pub const NO_COST: u32 = u32::MAX;
 
-/// What decoding takes.
+/// What decoding takes, to the best path or to several.
 #[derive(Clone, Copy, Debug)]
 pub struct Frame<'a> {
     /// The sections one behind another.
@@ -81,6 +83,19 @@ pub struct Room<'a> {
     /// B places for which symbols were wrong: n bits, the first symbol highest, with 1 for each symbol of the path's label that differs from the
     /// received one and is not erased. The number of ones in all masks is the distance.
     pub masks: &'a mut [u8],
+}
+
+/// What decoding to several paths writes to.
+#[derive(Debug)]
+pub struct ListRoom<'a> {
+    /// [`COSTS_A_BLOCK`]·B places, which are left as in [`Room`].
+    pub costs: &'a mut [u32],
+    /// A place for the distance of each path that is asked for.
+    pub distances: &'a mut [u32],
+    /// B places for the labels of each path, path after path: those of path p, from 0, begin at place p·B.
+    pub labels: &'a mut [u16],
+    /// B places for the goals of each path, likewise.
+    pub goals: &'a mut [u8],
 }
 
 /// Merges the table in `file` into the smallest section with just its words.
@@ -148,6 +163,32 @@ pub fn decode(frame: &Frame, room: Room) -> Decoded {
     let mut values = [0; 4];
     let number = numbers::decode(frame, room, &mut values);
     Decoded::of(number, values)
+}
+
+/// Lists the `paths` best paths through a chain of blocks, 1 to [`MOST_PATHS`], or all where fewer exist: by distance, and those of one distance in the
+/// order of their words, compared block by block from the first. So the first of them is the path of [`decode`], and a list of fewer is the start of
+/// a longer one. The buffers have room for as many as are asked for; what lies beyond those listed is unchanged.
+///
+/// A frame that carries an outer check sum is often rescued by it: the first listed path whose sum is right is taken. Here the labels of a frame add up
+/// to 0, each bit by itself. Two blocks are received as 01 and 11, and of the paths 00, 11 and 11, 11, which both have distance 1, decoding takes the
+/// first, whose sum is wrong:
+///
+/// ```
+/// use link_kit::{COSTS_A_BLOCK, DecodedList, Frame, ListRoom};
+/// let section = [2, 2, 1, 1, 2, 1, 2, 2, 0, 0, 0, 0, 0, 1, 0, 0, 1, 0, 0, 1, 0, 1]; // from state 0 to state 0 by 00 and 11
+/// let frame = Frame { sections: &section, k: 1, indices: &[0, 0], received: &[1, 5], erased: &[0, 0], start: 0, end: 0 };
+/// let (mut costs, mut distances, mut labels, mut goals) = ([0; 2 * COSTS_A_BLOCK], [9; 3], [9; 3 * 2], [9; 3 * 2]);
+/// let room = ListRoom { costs: &mut costs, distances: &mut distances, labels: &mut labels, goals: &mut goals };
+/// assert_eq!(link_kit::decode_list(&frame, 3, room), DecodedList::Paths(3));
+/// assert_eq!((distances, labels, goals), ([1, 1, 3], [0, 5, 5, 5, 0, 0], [0; 6]));
+///
+/// let is_right = |path: &&[u16]| path.iter().fold(0, |sum, label| sum ^ label) == 0;
+/// assert_eq!(labels.chunks(2).find(is_right), Some(&[5, 5][..]));
+/// ```
+pub fn decode_list(frame: &Frame, paths: usize, room: ListRoom) -> DecodedList {
+    let mut values = [0; 4];
+    let number = numbers::decode_list(frame, paths, room, &mut values);
+    DecodedList::of(number, values)
 }
 
 /// Writes the printed sizes of the section of the table in `file`, or the line of its refusal.

@@ -1,7 +1,7 @@
-//! The archive's five functions as they are, over slices: each returns document 01's number and fills `values` with the numbers returned with it,
+//! The archive's six functions as they are, over slices: each returns document 01's number and fills `values` with the numbers returned with it,
 //! 0 in the places not used. The only declarations of the archive in Rust, and the only unsafe code, are here.
 
-use super::{Frame, Room};
+use super::{Frame, ListRoom, Room};
 
 #[link(name = "link_kit", kind = "static")]
 unsafe extern "C" {
@@ -41,6 +41,29 @@ unsafe extern "C" {
         goals_len: usize,
         masks: *mut u8,
         masks_len: usize,
+        values: &mut [u32; 4],
+    ) -> u32;
+    fn link_decode_list(
+        sections: *const u16,
+        sections_len: usize,
+        k: usize,
+        indices: *const u8,
+        blocks: usize,
+        received: *const u16,
+        received_len: usize,
+        erased: *const u8,
+        erased_len: usize,
+        start: u8,
+        end: u8,
+        paths: usize,
+        costs: *mut u32,
+        costs_len: usize,
+        distances: *mut u32,
+        distances_len: usize,
+        labels: *mut u16,
+        labels_len: usize,
+        goals: *mut u8,
+        goals_len: usize,
         values: &mut [u32; 4],
     ) -> u32;
     fn link_listing(file: *const u8, file_len: usize, text: *mut u8, text_len: usize, values: &mut [u32; 4]) -> u32;
@@ -99,6 +122,36 @@ pub fn decode(frame: &Frame, room: Room, values: &mut [u32; 4]) -> u32 {
             room.goals.len(),
             room.masks.as_mut_ptr(),
             room.masks.len(),
+            values,
+        )
+    }
+}
+
+/// [`decode_list`](super::decode_list) in numbers.
+pub fn decode_list(frame: &Frame, paths: usize, room: ListRoom, values: &mut [u32; 4]) -> u32 {
+    // SAFETY: as for `merge`.
+    unsafe {
+        link_decode_list(
+            frame.sections.as_ptr(),
+            frame.sections.len(),
+            frame.k,
+            frame.indices.as_ptr(),
+            frame.indices.len(),
+            frame.received.as_ptr(),
+            frame.received.len(),
+            frame.erased.as_ptr(),
+            frame.erased.len(),
+            frame.start,
+            frame.end,
+            paths,
+            room.costs.as_mut_ptr(),
+            room.costs.len(),
+            room.distances.as_mut_ptr(),
+            room.distances.len(),
+            room.labels.as_mut_ptr(),
+            room.labels.len(),
+            room.goals.as_mut_ptr(),
+            room.goals.len(),
             values,
         )
     }

@@ -9,8 +9,7 @@ mod masks;
 
 use common::archive::{self, Answer, Frame};
 use common::decoding;
-use common::frames::{self, Lengths};
-use common::merging::section_of;
+use common::frames::{self, Lengths, copies};
 use common::tables::{Table, across, large_tables};
 use common::{Differing, MOST_STATES, Numbers};
 use std::collections::BTreeMap;
@@ -110,19 +109,6 @@ fn large_sections(differing: &mut Differing, numbers: &mut Numbers) {
     tally.report("sections of 1,024 words");
 }
 
-/// A chain over copies of one section, all blocks received alike.
-fn copies(table: &Table, k: usize, blocks: usize, received: u16) -> Frame {
-    Frame {
-        sections: section_of(table).repeat(k),
-        k,
-        indices: (0..blocks).map(|b| (b % k) as u8).collect(),
-        received: vec![received; blocks],
-        erased: vec![0; blocks],
-        start: LAST,
-        end: 0,
-    }
-}
-
 fn bounds(differing: &mut Differing) {
     let mut tally = Tally::default();
     let table = across(LAST + 1);
@@ -193,7 +179,7 @@ fn bursts(differing: &mut Differing, numbers: &mut Numbers) {
         tally.compare(differing, &frame, lengths, blocks == 5);
         let symbols: u32 = frame.erased.iter().map(|mask| mask.count_ones()).sum();
         let best_by = |erasure| {
-            let blocks = decoding::blocks_by(erasure, &frame, &frames::buffers(lengths)).expect("no fault");
+            let blocks = decoding::blocks_by(erasure, &frame).expect("no fault");
             decoding::by_words(&blocks, frame.start, frame.end).best
         };
         for erasure in [1, 3] {
@@ -221,7 +207,7 @@ fn marked_cases(differing: &mut Differing) {
         (vec![0], vec![1], 0, vec![0], vec![0b00]),
     ] {
         let mut frame = copies(&table, 1, labels.len(), 0);
-        (frame.received, frame.erased, frame.start) = (received, erased, 0);
+        (frame.received, frame.erased) = (received, erased);
         let mut got = frames::buffers(frames::lengths_of(labels.len()));
         let answer = archive::decode(&frame, &mut got);
         let goals = vec![0; labels.len()];

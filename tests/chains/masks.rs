@@ -1,12 +1,12 @@
 //! The masks of wrong symbols (document 02, request 5), with answers known beforehand: every set of wrong symbols beside every set of erased ones; and
 //! buffers too short for a chain beside its faults, as only the first in the order of checks is answered and no place of any buffer changes.
 
-use super::common::archive::{self, Answer, Buffers, Frame};
-use super::common::codes::case_3;
-use super::common::frames::{self, Lengths};
+use super::Tally;
+use super::common::archive::{self, Answer, Buffers};
+use super::common::faults::{BLOCKS, FAULTS, Fault, around, case_7};
+use super::common::frames::{self, Lengths, copies};
 use super::common::tables::{Table, symbols};
 use super::common::{Differing, MOST_STATES, Numbers};
-use super::{Tally, copies};
 use link_kit::NO_COST;
 
 /// Whether a set of symbols has symbol t of n: the first symbol is the highest bit.
@@ -31,7 +31,6 @@ fn all_wrong(tally: &mut Tally, differing: &mut Differing, n: u8, erased: usize,
     let words = vec![(0, label, 0)];
     let (q, states, blocks) = (4, 1, 1 << n);
     let mut frame = copies(&Table { q, n, states, words }, 1, blocks, 0);
-    frame.start = 0;
     frame.erased.fill(erased as u8);
     for (wrong, place) in frame.received.iter_mut().enumerate() {
         *place = received(label, n, wrong, erased, numbers);
@@ -45,39 +44,6 @@ fn all_wrong(tally: &mut Tally, differing: &mut Differing, n: u8, erased: usize,
     archive::decode(&frame, &mut got);
     differing.compare(&wanted, &got.masks, || format!("the masks: {frame:?}"));
 }
-
-/// How many blocks the chain of marked case 7 has.
-const BLOCKS: usize = 2;
-
-/// The section of the labels 00 and 11, received as 01 and 11.
-fn case_7() -> Frame {
-    let mut frame = copies(&case_3(), 1, BLOCKS, 0);
-    (frame.received, frame.start) = (vec![1, 5], 0);
-    frame
-}
-
-type Fault = (fn(&mut Frame), u32, usize);
-
-/// What is changed in case 7's chain, and the outcome's number and value if no buffer is short.
-const FAULTS: [Fault; 14] = [
-    (|_| (), 0, 1),
-    // no word leads to the end state
-    (|frame| frame.end = 1, 11, 0),
-    (|frame| frame.k = 0, 8, 0),
-    (|frame| frame.k = 17, 8, 17),
-    // q is 5
-    (|frame| frame.sections[0] = 5, 8, 0),
-    (|frame| frame.sections.push(0), 8, 1),
-    (|frame| frame.received.truncate(1), 9, BLOCKS),
-    (|frame| frame.erased.push(0), 9, BLOCKS),
-    (|frame| frame.start = MOST_STATES as u8, 9, BLOCKS),
-    (|frame| frame.end = MOST_STATES as u8, 9, BLOCKS),
-    (|frame| frame.indices[0] = 1, 9, 0),
-    // a symbol that is q, an erased symbol whose digit is not 0, and a mask of three bits
-    (|frame| frame.received[1] = 2, 9, 1),
-    (|frame| frame.erased[1] = 1, 9, 1),
-    (|frame| frame.erased[0] = 4, 9, 0),
-];
 
 /// The outcome with buffers of some lengths: those under 8 and 9 are checked before them, and a path is looked for after them.
 fn outcome(number: u32, value: usize, lengths: Lengths) -> Answer {
@@ -102,23 +68,11 @@ fn left(number: u32, mut buffers: Buffers) -> Buffers {
     buffers
 }
 
-/// Each buffer empty, one place short, as long as needed and longer, beside each of the others.
-fn all_lengths() -> impl Iterator<Item = Lengths> {
-    (0..4usize.pow(4)).map(|choices| {
-        let mut rest = choices;
-        frames::lengths_of(BLOCKS).map(|needed| {
-            let choice = rest % 4;
-            rest /= 4;
-            [0, needed - 1, needed, needed + 7][choice]
-        })
-    })
-}
-
 fn short_buffers(tally: &mut Tally, differing: &mut Differing, fault: Fault) {
     let (spoil, number, value) = fault;
     let mut frame = case_7();
     spoil(&mut frame);
-    for lengths in all_lengths() {
+    for lengths in around(frames::lengths_of(BLOCKS)) {
         tally.compare(differing, &frame, lengths, true);
         let before = frames::buffers(lengths);
         let mut got = before.clone();

@@ -1,6 +1,6 @@
 //! Calls of the kit through its crate for Rust: slices in, document 01's number and four values out, and the enum made of them held to both.
 
-use link_kit::{Decoded, Listed, Merged, ReadBack, Room, numbers};
+use link_kit::{Decoded, DecodedList, ListRoom, Listed, Merged, ReadBack, Room, numbers};
 
 /// An outcome's number, and the numbers returned with it in the first of four places; 0 in the others.
 #[derive(Clone, PartialEq, Debug)]
@@ -139,5 +139,47 @@ pub fn decode(frame: &Frame, buffers: &mut Buffers) -> Answer {
     let mut values = BEFORE;
     let number = numbers::decode(&frame.lent(), buffers.lent(), &mut values);
     let case = Decoded::of(number, values);
+    answer(number, values, (case.number(), case.values()))
+}
+
+/// What decoding to several paths writes to.
+#[derive(Clone, PartialEq, Debug)]
+pub struct ListBuffers {
+    pub costs: Vec<u32>,
+    pub distances: Vec<u32>,
+    pub labels: Vec<u16>,
+    pub goals: Vec<u8>,
+}
+
+impl ListBuffers {
+    pub fn new(costs: usize, distances: usize, labels: usize, goals: usize) -> ListBuffers {
+        ListBuffers {
+            costs: pattern(costs).map(u32::from).collect(),
+            distances: pattern(distances).map(u32::from).collect(),
+            labels: pattern(labels).collect(),
+            goals: byte_pattern(goals),
+        }
+    }
+
+    /// The distances, labels and goals of the first paths.
+    pub fn first(&self, paths: usize, blocks: usize) -> (&[u32], &[u16], &[u8]) {
+        let words = paths * blocks;
+        (&self.distances[..paths], &self.labels[..words], &self.goals[..words])
+    }
+
+    pub fn lent(&mut self) -> ListRoom<'_> {
+        ListRoom {
+            costs: &mut self.costs,
+            distances: &mut self.distances,
+            labels: &mut self.labels,
+            goals: &mut self.goals,
+        }
+    }
+}
+
+pub fn decode_list(frame: &Frame, paths: usize, buffers: &mut ListBuffers) -> Answer {
+    let mut values = BEFORE;
+    let number = numbers::decode_list(&frame.lent(), paths, buffers.lent(), &mut values);
+    let case = DecodedList::of(number, values);
     answer(number, values, (case.number(), case.values()))
 }

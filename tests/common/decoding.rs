@@ -76,8 +76,16 @@ pub fn sections_of(frame: &Frame) -> Result<Vec<Section>, Answer> {
     }
 }
 
-/// The blocks' words with their distances if an erased symbol costs `erasure`, or refusal 8, 9 or 10.
-pub fn blocks_by(erasure: u32, frame: &Frame, buffers: &Buffers) -> Result<Vec<Block>, Answer> {
+/// Refusal 10 for the first buffer that is shorter than what it needs.
+pub fn long_enough(lengths: [(usize, usize); 4]) -> Result<(), Answer> {
+    match lengths.into_iter().find(|(length, needed)| length < needed) {
+        Some((_, needed)) => Err(Answer::new(10, &[needed])),
+        None => Ok(()),
+    }
+}
+
+/// The blocks' words with their distances if an erased symbol costs `erasure`, or refusal 8 or 9.
+pub fn blocks_by(erasure: u32, frame: &Frame) -> Result<Vec<Block>, Answer> {
     let sections = sections_of(frame)?;
     let count = frame.indices.len();
     let lengths_equal = frame.received.len() == count && frame.erased.len() == count;
@@ -90,15 +98,6 @@ pub fn blocks_by(erasure: u32, frame: &Frame, buffers: &Buffers) -> Result<Vec<B
         if !sections.get(frame.indices[b] as usize).is_some_and(fits) {
             return Err(Answer::new(9, &[b]));
         }
-    }
-    let lengths = [
-        (buffers.costs.len(), MOST_STATES * count),
-        (buffers.labels.len(), count),
-        (buffers.goals.len(), count),
-        (buffers.masks.len(), count),
-    ];
-    if let Some((_, needed)) = lengths.into_iter().find(|(length, needed)| length < needed) {
-        return Err(Answer::new(10, &[needed]));
     }
     let words: Vec<Vec<Word>> = sections.iter().map(Section::words).collect();
     let block = |b: usize| {
@@ -114,8 +113,20 @@ pub fn blocks_by(erasure: u32, frame: &Frame, buffers: &Buffers) -> Result<Vec<B
     Ok((0..count).map(block).collect())
 }
 
-/// Every path from a state through the blocks to the end state, with its distance.
-fn paths(blocks: &[Block], state: u8, end: u8) -> Vec<(u32, Vec<Word>)> {
+/// The blocks' words with their distances, or refusal 8, 9 or 10.
+fn blocks_of(frame: &Frame, buffers: &Buffers) -> Result<Vec<Block>, Answer> {
+    let blocks = blocks_by(0, frame)?;
+    long_enough([
+        (buffers.costs.len(), MOST_STATES * blocks.len()),
+        (buffers.labels.len(), blocks.len()),
+        (buffers.goals.len(), blocks.len()),
+        (buffers.masks.len(), blocks.len()),
+    ])?;
+    Ok(blocks)
+}
+
+/// Every path from a state through the blocks to the end state, with its distance, in the order of their words.
+pub fn paths(blocks: &[Block], state: u8, end: u8) -> Vec<(u32, Vec<Word>)> {
     let Some((first, rest)) = blocks.split_first() else {
         return if state == end {
             vec![(0, Vec::new())]
@@ -208,7 +219,7 @@ fn write(frame: &Frame, found: &Found, buffers: &mut Buffers) -> Answer {
 
 /// What decoding leaves in the buffers, its answer, and after every check is passed the blocks and what was found in them.
 pub fn decode(frame: &Frame, buffers: &mut Buffers) -> (Answer, Option<(Vec<Block>, Found)>) {
-    match blocks_by(0, frame, buffers) {
+    match blocks_of(frame, buffers) {
         Ok(blocks) => {
             let found = by_words(&blocks, frame.start, frame.end);
             (write(frame, &found, buffers), Some((blocks, found)))

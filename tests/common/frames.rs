@@ -1,6 +1,6 @@
 //! Chains made at random: their sections, what is received over them, and faults put into them.
 
-use super::archive::{Buffers, Frame};
+use super::archive::{Buffers, Frame, ListBuffers};
 use super::decoding::sections_of;
 use super::merging::{section_of, witness};
 use super::sections::Section;
@@ -8,7 +8,7 @@ use super::tables::{Table, Word, drawn, scattered, symbols};
 use super::{MOST_STATES, Numbers};
 use std::collections::BTreeSet;
 
-/// Lengths of the cost table, the labels, the goals and the masks.
+/// Lengths of the cost table, the labels, the goals and the masks; for a list, of the cost table, the distances, the labels and the goals.
 pub type Lengths = [usize; 4];
 
 /// Ascending states that stand for 0, 1, 2 ..; neighbours of a chain meet only if they share them.
@@ -117,6 +117,19 @@ pub fn over(tables: &[Table], ends: [u8; 2], blocks: usize, most_paths: usize, n
     frame
 }
 
+/// A chain over copies of one section from state 0 to state 0, all blocks received alike.
+pub fn copies(table: &Table, k: usize, blocks: usize, received: u16) -> Frame {
+    Frame {
+        sections: section_of(table).repeat(k),
+        k,
+        indices: (0..blocks).map(|b| (b % k) as u8).collect(),
+        received: vec![received; blocks],
+        erased: vec![0; blocks],
+        start: 0,
+        end: 0,
+    }
+}
+
 /// Erases about three of four symbols of a chain without faults, and in about a third of its blocks all.
 pub fn erase_most(frame: &mut Frame, numbers: &mut Numbers) {
     let sections = sections_of(frame).expect("usable sections");
@@ -175,4 +188,30 @@ pub fn lengths_for(blocks: usize, numbers: &mut Numbers) -> Lengths {
 pub fn buffers(lengths: Lengths) -> Buffers {
     let [costs, labels, goals, masks] = lengths;
     Buffers::new(costs, labels, goals, masks)
+}
+
+/// The same for a list of so many paths.
+pub fn list_lengths_of(blocks: usize, paths: usize) -> Lengths {
+    [MOST_STATES * blocks, paths, paths * blocks, paths * blocks]
+}
+
+pub fn list_lengths_for(blocks: usize, paths: usize, numbers: &mut Numbers) -> Lengths {
+    list_lengths_of(blocks, paths).map(|needed| needed + numbers.below(10))
+}
+
+pub fn list_buffers(lengths: Lengths) -> ListBuffers {
+    let [costs, distances, labels, goals] = lengths;
+    ListBuffers::new(costs, distances, labels, goals)
+}
+
+/// Numbers of paths that no list has.
+pub const NO_LIST: [usize; 6] = [0, 17, 255, u32::MAX as usize, 5_000_000_000, usize::MAX];
+
+/// Puts a fault of any kind into a chain, its buffers' lengths or the number of paths that are asked for.
+pub fn spoil_list(frame: &mut Frame, lengths: &mut Lengths, paths: &mut usize, numbers: &mut Numbers) {
+    if numbers.one_in(6) {
+        *paths = NO_LIST[numbers.below(NO_LIST.len())];
+    } else {
+        spoil(frame, lengths, numbers);
+    }
 }

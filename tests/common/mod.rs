@@ -1,15 +1,18 @@
-//! What the running programs share: calls of the kit, tables and chains of many kinds, and merging, sections, decoding, the listing and the block
-//! sheet written plainly from document 01, the customer's paper on tables, sections and outcomes, with what document 02's requests changed.
+//! What the running programs share: calls of the kit, tables and chains of many kinds, and merging, sections, decoding to the best path and to several,
+//! the listing and the block sheet written plainly from document 01, the customer's paper on tables, sections and outcomes, with what document 02's
+//! requests changed.
 #![allow(dead_code)]
 
 pub mod archive;
 pub mod codes;
 pub mod decoding;
+pub mod faults;
 pub mod frames;
 pub mod hard;
 pub mod listing;
 pub mod merging;
 pub mod sections;
+pub mod several;
 pub mod shapes;
 pub mod sheet;
 pub mod tables;

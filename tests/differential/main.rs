@@ -1,6 +1,6 @@
-//! Tables of many shapes and files with every kind of fault through all five functions of the archive: merging, the listing, reading back what was
-//! merged, decoding chains of it and block sheets, each compared in its answer and in every place of every buffer with plain code written from
-//! documents 01 and 02 alone.
+//! Tables of many shapes and files with every kind of fault through all six functions of the archive: merging, the listing, reading back what was
+//! merged, decoding chains of it to the best path and to several, and block sheets, each compared in its answer and in every place of every buffer with
+//! plain code written from documents 01 and 02 alone.
 
 #[path = "../common/mod.rs"]
 mod common;
@@ -13,6 +13,7 @@ mod states;
 use common::archive::{self, Buffers, byte_pattern};
 use common::codes::{Sum, benchmarked, full_linear};
 use common::frames::Lengths;
+use common::several::{self, MOST_PATHS};
 use common::shapes;
 use common::tables::{Table, large_tables};
 use common::{Differing, Numbers, decoding, frames, listing, merging, sections};
@@ -29,6 +30,8 @@ struct Tally {
     read_back: Outcomes,
     decoded: Outcomes,
     ties: usize,
+    several: Outcomes,
+    paths: usize,
     differing: Differing,
 }
 
@@ -112,8 +115,19 @@ impl Tally {
         let mut frame = frames::over(tables, ends, blocks, usize::MAX, numbers);
         let mut lengths = frames::lengths_for(blocks, numbers);
         self.decode(&frame, lengths);
+        self.several(frame.clone());
         frames::spoil(&mut frame, &mut lengths, numbers);
         self.decode(&frame, lengths);
+    }
+
+    /// Lists some of a chain's best paths, then with a fault in it. Its numbers are its own, so that all other calls are what they are without it.
+    fn several(&mut self, mut frame: archive::Frame) {
+        let mut numbers = Numbers::seeded(self.several.values().sum());
+        let mut paths = numbers.from_to(1, MOST_PATHS);
+        let mut lengths = frames::list_lengths_for(frame.indices.len(), paths, &mut numbers);
+        self.decode_list(&frame, paths, lengths);
+        frames::spoil_list(&mut frame, &mut lengths, &mut paths, &mut numbers);
+        self.decode_list(&frame, paths, lengths);
     }
 
     fn decode(&mut self, frame: &archive::Frame, lengths: Lengths) -> archive::Answer {
@@ -128,6 +142,19 @@ impl Tally {
         answer
     }
 
+    fn decode_list(&mut self, frame: &archive::Frame, paths: usize, lengths: Lengths) -> archive::Answer {
+        let mut wanted = frames::list_buffers(lengths);
+        let mut got = wanted.clone();
+        let (answer, passed) = several::decode_list(frame, paths, &mut wanted);
+        let given = archive::decode_list(frame, paths, &mut got);
+        self.paths += passed.map_or(0, |(_, list)| list.len());
+        *self.several.entry(answer.number).or_default() += 1;
+        self.differing.compare(&(&answer, wanted), &(&given, got), || {
+            format!("listing {paths} paths of {frame:?}")
+        });
+        answer
+    }
+
     fn report(&self, what: &str) {
         println!("{what}: {} files", self.files);
         for (call, outcomes) in [
@@ -138,6 +165,7 @@ impl Tally {
             println!("  {call}: outcomes {outcomes:?}");
         }
         println!("  decode: outcomes {:?}, {} with ties", self.decoded, self.ties);
+        println!("  decode list: outcomes {:?}, {} paths", self.several, self.paths);
     }
 }
 

@@ -3,12 +3,13 @@
 
 use super::Tally;
 use super::common::archive::Answer;
-use super::common::frames::{lengths_of, over};
+use super::common::frames::{lengths_of, list_lengths_of, over};
 use super::common::merging::section_of;
 use super::common::tables::{Table, across};
 use super::common::{MOST_STATES, Numbers};
 
 const BLOCKS: usize = 3;
+const PATHS: usize = 5;
 
 /// All calls with so many states, and the refusal that each has where they are too many, and only there.
 fn all_calls(tally: &mut Tally, states: u8, numbers: &mut Numbers) {
@@ -17,6 +18,7 @@ fn all_calls(tally: &mut Tally, states: u8, numbers: &mut Numbers) {
     let behind = chain(&[largest.clone(), table.clone()], 0, 0);
     let from_last = chain(&[largest.clone()], states - 1, 0);
     let to_last = chain(&[largest], 0, states - 1);
+    let listed = list_lengths_of(BLOCKS, PATHS);
     tally.file(&table.file());
     let answers = [
         (tally.merge(&table.file(), 9 * 1024, 30_000), Answer::new(2, &[2])),
@@ -24,6 +26,9 @@ fn all_calls(tally: &mut Tally, states: u8, numbers: &mut Numbers) {
         (tally.decode(&behind, lengths_of(BLOCKS)), Answer::new(8, &[1])),
         (tally.decode(&from_last, lengths_of(BLOCKS)), Answer::new(9, &[BLOCKS])),
         (tally.decode(&to_last, lengths_of(BLOCKS)), Answer::new(9, &[BLOCKS])),
+        (tally.decode_list(&behind, PATHS, listed), Answer::new(8, &[1])),
+        (tally.decode_list(&from_last, PATHS, listed), Answer::new(9, &[BLOCKS])),
+        (tally.decode_list(&to_last, PATHS, listed), Answer::new(9, &[BLOCKS])),
     ];
     for (answer, refusal) in answers {
         let (wanted, got) = (states as usize > MOST_STATES, answer == refusal);

@@ -52,11 +52,11 @@ fn read_back(mut numbers: Vec<u16>, length: usize) -> Answer {
     archive::read_back(&numbers, &mut vec![0; 5000])
 }
 
-/// Decodes blocks of one section from its last root to its last goal, for which the forward pass looks at most edges.
-fn decode(numbers: Vec<u16>, blocks: usize) -> Answer {
+/// Blocks of one section from its last root to its last goal, for which a pass forward looks at most edges.
+fn chain(numbers: Vec<u16>, blocks: usize) -> Frame {
     let (section, _) = usable(&numbers).expect("a usable section");
     println!("{} edges, {blocks} blocks", section.steps.concat().len());
-    let frame = Frame {
+    Frame {
         sections: numbers,
         k: 1,
         indices: vec![0; blocks],
@@ -64,8 +64,19 @@ fn decode(numbers: Vec<u16>, blocks: usize) -> Answer {
         erased: vec![0; blocks],
         start: section.roots[section.roots.len() - 1] as u8,
         end: section.goals[section.goals.len() - 1] as u8,
-    };
-    archive::decode(&frame, &mut frames::buffers(frames::lengths_of(blocks)))
+    }
+}
+
+fn decode(numbers: Vec<u16>, blocks: usize) -> Answer {
+    archive::decode(
+        &chain(numbers, blocks),
+        &mut frames::buffers(frames::lengths_of(blocks)),
+    )
+}
+
+fn list(numbers: Vec<u16>, blocks: usize, paths: usize) -> Answer {
+    let mut buffers = frames::list_buffers(frames::list_lengths_of(blocks, paths));
+    archive::decode_list(&chain(numbers, blocks), paths, &mut buffers)
 }
 
 /// The sheet of as many sections and blocks as there can be, all sections of one table.
@@ -90,6 +101,10 @@ fn main() {
         "decode-wide" => decode(section_of(&wide), number(1)),
         "decode-long" => decode(section_of(&long), number(1)),
         "decode-largest" => decode(largest(number(2) as u16).numbers(), number(1)),
+        "list-case-9" => list(section_of(&case_9()), number(1), number(2)),
+        "list-wide" => list(section_of(&wide), number(1), number(2)),
+        "list-long" => list(section_of(&long), number(1), number(2)),
+        "list-largest" => list(largest(number(3) as u16).numbers(), number(1), number(2)),
         "sheet-long" => sheet(&long),
         "sheet-wide" => sheet(&wide),
         "sheet-sparse" => sheet(&sparse(&mut Numbers::new())),

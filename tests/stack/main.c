@@ -20,6 +20,12 @@ static uint8_t indices[LINK_MOST_BLOCKS], erased[LINK_MOST_BLOCKS], goals[LINK_M
 static uint16_t received[LINK_MOST_BLOCKS], labels[LINK_MOST_BLOCKS];
 static uint32_t costs[LINK_COSTS_LEN(LINK_MOST_BLOCKS)], values[4], outcome;
 
+/* The largest list. */
+enum { WORDS = LINK_LIST_LEN(LINK_MOST_PATHS, LINK_MOST_BLOCKS) };
+static uint32_t distances[LINK_MOST_PATHS];
+static uint16_t listed_labels[WORDS];
+static uint8_t listed_goals[WORDS];
+
 /* The largest input of a block sheet: K, B and the indices, then as many of the largest tables as there can be. */
 enum { HEAD = 3 + LINK_MOST_BLOCKS, LAST = HEAD + (LINK_MOST_SECTIONS - 1) * LINK_ANY_FILE, LARGEST = LAST + LINK_ANY_FILE };
 static uint8_t chain[LARGEST];
@@ -39,6 +45,11 @@ static void read_section(void) {
 static void decode_frame(void) {
     outcome = link_decode(section, 22, 1, indices, LINK_MOST_BLOCKS, received, LINK_MOST_BLOCKS, erased, LINK_MOST_BLOCKS, 0, 0, costs,
                           LINK_COSTS_LEN(LINK_MOST_BLOCKS), labels, LINK_MOST_BLOCKS, goals, LINK_MOST_BLOCKS, masks, LINK_MOST_BLOCKS, values);
+}
+
+static void list_paths(void) {
+    outcome = link_decode_list(section, 22, 1, indices, LINK_MOST_BLOCKS, received, LINK_MOST_BLOCKS, erased, LINK_MOST_BLOCKS, 0, 0, LINK_MOST_PATHS,
+                               costs, LINK_COSTS_LEN(LINK_MOST_BLOCKS), distances, LINK_MOST_PATHS, listed_labels, WORDS, listed_goals, WORDS, values);
 }
 
 static void list_table(void) {
@@ -123,12 +134,14 @@ int main(void) {
     merge_table();
     read_section();
     decode_frame();
+    list_paths();
     list_table();
     put_chain();
     sheet_of_chain();
     show("link_merge, accepted", merge_table, LINK_MERGE_STACK);
     show("link_read_back", read_section, LINK_READ_BACK_STACK);
     show("link_decode", decode_frame, LINK_DECODE_STACK);
+    show("link_decode_list", list_paths, LINK_DECODE_LIST_STACK);
     show("link_merge, not rectangular", merge_broken, LINK_MERGE_STACK);
     show("link_listing, accepted", list_table, LINK_LISTING_STACK);
     show("link_listing, not rectangular", list_broken, LINK_LISTING_STACK);
