@@ -37,6 +37,20 @@ six-long : (a b c d e f : List ℕ)
     → length (a ++ (b ++ (c ++ (d ++ (e ++ f))))) ≡ length a + (length b + (length c + (length d + (length e + length f))))
 six-long a b c d e f = simp length-append
 
+-- how long the section of a table is, by its counts
+pub section-long : (q n states : ℕ) (table : List Word) → length (sectionOf q n states table)
+    ≡ 4 + 2 * n + (vertexCount n table 0 + vertexCount n table n) + 3 * length (joinedUp (edgesAt n table) n)
+unfolding sectionOf vertexCount
+section-long q n states table = omega (
+  arith,
+  six-long (each (vertexCount n table) (suc n)) (each (edgeCount n table) n) (keys n table 0) (keys n table n)
+      (flatMap pairOf (joinedUp (edgesAt n table) n)) (map symbolOf (joinedUp (edgesAt n table) n)),
+  length-run (vertexCount n table) 0 (suc n),
+  length-run (edgeCount n table) 0 n,
+  length-two pairOf (joinedUp (edgesAt n table) n) (λ e. refl),
+  length-map (joinedUp (edgesAt n table) n) symbolOf,
+)
+
 module _ {n : ℕ} {roots labels goals old new inner rootMarks goalMarks counts : List ℕ} (H : Held n roots labels goals)
     (S : InnerMerged n (words roots labels goals) 1 old inner) (P : OuterPut roots goals n old new inner rootMarks goalMarks counts) where
   abbrev table : List Word
@@ -210,17 +224,5 @@ module _ {n : ℕ} {roots labels goals old new inner rootMarks goalMarks counts 
     -- the section's length, from the counts
     pub section-length : (q states total : ℕ) → total ≡ length (joinedUp (stepTakers new labels n) n)
         → length (sectionOf q n states table) ≡ 4 + 2 * n + (getD counts 0 0 + getD counts n 0) + 3 * total
-    unfolding sectionOf vertexCount
     section-length q states total e =
-        omega (
-          arith,
-          six-long (each (vertexCount n table) (suc n)) (each (edgeCount n table) n) (keys n table 0) (keys n table n)
-              (flatMap pairOf (joinedUp (edgesAt n table) n)) (map symbolOf (joinedUp (edgesAt n table) n)),
-          length-run (vertexCount n table) 0 (suc n),
-          length-run (edgeCount n table) 0 n,
-          counted 0 (omega arith),
-          counted n (le-refl _),
-          length-two pairOf (joinedUp (edgesAt n table) n) (λ e. refl),
-          length-map (joinedUp (edgesAt n table) n) symbolOf,
-          all-takers n (le-refl _),
-        )
+        omega (arith, section-long q n states table, counted 0 (omega arith), counted n (le-refl _), all-takers n (le-refl _))

@@ -69,7 +69,7 @@ pub fn put_outer(
 }
 
 // The first `count` numbers of an array, from place `at` on.
-fn put_numbers(source: &[u16], count: usize, section: &mut [u16], at: usize) -> usize
+pub fn put_numbers(source: &[u16], count: usize, section: &mut [u16], at: usize) -> usize
     requires { ⌜ (count ≤ length (now source)) × (at + count ≤ length (now section)) ⌝ }
     ensures { λ r. ⌜ Wrote (now (section .entry)) at (firstNumbers (now (source .entry)) count) (now (section .exit)) r ⌝ }
 {
@@ -93,25 +93,29 @@ fn put_header(q: u8, n: usize, states: u8, sizes: &mut [u16]) -> usize
 }
 
 // The sizes that a section begins with: q, n and S, how many vertices each depth has, and how many edges each step.
-pub fn put_sizes(q: u8, n: usize, states: u8, outer: Outer, edges: Edges, sizes: &mut [u16])
-    requires { ⌜ SizesAsked n (outer .counts) (edges .counts) (now sizes) ⌝ }
-    ensures { λ _. ⌜ Wrote (now (sizes .entry)) 0 (sizeNumbers q n states (outer .counts) (edges .counts)) (now (sizes .exit))
+pub fn put_sizes(
+    q: u8,
+    n: usize,
+    states: u8,
+    vertices: &[u16; MOST_SYMBOLS + 1],
+    steps: &[u16; MOST_SYMBOLS],
+    sizes: &mut [u16],
+)
+    requires { ⌜ SizesAsked n (now vertices) (now steps) (now sizes) ⌝ }
+    ensures { λ _. ⌜ Wrote (now (sizes .entry)) 0 (sizeNumbers q n states (now (vertices .entry)) (now (steps .entry))) (now (sizes .exit))
         (4 + 2 * n) ⌝ }
 {
-    let vertices = outer.counts;
-    let steps = edges.counts;
     let mut at = put_header(q, n, states, sizes);
-    at = put_numbers(&vertices, n + 1, sizes, at);
-    put_numbers(&steps, n, sizes, at);
+    at = put_numbers(vertices, n + 1, sizes, at);
+    put_numbers(steps, n, sizes, at);
 }
 
 // The section's length, from the counts.
-pub fn section_length(n: usize, outer: Outer, edges: Edges) -> usize
-    requires { ⌜ LengthAsked n (outer .counts) (edges .total) ⌝ }
-    ensures { λ r. ⌜ r ≡ lengthBy n (outer .counts) (edges .total) ⌝ }
+pub fn section_length(n: usize, vertices: &[u16; MOST_SYMBOLS + 1], edges: usize) -> usize
+    requires { ⌜ LengthAsked n (now vertices) edges ⌝ }
+    ensures { λ r. ⌜ r ≡ lengthBy n (now (vertices .entry)) edges ⌝ }
 {
-    let vertices = outer.counts;
-    4 + 2 * n + (wide(vertices[0]) + wide(vertices[n])) + 3 * edges.total
+    4 + 2 * n + (wide(vertices[0]) + wide(vertices[n])) + 3 * edges
 }
 
 // The section's numbers in document 01's layout, from the front of the buffer on. `sizes` is what put_sizes left, `words` and `edges` what

@@ -17,6 +17,7 @@ use Rattle.trellis.specs.Selections.{allVertices, additions, selections}
 use Rattle.trellis.specs.Layout.{nOf, vertexCountOf, edgeCountOf, joinedUp}
 use Rattle.trellis.specs.Layout.{rootsPlace, goalsPlace, pairsPlace, symbolsPlace, sectionLength, sectionOf}
 use Rattle.trellis.proofs.Lists.{sum-eq}
+use Rattle.trellis.proofs.Joined.{joined-same}
 use Rattle.trellis.proofs.Buffers.{over-front}
 use Rattle.trellis.proofs.OwnLaid.{own-n, own-length}
 use Rattle.reader.specs.Fields.{wordCount}
@@ -32,11 +33,6 @@ use Rattle.listing.proofs.Room.{anyMap, long-enough}
 use Rattle.listing.proofs.Refusals.{Small, Refusal, file-refusal}
 
 -- ---- what is printed of a section is read off its sizes
-
-joined-same : (f g : ℕ → List ℕ) (count : ℕ) → ((t : ℕ) → t < count → f t ≡ g t) → joinedUp f count ≡ joinedUp g count
-unfolding joinedUp
-joined-same f g zero h = refl
-joined-same f g (suc count) h = ap₂ (λ xs ys. xs ++ ys) (joined-same f g count (λ t b. h t (omega arith))) (h count (omega arith))
 
 -- m agrees with l in q, n, S and the counts
 module _ (l m : List ℕ) (same : (i : ℕ) → i < 4 + 2 * nOf l → getD m i 0 ≡ getD l i 0) where

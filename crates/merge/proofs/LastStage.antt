@@ -52,12 +52,12 @@ takers-some f (suc (suc m)) h = go (leadsHigher f (suc m)) (takers-some f (suc m
 -- ---- the two ways that this stage ends
 
 module _ (q n states : ℕ) (table : List Word) (map section : List ℕ) where
-  written-short : length section < length (sectionOf q n states table)
+  pub written-short : length section < length (sectionOf q n states table)
       → written q n states table map section ≡ left (shortSection (length (sectionOf q n states table))) (over (mapOf n table) map) section
   unfolding written
   written-short h = simp (lt-ltb (length section) (length (sectionOf q n states table)) h)
 
-  written-done : length (sectionOf q n states table) ≤ length section
+  pub written-done : length (sectionOf q n states table) ≤ length section
       → written q n states table map section
       ≡ left (success (length (sectionOf q n states table))) (over (mapOf n table) map) (over (sectionOf q n states table) section)
   unfolding written

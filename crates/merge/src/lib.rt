@@ -88,8 +88,10 @@ fn finish(
     let outer = assemble::put_outer(roots, goals, n, map, inner);
     let mut firsts = [0u16; MOST_SYMBOLS * MOST_WORDS];
     let edges = layout::take_edges(labels, n, map, &mut firsts);
-    assemble::put_sizes(q, n, states, outer, edges, sizes);
-    let needed = assemble::section_length(n, outer, edges);
+    let vertices = outer.counts;
+    let steps = edges.counts;
+    assemble::put_sizes(q, n, states, &vertices, &steps, sizes);
+    let needed = assemble::section_length(n, &vertices, edges.total);
     if section.len() < needed {
         return Merged::ShortSection(needed);
     }

@@ -6,7 +6,7 @@ use mathlib.Core.Bool.{true, cond}
 use mathlib.Core.List.{List, [], _∷_, _++_, flatMap}
 use Prim.Native.Nat.{ℕ, zero, suc, _+_, _*_, _/_, _%_, _<_}
 use native.Mathlib.Omega.{arith}
-use native.Mathlib.Nat.{add-zero, add-suc, suc-add, zero-add}
+use native.Mathlib.Nat.{zero-add}
 use lib.ListN.{length, getD}
 use lib.Seq.{ext-getD}
 use lib.Dec.{ltb}
@@ -16,7 +16,7 @@ use Rattle.trellis.specs.Lists.{run, over}
 use Rattle.trellis.specs.Word.{Word, Rectangular}
 use Rattle.trellis.specs.Outcome.{success, shortBuffer}
 use Rattle.trellis.specs.Layout.{sectionLength, sectionOf}
-use Rattle.trellis.proofs.Lists.{length-run, run-at}
+use Rattle.trellis.proofs.Lists.{length-run, run-at, run-append}
 use Rattle.trellis.proofs.OwnLaid.{own-q, own-n, own-states, own-length}
 use Rattle.label.proofs.Packing.{label-packed}
 use Rattle.reader.specs.Fields.{byteAt, twoBytes, wordCount, fileWord, fileWords}
@@ -29,13 +29,6 @@ use Rattle.read_back.specs.TableBytes.{bytesOf, pairBytes, labelBytes, t
 use Rattle.read_back.specs.ReadingBack.{left, isSection, readingBack}
 
 -- ---- the file from its bytes
-
-run-append : {A : Type 0} (f : ℕ → A) (a c d : ℕ) → run f a c ++ run f (a + c) d ≡ run f a (c + d)
-unfolding run
-run-append f a zero d = ap₂ (λ x y. run f x y) (add-zero a) (sym (zero-add d))
-run-append f a (suc c) d =
-    rw (suc-add c d) (ap (λ l. f a ∷ l)
-    (ap (λ k. run f (suc a) c ++ run f k d) (add-suc a c ∙ sym (suc-add a c)) ∙ run-append f (suc a) c d))
 
 run-whole : (file : List ℕ) → run (λ i. getD file i 0) 0 (length file) ≡ file
 run-whole file = ext-getD 0 (run (λ i. getD file i 0) 0 (length file)) file (length-run (λ i. getD file i 0) 0 (length file))

@@ -1,5 +1,5 @@
 -- Lists joined one behind another: their length is the sum of the pieces' lengths, and each piece stands behind those before it.
-use mathlib.Core.Path.{_≡_, refl, sym, ap, subst, _∙_}
+use mathlib.Core.Path.{_≡_, refl, sym, ap, ap₂, subst, _∙_}
 use mathlib.Core.List.{List, _++_}
 use Prim.Native.Nat.{ℕ, zero, suc, _+_, _-_, _≤_, _<_}
 use native.Mathlib.Omega.{arith}
@@ -48,3 +48,9 @@ module _ {A : Type 0} (f : ℕ → List A) where
           let w : lengthsBefore (suc t) ≤ lengthsBefore count = subst (λ u. lengthsBefore (suc t) ≤ lengthsBefore u) b a in
           List·getD-append (joinedUp f count) (f count) d (lengthsBefore t + k) (omega (arith, w, lengths-suc t, joined-length count))
           ∙ r m l
+
+-- the same pieces joined
+pub joined-same : {A : Type 0} (f g : ℕ → List A) (count : ℕ) → ((t : ℕ) → t < count → f t ≡ g t) → joinedUp f count ≡ joinedUp g count
+unfolding joinedUp
+joined-same f g zero h = refl
+joined-same f g (suc count) h = ap₂ (λ xs ys. xs ++ ys) (joined-same f g count (λ t b. h t (omega arith))) (h count (omega arith))

@@ -54,6 +54,11 @@ pub each-same : {A : Type 0} (f g : ℕ → A) (count more : ℕ) → count ≡ 
 each-same f g count more e h = run-same f g 0 count (λ k l. ap f (zero-add k) ∙ h k l ∙ sym (ap g (zero-add k))) ∙ ap (each g) e
 
 -- one value more, at the end
+pub run-append : {A : Type 0} (f : ℕ → A) (at m n : ℕ) → run f at m ++ run f (at + m) n ≡ run f at (m + n)
+unfolding run
+run-append f at zero n = ap₂ (λ i k. run f i k) (add-zero at) (sym (zero-add n))
+run-append f at (suc m) n = rw (add-suc at m, ← suc-add at m, suc-add m n) (ap (λ l. f at ∷ l) (run-append f (suc at) m n))
+
 pub run-snoc : {A : Type 0} (f : ℕ → A) (at count : ℕ) → run f at (suc count) ≡ run f at count ++ (f (at + count) ∷ [])
 unfolding run
 run-snoc f at zero = ap (λ k. f k ∷ []) (sym (add-zero at))

@@ -1,12 +1,13 @@
 -- Laws of writing into a lent buffer: pieces written one behind another are one piece, and what is written from the front on is followed by
 -- what stood behind it. Each follows along the piece.
-use mathlib.Core.Path.{_≡_, refl, sym, _∙_, ap}
+use mathlib.Core.Path.{_≡_, refl, sym, _∙_, ap, subst}
 use mathlib.Core.List.{List, [], _∷_, _++_}
-use Prim.Native.Nat.{ℕ, zero, suc, _+_, _<_, _≤_}
+use Prim.Native.Nat.{ℕ, zero, suc, _+_, _-_, _<_, _≤_}
 use native.Mathlib.Nat.{add-zero, add-suc, suc-add, add-assoc, zero-add}
 use native.Mathlib.Omega.{arith}
+use native.Mathlib.Decide.{decLt}
 use lib.ListN.{length, getD, drop, set, length-set, length-append}
-use lib.Seq.{sets, length-sets, sets-eq, getD-set-same, getD-set-other}
+use lib.Seq.{ext-getD, sets, length-sets, sets-eq, getD-set-same, getD-set-other}
 use Rattle.trellis.specs.inner.Write.{Wrote}
 
 sets-append : (us vs l : List ℕ) (i : ℕ) → sets (sets l i us) (i + length us) vs ≡ sets l i (us ++ vs)
@@ -56,3 +57,23 @@ sets-behind (v ∷ vs) l i j h = sets-behind vs (set l i v) (suc i) j (omega ari
 
 pub wrote-behind : {a b us : List ℕ} {at m : ℕ} → Wrote a at us b m → (j : ℕ) → at + length us ≤ j → getD b j 0 ≡ getD a j 0
 wrote-behind {a} {b} {us} {at} {m} p j h = ap (λ l. getD l j 0) (p .new-is) ∙ sets-behind us a at j h
+
+-- a buffer has vs written if it has them, and agrees elsewhere
+pub wrote-is : {old vs new : List ℕ} {at : ℕ} → at + length vs ≤ length old → length new ≡ length old
+    → ((i : ℕ) → i < at → getD new i 0 ≡ getD old i 0) → ((k : ℕ) → k < length vs → getD new (at + k) 0 ≡ getD vs k 0)
+    → ((i : ℕ) → at + length vs ≤ i → getD new i 0 ≡ getD old i 0) → Wrote old at vs new (at + length vs)
+wrote-is {old} {vs} {new} {at} room len before here behind = record {
+  new-is = ext-getD 0 new (sets old at vs) (len ∙ sym (length-sets old at vs)) (λ i h. go i (decLt i at) (decLt i (at + length vs)));
+  end-is = refl;
+}
+  where
+    written : Wrote old at vs (sets old at vs) (at + length vs)
+    written = record { new-is = refl; end-is = refl }
+
+    go : (i : ℕ) → Dec (i < at) → Dec (i < at + length vs) → getD new i 0 ≡ getD (sets old at vs) i 0
+    go i (yes h) k = before i h ∙ sym (wrote-before written i h)
+    go i (no h) (yes k) =
+        let e : at + (i - at) ≡ i = omega arith in
+        subst (λ m. getD new m 0 ≡ getD (sets old at vs) m 0) e
+        (here (i - at) (omega arith) ∙ sym (wrote-at written room (i - at) (omega arith)))
+    go i (no h) (no k) = behind i (omega arith) ∙ sym (wrote-behind written i (omega arith))

@@ -33,6 +33,13 @@ mostBlocks = 256
 abbrev pub mostPaths : ℕ
 mostPaths = 16
 
+-- generator rows have 0 to 4 state bits on each side, and there are 1 to 10 of them, by document 02's request 7
+abbrev pub mostStateBits : ℕ
+mostStateBits = 4
+
+abbrev pub mostRows : ℕ
+mostRows = 10
+
 -- the cost table has a place for each state below this bound, block after block
 abbrev pub costsABlock : ℕ
 costsABlock = mostStates

@@ -65,3 +65,12 @@ tooManyWords = outcome 12 []
 -- by document 02's request 6: the number of paths to be listed is outside its bounds
 abbrev pub badPathCount : ℕ → Outcome
 badPathCount paths = outcome 13 (paths ∷ [])
+
+-- by document 02's request 7: the generator rows are at fault, with their count where a size is outside its bounds, else with the first row
+-- that has bits above its width
+abbrev pub badRows : ℕ → Outcome
+badRows countOrRow = outcome 14 (countOrRow ∷ [])
+
+-- by document 02's request 7: a generator row is a sum of earlier ones
+abbrev pub dependentRow : ℕ → Outcome
+dependentRow row = outcome 15 (row ∷ [])

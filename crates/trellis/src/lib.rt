@@ -16,6 +16,10 @@ pub const MOST_BLOCKS: usize = 256;
 
 pub const MOST_PATHS: usize = 16;
 
+pub const MOST_STATE_BITS: usize = 4;
+
+pub const MOST_ROWS: usize = 10;
+
 pub const COSTS_A_BLOCK: usize = MOST_STATES;
 
 pub const MOST_BYTES: usize = 65535;

@@ -7,23 +7,17 @@ use Rattle.assemble.proofs.put_sizes.Tie as tie
 put-header-requires : tie.Need-put-header-requires
 put-header-requires c κs = search needs
 
-slice-aggregate-put-numbers : tie.Need-slice-aggregate-put-numbers
-slice-aggregate-put-numbers c = search needs
-
 add-put-numbers : tie.Need-add-put-numbers
 add-put-numbers c = search needs
 
 put-numbers-requires : tie.Need-put-numbers-requires
 put-numbers-requires c κs = search needs
 
-slice-aggregate-put-numbers-2 : tie.Need-slice-aggregate-put-numbers-2
-slice-aggregate-put-numbers-2 c = search needs
-
 put-numbers-requires-2 : tie.Need-put-numbers-requires-2
 put-numbers-requires-2 c κs =
     let s2 = c .before .before .before .before in
     let s1 = s2 .before .before .before .before .before in
-    let entry = s1 .before .before .before .before .before in
+    let entry = s1 .before .before .before in
     (search needs, room-edges (entry .pre) (s1 .put-header .ensures) (s2 .put-numbers .ensures))
 
 same-length : tie.Need-same-length
@@ -34,7 +28,7 @@ returns c =
     let s3 = c .before .before in
     let s2 = s3 .before .before .before .before .before in
     let s1 = s2 .before .before .before .before .before in
-    let entry = s1 .before .before .before .before .before in
+    let entry = s1 .before .before .before in
     all-sizes (entry .pre) (s1 .put-header .ensures) (s2 .put-numbers .ensures) (s3 .put-numbers2 .ensures)
 
 pub put-sizes-spec : {M : Type 1} → statement M
@@ -42,10 +36,8 @@ put-sizes-spec =
     tie.close
     (tie.spec
     put-header-requires
-    slice-aggregate-put-numbers
     add-put-numbers
     put-numbers-requires
-    slice-aggregate-put-numbers-2
     put-numbers-requires-2
     same-length
     returns)

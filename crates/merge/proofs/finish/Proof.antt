@@ -21,32 +21,32 @@ take-edges-requires c κs =
 
 put-sizes-requires : tie.Need-put-sizes-requires
 put-sizes-requires c κs =
-    let at-edges = c .before .before in
+    let at-edges = c .before .before .before .before .before .before in
     let at-outer = at-edges .before .before .before .before .before in
     let entry = at-outer .before .before .before .before .before .before .before .before in
     sizes-asked (entry .pre .0) (at-outer .put-outer .ensures) (at-edges .take-edges .ensures) (entry .pre .1)
 
 section-length-requires : tie.Need-section-length-requires
 section-length-requires c κs =
-    let at-edges = c .before .before .before .before .before in
+    let at-edges = c .before .before .before .before .before .before .before .before .before .before in
     let at-outer = at-edges .before .before .before .before .before in
     let entry = at-outer .before .before .before .before .before .before .before .before in
     length-asked (entry .pre .0) (at-outer .put-outer .ensures) (at-edges .take-edges .ensures)
 
 same-length : tie.Need-same-length
 same-length c =
-    let at-edges = c .before .before .before .before .before .before .before in
+    let at-edges = c .before .before .before .before .before .before .before .before .before .before .before .before in
     let at-outer = at-edges .before .before .before .before .before in
     at-outer .put-outer .ensures .placed .len
 
 same-length-2 : tie.Need-same-length-2
-same-length-2 c = let at-sizes = c .before .before .before .before in at-sizes .put-sizes .kept .1 .1 .1 .1 .1 .0
+same-length-2 c = let at-sizes = c .before .before .before .before .before in at-sizes .put-sizes .kept .1 .1 .1 .1 .1 .0
 
 returns : tie.Need-returns
 returns c =
     let at-length = c .before in
-    let at-sizes = at-length .before .before .before in
-    let at-edges = at-sizes .before .before .before in
+    let at-sizes = at-length .before .before .before .before in
+    let at-edges = at-sizes .before .before .before .before .before .before .before in
     let at-outer = at-edges .before .before .before .before .before in
     let entry = at-outer .before .before .before .before .before .before .before .before in
     ends-short (entry .pre .0) (at-outer .put-outer .ensures) (at-edges .take-edges .ensures) (entry .pre .1) _ _
@@ -59,8 +59,8 @@ put-section-requires : tie.Need-put-section-requires
 put-section-requires c κs =
     let at-else = c .before .before .before .before in
     let at-length = at-else .before in
-    let at-sizes = at-length .before .before .before in
-    let at-edges = at-sizes .before .before .before in
+    let at-sizes = at-length .before .before .before .before in
+    let at-edges = at-sizes .before .before .before .before .before .before .before in
     let at-outer = at-edges .before .before .before .before .before in
     let entry = at-outer .before .before .before .before .before .before .before .before in
     parts (entry .pre .0) (at-outer .put-outer .ensures) (at-edges .take-edges .ensures) (entry .pre .1) _ _
@@ -69,7 +69,7 @@ put-section-requires c κs =
 same-length-3 : tie.Need-same-length-3
 same-length-3 c =
     let at-else = c .before .before .before .before .before .before .before in
-    let at-edges = at-else .before .before .before .before .before .before .before in
+    let at-edges = at-else .before .before .before .before .before .before .before .before .before .before .before .before in
     let at-outer = at-edges .before .before .before .before .before in
     at-outer .put-outer .ensures .placed .len
 
@@ -79,7 +79,7 @@ same-length-4 c = let at-put = c .before .before in at-put .put-section .kept .1
 same-length-5 : tie.Need-same-length-5
 same-length-5 c =
     let at-else = c .before .before .before .before .before .before .before in
-    let at-sizes = at-else .before .before .before .before in
+    let at-sizes = at-else .before .before .before .before .before in
     at-sizes .put-sizes .kept .1 .1 .1 .1 .1 .0
 
 returns-2 : tie.Need-returns-2
@@ -87,8 +87,8 @@ returns-2 c =
     let at-put = c .before .before in
     let at-else = at-put .before .before .before .before .before in
     let at-length = at-else .before in
-    let at-sizes = at-length .before .before .before in
-    let at-edges = at-sizes .before .before .before in
+    let at-sizes = at-length .before .before .before .before in
+    let at-edges = at-sizes .before .before .before .before .before .before .before in
     let at-outer = at-edges .before .before .before .before .before in
     let entry = at-outer .before .before .before .before .before .before .before .before in
     ends-done (entry .pre .0) (at-outer .put-outer .ensures) (at-edges .take-edges .ensures) (entry .pre .1) _ _
