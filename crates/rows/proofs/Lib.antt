@@ -1,0 +1,19 @@
+-- Why a parity check gives the section of a table of sums, lowest first.
+pub mod Xor
+pub mod Sums
+pub mod Bits
+pub mod Check
+pub mod Reduced
+pub mod Words
+pub mod Tables
+pub mod Order
+pub mod Growing
+pub mod Spanning
+pub mod Numbering
+pub mod Vertices
+pub mod Edges
+pub mod Ranks
+pub mod Outer
+pub mod Linear
+pub mod Steps
+pub mod Meaning
