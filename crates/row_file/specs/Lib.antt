@@ -1,0 +1,2 @@
+-- The table file of all sums of rows.
+pub mod inner

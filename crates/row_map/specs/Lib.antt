@@ -1,0 +1,2 @@
+-- The map of a table of sums, depth by depth.
+pub mod inner

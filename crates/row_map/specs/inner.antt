@@ -1,0 +1,4 @@
+-- What only the contracts of inner functions cite.
+pub mod Depth
+pub mod Outer
+pub mod Maps
