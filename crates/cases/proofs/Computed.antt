@@ -23,6 +23,9 @@ use Rattle.block.specs.Received.{stray, fitsBlock}
 use Rattle.sections.specs.Sections.{sectionStart, sectionAt, unusable, sectionsBad, badSectionOf}
 use Rattle.chain.specs.Frame.{frameBad, blockWords, wordDistanceBy, wordMask, blockBad}
 use Rattle.chain.specs.Decoding.{neededOf, bestBy, tableOf, masksOf, found, fitted, framed, decoding}
+use Rattle.rows.specs.Sums.{chosen, sumOf, sums, isDependent, firstDependent}
+use Rattle.rows.specs.Table.{spread, tableOf as rowsTable}
+use Rattle.merge_rows.specs.MergingRows.{sizesFit, firstWide, rowsFile, withFile, mergedRows, mergingRows}
 use Rattle.cases.specs.Marked.{left, shown, AllShown}
 
 pub all-shown : AllShown
@@ -35,4 +38,5 @@ unfolding run sum first isIn keep rank insert ascending lower alike symbol front
     tableBytes isSection readingBack choose best paidOr rootedAt chainPaths pathDistance bestPath costTable markedAt
     symbolCostBy distanceBy differsAt differing stray fitsBlock sectionStart sectionAt unusable sectionsBad badSectionOf frameBad
     blockWords wordDistanceBy wordMask blockBad neededOf bestBy tableOf masksOf found fitted framed decoding left shown flatMap
+    chosen sumOf sums isDependent firstDependent spread rowsTable sizesFit firstWide rowsFile withFile mergedRows mergingRows
 all-shown = refl

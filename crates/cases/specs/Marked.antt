@@ -1,6 +1,6 @@
--- Document 01's marked cases, case 8 as document 02's request 1 has it, 7 and 8 with the masks of request 5, one list under one statement:
--- what each case shows, worked out from the definitions, is what the papers say it shows. Bytes and numbers are written as the papers write
--- them; a buffer is full of nines before the call.
+-- Document 01's marked cases, case 8 as document 02's request 1 has it, 7 and 8 with the masks of request 5, and 9 also from generator rows,
+-- by request 7; one list under one statement: what each case shows, worked out from the definitions, is what the papers say it shows. Bytes
+-- and numbers are written as the papers write them; a buffer is full of nines before the call.
 use mathlib.Core.Path.{_≡_}
 use mathlib.Core.List.{List, [], _∷_, _++_, map, flatMap}
 use Prim.Native.Nat.{ℕ, suc, _-_, _*_}
@@ -11,6 +11,7 @@ use Rattle.trellis.specs.Selections.{selections}
 use Rattle.trellis.specs.Layout.{nOf, vertexCountOf, edgeCountOf, sectionWords}
 use Rattle.trellis.specs.Bounds.{costsABlock}
 use Rattle.merge.specs.Merging.{Merging, merging}
+use Rattle.merge_rows.specs.MergingRows.{MergingRows, mergingRows}
 use Rattle.read_back.specs.ReadingBack.{ReadingBack, readingBack}
 use Rattle.chain.specs.Frame.{frame}
 use Rattle.chain.specs.Decoding.{Decoding, decoding}
@@ -18,6 +19,8 @@ use Rattle.chain.specs.Decoding.{Decoding, decoding}
 pub data Call : Type 0 where
   -- merging a table file, with the places of the map and of the section
   merge : List ℕ → ℕ → ℕ → Call
+  -- merging generator rows: their state bits, symbols and rows, and the places of the file, of the map and of the section
+  mergeRows : ℕ → ℕ → List ℕ → ℕ → ℕ → ℕ → Call
   -- reading back the section that a call left, with the places of the file
   readBack : Call → ℕ → Call
   -- decoding from state 0 to state 0, where each block has the section that a call left: the blocks' received labels and erasure masks. The
@@ -42,6 +45,10 @@ abbrev leftByMerging : Merging → Left
 leftByMerging m =
     record { answer = m .answer; map = m .map; section = m .section; file = []; costs = []; labels = []; goals = []; masks = [] }
 
+abbrev leftByRows : MergingRows → Left
+leftByRows m =
+    record { answer = m .answer; map = m .map; section = m .section; file = m .file; costs = []; labels = []; goals = []; masks = [] }
+
 abbrev leftByReading : ReadingBack → Left
 leftByReading r =
     record { answer = r .outcome; map = []; section = []; file = r .file; costs = []; labels = []; goals = []; masks = [] }
@@ -60,6 +67,8 @@ leftByDecoding d = record {
 
 unfoldable pub left : Call → Left
 left (merge file mapPlaces sectionPlaces) = leftByMerging (merging file (nines mapPlaces) (nines sectionPlaces))
+left (mergeRows s n rows filePlaces mapPlaces sectionPlaces) =
+    leftByRows (mergingRows s n rows (nines filePlaces) (nines mapPlaces) (nines sectionPlaces))
 left (readBack c places) = leftByReading (readingBack (left c .section) (nines places))
 left (decode c received erased) =
     let blocks = length received in
@@ -135,6 +144,10 @@ twoThirds =
     ∷ 0 ∷ 0 ∷ 5 ∷ 0 ∷ 17 ∷ 0 ∷ 20 ∷ 0 ∷ 1 ∷ 0 ∷ 4 ∷ 0 ∷ 16 ∷ 0 ∷ 21 ∷ 0
     ∷ 1 ∷ 0 ∷ 4 ∷ 0 ∷ 16 ∷ 0 ∷ 21 ∷ 0 ∷ 0 ∷ 0 ∷ 5 ∷ 0 ∷ 17 ∷ 0 ∷ 20 ∷ 0 ∷ []
 
+-- its generator rows, two state bits, three symbols, two state bits: 10 111 00, 01 001 00, 00 101 10, 00 110 01
+abbrev pub twoThirdsRows : List ℕ
+twoThirdsRows = 92 ∷ 36 ∷ 22 ∷ 25 ∷ []
+
 -- q 2, n 1, S 2 and the words (0,0,1), (0,1,0), (1,0,0)
 abbrev pub crossed : List ℕ
 crossed = 2 ∷ 1 ∷ 2 ∷ 3 ∷ 0 ∷ 0 ∷ 1 ∷ 0 ∷ 0 ∷ 1 ∷ 0 ∷ 0 ∷ 0 ∷ 1 ∷ 0 ∷ 0 ∷ 0 ∷ []
@@ -151,6 +164,9 @@ oneStepMerged = merge oneStep 6 19
 
 abbrev twoThirdsMerged : Call
 twoThirdsMerged = merge twoThirds 64 114
+
+abbrev twoThirdsFromRows : Call
+twoThirdsFromRows = mergeRows 2 3 twoThirdsRows 69 64 114
 
 abbrev crossedMerged : Call
 crossedMerged = merge crossed 6 19
@@ -216,6 +232,11 @@ cases =
     ∷ case 9 twoThirdsMerged edges (8 ∷ 16 ∷ 8 ∷ [])
     ∷ case 9 twoThirdsMerged selected (12 ∷ [])
     ∷ case 9 (readBack twoThirdsMerged 69) wholeFile twoThirds
+    ∷ case 9 twoThirdsFromRows answer (0 ∷ 114 ∷ [])
+    ∷ case 9 twoThirdsFromRows wholeFile twoThirds
+    ∷ case 9 twoThirdsFromRows vertices (4 ∷ 8 ∷ 8 ∷ 4 ∷ [])
+    ∷ case 9 twoThirdsFromRows edges (8 ∷ 16 ∷ 8 ∷ [])
+    ∷ case 9 twoThirdsFromRows selected (12 ∷ [])
     ∷ case 10 tie answer (0 ∷ 1 ∷ [])
     ∷ case 10 tie wholeLabels (0 ∷ 0 ∷ [])
     ∷ case 10 tie wholeGoals (1 ∷ 0 ∷ [])

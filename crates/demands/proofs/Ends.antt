@@ -3,7 +3,7 @@
 use mathlib.Core.Path.{refl}
 use mathlib.Core.Bool.{Bool, true, false, not, cond}
 use mathlib.Core.List.{List, [], _∷_}
-use Prim.Native.Nat.{ℕ}
+use Prim.Native.Nat.{ℕ, _^_}
 use native.Mathlib.Nat.{not-suc-le-zero}
 use lib.ListN.{length}
 use lib.Dec.{T, ltb, eqb, eqb→eq, eqb-refl}
@@ -17,6 +17,9 @@ use Rattle.trellis.proofs.Lists.{in-yes, in-of}
 use Rattle.reader.specs.Fields.{byteAt, wordCount, fileWords, lengthBad}
 use Rattle.table.specs.File.{firstSize, firstBad, firstNotAbove, TableFile, tableFile}
 use Rattle.merge.specs.Merging.{Merging, mapLength, written, merged, mergedTable, mergedFile, merging}
+use Rattle.rows.specs.Sums.{firstDependent}
+use Rattle.rows.specs.Table.{rowWidth, tableOf}
+use Rattle.merge_rows.specs.MergingRows.{MergingRows, sizesFit, firstWide, rowsFile, withFile, mergedRows, mergingRows}
 use Rattle.paths.specs.Choice.{Choice, none, some}
 use Rattle.read_back.specs.ReadingBack.{ReadingBack, isSection, fileLength, readingBack}
 use Rattle.sections.specs.Sections.{sectionsBad}
@@ -24,7 +27,7 @@ use Rattle.chain.specs.Frame.{Frame, blockCount, frameBad, blockBad}
 use Rattle.chain.specs.Decoding.{Decoding, left, neededOf, bestOf, found as decoded, fitted, framed, decoding}
 use Rattle.chain_list.specs.Listing as listing
 use Rattle.chain_list.specs.Listing.{Listing, found as listed}
-use Rattle.demands.specs.Demands.{MergingEnds, ReadingBackEnds, DecodingEnds, ListingEnds}
+use Rattle.demands.specs.Demands.{MergingEnds, MergingRowsEnds, ReadingBackEnds, DecodingEnds, ListingEnds}
 
 -- what holds of both ends of a test
 ends : {A : Type 0} (P : A → Type 0) (b : Bool) {x y : A} → P x → P y → P (cond b x y)
@@ -80,6 +83,44 @@ module _ (map section : List ℕ) where
       (ends FileKept (ltb (firstNotAbove file) (wordCount file))
       (record { listed = is-in 4 _ tt; sectionKept = λ h. refl; mapKept = λ m. refl })
       (by-table (byteAt file 0) (byteAt file 1) (byteAt file 2) (fileWords file)))))
+
+-- ---- merging generator rows
+
+module _ (s n : ℕ) (rows file map section : List ℕ) where
+  abbrev RowsKept : MergingRows → Type 0
+  RowsKept r = MergingRowsEnds file map section r
+
+  by-section : RowsKept (withFile s n rows file map section (written 2 n (2 ^ s) (tableOf s n rows) map section))
+  unfolding withFile written isIn
+  by-section =
+      ends (λ m. RowsKept (withFile s n rows file map section m))
+      (ltb (length section) (length (sectionOf 2 n (2 ^ s) (tableOf s n rows))))
+      (record { listed = is-in 7 _ tt; othersKept = λ h. (refl, refl); mapKept = λ m. absurd (not-in 7 _ (λ t. t) m) })
+      (record {
+        listed = is-in 0 _ tt;
+        othersKept = λ h. absurd (not-suc-le-zero h);
+        mapKept = λ m. absurd (not-in 0 _ (λ t. t) m);
+      })
+
+  by-rows : RowsKept (mergedRows s n rows file map section)
+  unfolding mergedRows isIn
+  by-rows =
+      ends RowsKept (ltb (length file) (length (rowsFile s n rows)))
+      (record { listed = is-in 10 _ tt; othersKept = λ h. (refl, refl); mapKept = λ m. refl })
+      (ends RowsKept (ltb (length map) (mapLength n (tableOf s n rows)))
+      (record { listed = is-in 5 _ tt; othersKept = λ h. (refl, refl); mapKept = λ m. refl })
+      by-section)
+
+  pub merging-rows-ends : RowsKept (mergingRows s n rows file map section)
+  unfolding mergingRows isIn
+  merging-rows-ends =
+      ends RowsKept (sizesFit s n (length rows))
+      (ends RowsKept (ltb (firstWide (rowWidth s n) rows) (length rows))
+      (record { listed = is-in 14 _ tt; othersKept = λ h. (refl, refl); mapKept = λ m. refl })
+      (ends RowsKept (ltb (firstDependent rows) (length rows))
+      (record { listed = is-in 15 _ tt; othersKept = λ h. (refl, refl); mapKept = λ m. refl })
+      by-rows))
+      (record { listed = is-in 14 _ tt; othersKept = λ h. (refl, refl); mapKept = λ m. refl })
 
 -- ---- reading back
 

@@ -5,4 +5,6 @@ pub mod Demanded
 pub mod Decoded
 pub mod Several
 pub mod Erasures
+pub mod TableBytes
+pub mod Rows
 pub mod Demands

@@ -1,6 +1,6 @@
--- The three demands, quoted sentence by sentence, each with its statement. It speaks of `merging`, `readingBack`, `decoding`
--- and `listing`: what the calls leave for all arguments, by their promises. That nothing but lent memory is touched is the form of these promises: they give the
--- answer and the whole content of every buffer lent for writing.
+-- The three demands, quoted sentence by sentence, each with its statement. It speaks of `merging`, `mergingRows`, `readingBack`, `decoding`
+-- and `listing`: what the calls leave for all arguments, by their promises. That nothing but lent memory is touched is the form of these
+-- promises: they give the answer and the whole content of every buffer lent for writing.
 use mathlib.Core.Path.{_≡_}
 use mathlib.Core.Logic.{_↔_}
 use mathlib.Core.List.{List, [], _∷_}
@@ -14,12 +14,14 @@ use Rattle.trellis.specs.Witness.{FirstRefuted}
 use Rattle.trellis.specs.Outcome.{Outcome, success, notRectangular}
 use Rattle.table.specs.File.{tableFile, accepted}
 use Rattle.merge.specs.Merging.{Merging, mapLength, merging}
+use Rattle.merge_rows.specs.MergingRows.{MergingRows, mergingRows}
 use Rattle.read_back.specs.ReadingBack.{ReadingBack, left, readingBack}
 use Rattle.chain.specs.Frame.{Frame}
 use Rattle.chain.specs.Decoding.{Decoding, decoding}
 use Rattle.chain_list.specs.Listing.{Listing, listing}
 use Rattle.demands.specs.Decoded.{Meaning}
 use Rattle.demands.specs.Several.{ListMeaning}
+use Rattle.demands.specs.Rows.{RowsMeaning}
 
 -- ---- demand 1: "The call ends with an outcome from a fixed list, touches only lent memory, and each refusal states a fixed result and
 -- a fixed content of every buffer."
@@ -50,6 +52,12 @@ pub record ListingEnds (costs distances labels goals : List ℕ) (d : Listing) :
   pub listed : OneOf (0 ∷ 8 ∷ 9 ∷ 13 ∷ 10 ∷ 11 ∷ []) (d .answer)
   pub wordsKept : 0 < d .answer .number → (d .distances ≡ distances) × (d .labels ≡ labels) × (d .goals ≡ goals)
   pub costsKept : OneOf (8 ∷ 9 ∷ 13 ∷ 10 ∷ []) (d .answer) → d .costs ≡ costs
+
+-- document 02's request 7: the same of merging generator rows, whose refusals keep the file and the section, and all but 7 the map
+pub record MergingRowsEnds (file map section : List ℕ) (r : MergingRows) : Type 0 where
+  pub listed : OneOf (0 ∷ 14 ∷ 15 ∷ 10 ∷ 5 ∷ 7 ∷ []) (r .answer)
+  pub othersKept : 0 < r .answer .number → (r .file ≡ file) × (r .section ≡ section)
+  pub mapKept : OneOf (14 ∷ 15 ∷ 10 ∷ 5 ∷ []) (r .answer) → r .map ≡ map
 
 -- ---- demand 2
 
@@ -102,6 +110,8 @@ pub record Smallest (n : ℕ) (table : List Word) (l : List ℕ) : Type 0 where
 
 pub record Demands : Type 0 where
   pub mergingEnds : (file map section : List ℕ) → MergingEnds map section (merging file map section)
+  pub mergingRowsEnds : (s n : ℕ) (rows file map section : List ℕ)
+      → MergingRowsEnds file map section (mergingRows s n rows file map section)
   pub readingBackEnds : (section file : List ℕ) → ReadingBackEnds file (readingBack section file)
   pub decodingEnds : (f : Frame) (costs labels goals masks : List ℕ)
       → DecodingEnds costs labels goals masks (decoding f costs labels goals masks)
@@ -111,6 +121,7 @@ pub record Demands : Type 0 where
       → Decided n table (merging file map section)
   pub sameWords : {file map section : List ℕ} {q n states : ℕ} {table : List Word} → Fair file q n states table map section
       → IsAccepted (merging file map section) → SameWords file q n states table (sectionLeft (merging file map section))
+  pub rows : (s n : ℕ) (rows : List ℕ) → RowsMeaning s n rows
   pub decoder : (f : Frame) (costs labels goals masks : List ℕ)
       → Meaning f (decoding f costs labels goals masks)
   pub lister : (f : Frame) (paths : ℕ) (costs distances labels goals : List ℕ)

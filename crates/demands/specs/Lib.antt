@@ -1,4 +1,5 @@
 -- The three demands on the kit.
 pub mod Decoded
 pub mod Several
+pub mod Rows
 pub mod Demands
