@@ -88,6 +88,38 @@ static int merged(int rows) {
     return 0;
 }
 
+/* Rows as the page writes them: state bits and n, then a row a line, as bits with spaces anywhere. Gives how many rows there are. */
+static size_t read_rows(size_t *state_bits, size_t *n, uint16_t *numbers) {
+    char line[128];
+    size_t count = 0;
+    if (!fgets(line, sizeof line, stdin) || sscanf(line, "%zu %zu", state_bits, n) != 2)
+        return 0;
+    while (count < LINK_MOST_ROWS && fgets(line, sizeof line, stdin)) {
+        unsigned number = 0;
+        for (const char *at = line; *at; at++)
+            if (*at == '0' || *at == '1')
+                number = 2 * number + (unsigned)(*at - '0');
+        numbers[count++] = (uint16_t)number;
+    }
+    return count;
+}
+
+/* The section, or with `in_bytes` the table file, of the sums of rows; or their refusal. */
+static int merged_rows(int in_bytes) {
+    uint16_t numbers[LINK_MOST_ROWS];
+    size_t state_bits = 0, n = 0;
+    const size_t count = read_rows(&state_bits, &n, numbers);
+    const uint32_t number =
+        link_merge_rows(state_bits, n, numbers, count, file, sizeof file, map, LINK_ANY_MAP, section, LINK_ANY_SECTION, values);
+    if (number != LINK_SUCCESS)
+        return printf("refused %u %u\n", number, values[0]), 1;
+    const unsigned places = in_bytes ? LINK_FILE_LEN(LINK_ROW_WORDS(count)) : values[0];
+    for (unsigned place = 0; place < places; place++)
+        printf(in_bytes ? "%02x " : "%u ", in_bytes ? file[place] : section[place]);
+    printf("\n");
+    return 0;
+}
+
 /* How many numbers stand on standard input, at most `most`; they are left in `numbers`. */
 static size_t read_numbers(uint16_t *numbers, size_t most) {
     size_t length = 0;
@@ -190,6 +222,10 @@ int main(int count, char **words) {
         return merged(0);
     if (strcmp(what, "map") == 0)
         return merged(1);
+    if (strcmp(what, "row_section") == 0)
+        return merged_rows(0);
+    if (strcmp(what, "row_bytes") == 0)
+        return merged_rows(1);
     if (strcmp(what, "read_back") == 0)
         return read_back();
     if (strcmp(what, "decoded") == 0)

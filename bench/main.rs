@@ -1,6 +1,6 @@
-//! The benchmark: merging, refusing, decoding and listing several paths by the kit, by its own algorithm in plain Rust with bounds checks and without,
-//! and, for merging, with hash maps, side by side in one run; then what the kit is held to. Started with the words of a call it does just that call in
-//! all its ways, for their instructions to be counted.
+//! The benchmark: merging, refusing, merging the sums of rows, decoding and listing several paths by the kit, by its own algorithm in plain Rust with bounds
+//! checks and without, and, for merging, with hash maps, side by side in one run; then what the kit is held to. Started with the words of a call it does
+//! just that call in all its ways, for their instructions to be counted.
 
 #[path = "../tests/common/mod.rs"]
 mod common;
@@ -11,6 +11,7 @@ mod measuring;
 mod plain_decode;
 mod plain_list;
 mod plain_merge;
+mod plain_rows;
 mod plain_section;
 mod plain_witness;
 mod reading;
@@ -27,9 +28,10 @@ use refusals::Hard;
 use report::{Row, hold, print_rows};
 use ways::BLOCKS;
 
-/// What the kit is held to: instructions to merge 1,024 words, to refuse a table, and to decode a frame of one block of case 3; times as long as
-/// safe Rust; and times as many instructions as decoding, for numbers of paths that are listed.
+/// What the kit is held to: instructions to merge 1,024 words, to merge as many sums of rows, to refuse a table, and to decode a frame of one block of case
+/// 3; times as long as safe Rust; and times as many instructions as decoding, for numbers of paths that are listed.
 const MOST_MERGING: f64 = 2e6;
+const MOST_MERGING_ROWS: f64 = 4e5;
 const MOST_REFUSING: f64 = 2e6;
 const MOST_A_FRAME: f64 = 2999.0;
 const MOST_TIMES_SAFE: f64 = 1.2;
@@ -58,6 +60,12 @@ fn merging_row(code: usize, name: &str, table: &Table) -> Row {
     assert_eq!(ways::merge_alike(table, 4).number(), 0, "the codes are accepted");
     let sizes = vec![table.words.len(), edges(&section(table))];
     Row::new(name.to_string(), sizes, &words("merge", &[code]), 4)
+}
+
+fn rows_row(code: usize, name: &str, table: &Table) -> Row {
+    ways::rows_alike(table);
+    let sizes = vec![table.words.len(), edges(&section(table))];
+    Row::new(name.to_string(), sizes, &words("rows", &[code]), 3)
 }
 
 /// What one block more takes, between a chain and its first block.
@@ -99,6 +107,22 @@ fn refusal_row(hard: &Hard, origin: &str) -> Row {
     let numbers: Vec<String> = hard.numbers.iter().map(usize::to_string).collect();
     let name = format!("{origin} {} {}", hard.family, numbers.join(" "));
     Row::new(name, vec![table.words.len(), depth], &hard.words(), 3)
+}
+
+/// The sums of rows, and beside them what merging the tables of the same codes takes.
+fn print_row_aims(merging: &[Row], merging_rows: &[Row]) {
+    let full = || merging_rows.iter().filter(|row| row.sizes[0] == 1024);
+    hold(
+        "instructions to merge 1,024 sums of rows",
+        MOST_MERGING_ROWS,
+        full().map(Row::kit),
+    );
+    for row in full() {
+        let table = merging.iter().find(|other| other.name == row.name);
+        if let (Some(rows), Some(merged)) = (row.kit(), table.and_then(Row::kit)) {
+            println!("    {}: {rows:.0}, where merging its table takes {merged:.0}", row.name);
+        }
+    }
 }
 
 /// Listing held against decoding, code by code.
@@ -160,6 +184,11 @@ fn main() {
     };
     let merging = rows(&merging_row);
     print_rows("merging", &["words", "edges"], 4, &merging);
+    let binary = codes.iter().enumerate().filter(|(_, (_, table))| table.q == 2);
+    let merging_rows: Vec<Row> = binary
+        .map(|(code, (name, table))| rows_row(code, name, table))
+        .collect();
+    print_rows("merging the sums of rows", &["words", "edges"], 3, &merging_rows);
     let mut refusing: Vec<Row> = refusals::kept().iter().map(|hard| refusal_row(hard, "kept:")).collect();
     refusing.extend(refusals::found().iter().map(|hard| refusal_row(hard, "found:")));
     print_rows("refusing", &["words", "depth"], 3, &refusing);
@@ -171,5 +200,6 @@ fn main() {
     let listing: Vec<Row> = MOST_TIMES_DECODING.into_iter().flat_map(listed).collect();
     print_rows("listing, a block", &["edges", "paths"], 3, &listing);
     print_aims(&merging, &decoding, &frame, &refusing);
+    print_row_aims(&merging, &merging_rows);
     print_list_aims(&decoding, &listing);
 }

@@ -4,15 +4,17 @@ use super::access::{Checked, Unchecked};
 use super::common::archive::{Buffers, Frame, ListBuffers};
 use super::common::codes::{benchmarked, case_3};
 use super::common::hard::hard;
+use super::common::rows::Generator;
 use super::common::tables::Table;
 use super::common::{Numbers, frames};
 use super::measuring::Job;
-use super::{hashed, plain_decode, plain_list, plain_merge};
-use link_kit::{ANY_MAP, ANY_SECTION, Decoded, DecodedList, ListRoom, Merged, Room};
+use super::{hashed, plain_decode, plain_list, plain_merge, plain_rows};
+use link_kit::{ANY_FILE, ANY_MAP, ANY_SECTION, Decoded, DecodedList, ListRoom, Merged, MergedRows, Room};
 
 pub const BLOCKS: usize = 256;
 
 type Merging = fn(&[u8], &mut [u16], &mut [u16]) -> Merged;
+type MergingRows = fn(usize, usize, &[u16], &mut [u8], &mut [u16], &mut [u16]) -> MergedRows;
 type Decoding = fn(&link_kit::Frame, Room) -> Decoded;
 type Listing = fn(&link_kit::Frame, usize, ListRoom) -> DecodedList;
 
@@ -24,6 +26,11 @@ const MERGING: [Merging; 4] = [
     plain_merge::merge::<Checked>,
     plain_merge::merge::<Unchecked>,
     hashed::merge,
+];
+const MERGING_ROWS: [MergingRows; 3] = [
+    link_kit::merge_rows,
+    plain_rows::merge_rows::<Checked>,
+    plain_rows::merge_rows::<Unchecked>,
 ];
 const DECODING: [Decoding; 3] = [
     link_kit::decode,
@@ -46,6 +53,18 @@ fn merge_job(table: &Table, merge: Merging) -> Job {
 /// Merging by the kit alone.
 pub fn kit_merges(table: &Table) -> Job {
     merge_job(table, link_kit::merge)
+}
+
+/// Rows of a binary code, drawn from its words.
+fn rows_of(table: &Table) -> Generator {
+    Generator::of(table, &mut Numbers::new())
+}
+
+fn rows_job(Generator { state_bits, n, rows }: Generator, merge: MergingRows) -> Job {
+    let (mut file, mut map, mut section) = (vec![0; ANY_FILE], vec![0; ANY_MAP], vec![0; ANY_SECTION]);
+    Box::new(move || {
+        std::hint::black_box(merge(state_bits, n, &rows, &mut file, &mut map, &mut section));
+    })
 }
 
 /// A chain of blocks over one code, received with errors and erasures, and its first block alone.
@@ -87,13 +106,16 @@ fn list_jobs(frame: &Frame, paths: usize) -> [Job; 3] {
     })
 }
 
-/// The jobs of a call in all its ways, for words that name it: `merge CODE`; `decode CODE` and `list CODE PATHS`, a chain in all ways and then its first
-/// block; `frame`, one block of case 3; `refuse FAMILY NUMBER..`.
+/// The jobs of a call in all its ways, for words that name it: `merge CODE`; `rows CODE`; `decode CODE` and `list CODE PATHS`, a chain in all ways and
+/// then its first block; `frame`, one block of case 3; `refuse FAMILY NUMBER..`.
 pub fn jobs(words: &[String]) -> Vec<Job> {
     let number = |word: &String| word.parse::<usize>().expect("a number");
     let code = |word: &String| benchmarked()[number(word)].1.clone();
     match words[0].as_str() {
         "merge" => MERGING.map(|merge| merge_job(&code(&words[1]), merge)).into(),
+        "rows" => MERGING_ROWS
+            .map(|merge| rows_job(rows_of(&code(&words[1])), merge))
+            .into(),
         "decode" => chain(&code(&words[1])).iter().flat_map(decode_jobs).collect(),
         "list" => {
             let (chains, paths) = (chain(&code(&words[1])), number(&words[2]));
@@ -119,6 +141,19 @@ pub fn merge_alike(table: &Table, ways: usize) -> Merged {
         assert!(left(merge) == (answer, map.clone(), section.clone()), "merging differs");
     }
     answer
+}
+
+/// All ways leave the same of a code's rows, and of them its table.
+pub fn rows_alike(table: &Table) {
+    let Generator { state_bits, n, rows } = rows_of(table);
+    let left = MERGING_ROWS.map(|merge| {
+        let (mut file, mut map, mut section) = (vec![7; ANY_FILE], vec![7; ANY_MAP], vec![7; ANY_SECTION]);
+        let answer = merge(state_bits, n, &rows, &mut file, &mut map, &mut section);
+        assert_eq!(answer.number(), 0, "the rows are independent");
+        assert!(file.starts_with(&table.file()), "their sums are the code's words");
+        (answer, file, map, section)
+    });
+    assert!(left[0] == left[1] && left[0] == left[2], "merging rows differs");
 }
 
 /// The same of a code's chain and of its first block.

@@ -1,4 +1,4 @@
-/* The link kit for C and C++ on x86-64, six functions: link with liblink_kit.a, which `rt staticlib link_kit` writes. Table files, sections, frames,
+/* The link kit for C and C++ on x86-64, seven functions: link with liblink_kit.a, which `rt staticlib link_kit` writes. Table files, sections, frames,
  * block sheets and outcomes are those of document 01, the customer's paper on tables, sections and outcomes, with what the requests of document 02
  * changed; docs/FORMATS.md says all of them, with a worked table. The outcome numbers are the LINK_ constants below.
  *
@@ -25,13 +25,15 @@ extern "C" {
 #define LINK_ORDER 4u           /* first word not above the word before it; unchanged */
 #define LINK_SHORT_MAP 5u       /* W (n + 1), the places that the map needs; unchanged */
 #define LINK_NOT_RECTANGULAR 6u /* depth, and words i, j, k that force a word which is missing; first W (n + 1) places of the map 0, else unchanged */
-#define LINK_SHORT_SECTION 7u   /* length that the section needs; map as on success, section unchanged */
+#define LINK_SHORT_SECTION 7u   /* length that the section needs; map as on success, others unchanged */
 #define LINK_UNUSABLE 8u        /* K if outside its bounds; else the first unusable section; else K, for numbers left over; unchanged */
 #define LINK_BLOCK 9u           /* first bad block, or B for a fault of lengths or states; unchanged */
 #define LINK_SHORT_BUFFER 10u   /* least length that the first short buffer needs; unchanged */
 #define LINK_NO_PATH 11u        /* nothing; cost table as on success, others unchanged */
 #define LINK_TOO_MANY_WORDS 12u /* nothing: the section has over 1,024 words; unchanged */
 #define LINK_PATH_COUNT 13u     /* how many paths are asked for, outside 1 to 16; unchanged */
+#define LINK_ROWS 14u           /* number of rows if state bits, n or it is outside its bounds; else the first row with bits above its width; unchanged */
+#define LINK_DEPENDENT 15u      /* first row that is a sum of earlier ones, as a row of zeros is; unchanged */
 
 /* Bounds. */
 #define LINK_MOST_WORDS 1024u
@@ -40,9 +42,12 @@ extern "C" {
 #define LINK_MOST_SECTIONS 16u /* K */
 #define LINK_MOST_BLOCKS 256u  /* B */
 #define LINK_MOST_PATHS 16u    /* paths of a list */
+#define LINK_MOST_STATE_BITS 4u /* bits of a state in a row */
+#define LINK_MOST_ROWS 10u
 #define LINK_NO_COST 4294967295u /* in the cost table: no path from here */
 
 /* Lengths, in elements. */
+#define LINK_ROW_WORDS(rows) (1u << (rows)) /* words of a table of sums of rows */
 #define LINK_FILE_LEN(words) (5u + 4u * (words))
 #define LINK_MAP_LEN(words, n) ((words) * ((n) + 1u))
 #define LINK_COSTS_LEN(blocks) (LINK_MOST_STATES * (blocks))
@@ -64,6 +69,7 @@ extern "C" {
 /* Stack, in bytes: what a call takes of its thread's stack, with all that it calls. A program whose loader binds memcpy and memset only when they are
  * first called needs some 4,096 bytes more for that one call. */
 #define LINK_MERGE_STACK 35840u
+#define LINK_MERGE_ROWS_STACK 22016u
 #define LINK_READ_BACK_STACK 19456u
 #define LINK_DECODE_STACK 20992u
 #define LINK_DECODE_LIST_STACK 91648u
@@ -74,6 +80,15 @@ extern "C" {
  * Outcomes 0 to 7, checked in the order 1, 2, 3, 4, 5, 6, 7. */
 uint32_t link_merge(const uint8_t *file, size_t file_len, uint16_t *map, size_t map_len, uint16_t *section, size_t section_len,
                     uint32_t values[4]);
+
+/* Makes the table of a binary code from rows of bits, and merges it. A row has state_bits bits of a start state, n symbols and state_bits bits of an end
+ * state, the first highest: start << n + state_bits | symbols << state_bits | end. The words are all sums of rows modulo 2, each bit by itself, that of no
+ * row included; q is 2 and S is 2^state_bits. state_bits is 0 to 4, n is 1 to 8, and there are 1 to 10 rows, none of them a sum of others.
+ * Success returns the section's length, and writes the table file (LINK_FILE_LEN(LINK_ROW_WORDS(rows_len)) bytes), and the map and the section that
+ * link_merge makes of it, which refuses no such table with 6.
+ * Outcomes 0, 14 (the sizes before the rows), 15, 10 (the file), 5 and 7, checked in this order. */
+uint32_t link_merge_rows(size_t state_bits, size_t n, const uint16_t *rows, size_t rows_len, uint8_t *file, size_t file_len, uint16_t *map,
+                         size_t map_len, uint16_t *section, size_t section_len, uint32_t values[4]);
 
 /* Writes the table file of a section's words. Success returns the file's length.
  * Outcomes 0, 8 (with 0, for numbers left over too), 12, 10, checked in this order. */

@@ -1,5 +1,6 @@
 /* Merges the table of labels 00 and 11 (marked case 3) and prints its sizes, decodes two blocks received as 01 and 11 (marked case 7), prints the
- * path and which symbols were wrong, lists the best paths up to the first whose check sum is right, and prints what both blocks cost. Valid C and C++. */
+ * path and which symbols were wrong, lists the best paths up to the first whose check sum is right, prints what both blocks cost, and makes the table and
+ * the section of a code from its generator rows. Valid C and C++. */
 #include "link_kit.h"
 
 #include <stdio.h>
@@ -80,6 +81,22 @@ static int print_sheet(void) {
     return 0;
 }
 
+/* A section of the convolutional code with generators 7 and 5: state before, two symbols, state behind. A state is the last two inputs, the later first. */
+static int print_rows(void) {
+    static const uint16_t rows[3] = {2 << 4 | 2 << 2 | 1, 1 << 4 | 3 << 2 | 0, 0 << 4 | 3 << 2 | 2};
+    enum { STATE_BITS = 2, N = 2, WORDS = LINK_ROW_WORDS(3) };
+    uint8_t made[LINK_FILE_LEN(WORDS)];
+    uint16_t map[LINK_MAP_LEN(WORDS, N)];
+    uint32_t values[4];
+    uint32_t number = link_merge_rows(STATE_BITS, N, rows, 3, made, sizeof made, map, LINK_MAP_LEN(WORDS, N), section, LINK_ANY_SECTION, values);
+    if (number != LINK_SUCCESS)
+        return refused("merge rows", number, values);
+    printf("from rows: section of %u numbers, vertices %u %u %u\n", values[0], section[3], section[4], section[5]);
+    for (unsigned i = 0; i < WORDS; i++)
+        printf("%u to %u by %u%u\n", made[5 + 2 * i], made[6 + 2 * i], made[5 + 2 * WORDS + 2 * i] >> 2, made[5 + 2 * WORDS + 2 * i] & 3);
+    return 0;
+}
+
 int main(void) {
     uint16_t map[LINK_MAP_LEN(2, 2)];
     uint32_t values[4];
@@ -100,5 +117,5 @@ int main(void) {
     if (number != LINK_SUCCESS || values[0] != sizeof file || memcmp(file, again, sizeof file) != 0)
         return refused("read back", number, values);
 
-    return print_path(length) || print_list(length) || print_sheet();
+    return print_path(length) || print_list(length) || print_sheet() || print_rows();
 }

@@ -1,7 +1,7 @@
-//! The link kit for Rust: tables merged into trellis sections, sections read back, chains of blocks decoded to their best path or to several of the
-//! best, sizes listed, block sheets added up. Safe calls of `liblink_kit.a`, whose every answer and every place of every buffer is proved to be what
-//! document 01 says, the customer's paper on tables, sections and outcomes, with what the requests of document 02 changed. Formats and outcomes are in
-//! `docs/FORMATS.md`, with a worked table. Nothing here allocates or keeps anything between calls.
+//! The link kit for Rust: tables merged into trellis sections, tables and sections made from generator rows, sections read back, chains of blocks
+//! decoded to their best path or to several of the best, sizes listed, block sheets added up. Safe calls of `liblink_kit.a`, whose every answer and every
+//! place of every buffer is proved to be what document 01 says, the customer's paper on tables, sections and outcomes, with what the requests of document
+//! 02 changed. Formats and outcomes are in `docs/FORMATS.md`, with a worked table. Nothing here allocates or keeps anything between calls.
 //!
 //! ```
 //! use link_kit::{ANY_SECTION, COSTS_A_BLOCK, Decoded, Frame, Merged, Room};
@@ -23,8 +23,9 @@
 
 mod answers;
 pub mod numbers;
+mod outcomes;
 
-pub use answers::{Decoded, DecodedList, Listed, Merged, ReadBack};
+pub use answers::{Decoded, DecodedList, Listed, Merged, MergedRows, ReadBack};
 
 /// A table file of 1,024 words in bytes, the longest there is.
 pub const ANY_FILE: usize = 5 + 4 * 1024;
@@ -46,6 +47,10 @@ pub const MOST_SECTIONS: usize = 16;
 pub const MOST_BLOCKS: usize = 256;
 /// The most paths of a list.
 pub const MOST_PATHS: usize = 16;
+/// The most bits of a state in a row.
+pub const MOST_STATE_BITS: usize = 4;
+/// The most rows.
+pub const MOST_ROWS: usize = 10;
 /// The places of the cost table for one block, one for each state.
 pub const COSTS_A_BLOCK: usize = MOST_STATES;
 /// In the cost table: no path from here.
@@ -114,6 +119,46 @@ pub fn merge(file: &[u8], map: &mut [u16], section: &mut [u16]) -> Merged {
     let mut values = [0; 4];
     let number = numbers::merge(file, map, section, &mut values);
     Merged::of(number, values)
+}
+
+/// Makes the table of a binary code from rows of bits, and merges it. A row has the bits of a start state, `n` symbols and the bits of an end state, the
+/// first highest, with `state_bits` bits a state. The words are all sums of rows modulo 2, each bit by itself, that of no row included; q is 2, S is 2 to
+/// the number of state bits. `file` is left as the table file, 5 + 4·2^rows bytes, `map` and `section` as [`merge`] leaves them of that file.
+///
+/// The convolutional code of rate 1/2 with generators 7 and 5, of which one input makes a section of two symbols: the state is the last two inputs, the
+/// later first.
+///
+/// ```
+/// use link_kit::{ANY_SECTION, Merged, MergedRows};
+/// // An earlier input, then the one before it, then the one that comes in: state before, symbols, state behind.
+/// let rows = [0b10_10_01, 0b01_11_00, 0b00_11_10];
+/// let (mut file, mut map, mut section) = ([0; 5 + 4 * 8], [0; 8 * 3], [0; ANY_SECTION]);
+/// let answer = link_kit::merge_rows(2, 2, &rows, &mut file, &mut map, &mut section);
+/// assert_eq!(answer, MergedRows::Section(64));
+/// assert_eq!(file[..5], [2, 2, 4, 8, 0]); // q, n, S, and W low byte first
+/// assert_eq!(section[3..6], [4, 8, 4]); // vertices
+///
+/// let (mut same_map, mut same) = ([0; 8 * 3], [0; ANY_SECTION]);
+/// assert_eq!(link_kit::merge(&file, &mut same_map, &mut same), Merged::Section(64));
+/// assert!(map == same_map && section == same);
+///
+/// // The last of these rows is the sum of the two before it.
+/// let rows = [0b10_10_01, 0b01_11_00, 0b11_01_01];
+/// let answer = link_kit::merge_rows(2, 2, &rows, &mut file, &mut map, &mut section);
+/// assert_eq!(answer, MergedRows::Dependent(2));
+/// assert_eq!((answer.number(), answer.values()), (15, [2, 0, 0, 0]));
+/// ```
+pub fn merge_rows(
+    state_bits: usize,
+    n: usize,
+    rows: &[u16],
+    file: &mut [u8],
+    map: &mut [u16],
+    section: &mut [u16],
+) -> MergedRows {
+    let mut values = [0; 4];
+    let number = numbers::merge_rows(state_bits, n, rows, file, map, section, &mut values);
+    MergedRows::of(number, values)
 }
 
 /// Writes the table file of a section's words.

@@ -1,4 +1,4 @@
-//! The archive's six functions as they are, over slices: each returns document 01's number and fills `values` with the numbers returned with it,
+//! The archive's seven functions as they are, over slices: each returns document 01's number and fills `values` with the numbers returned with it,
 //! 0 in the places not used. The only declarations of the archive in Rust, and the only unsafe code, are here.
 
 use super::{Frame, ListRoom, Room};
@@ -7,6 +7,19 @@ use super::{Frame, ListRoom, Room};
 unsafe extern "C" {
     fn link_merge(
         file: *const u8,
+        file_len: usize,
+        map: *mut u16,
+        map_len: usize,
+        section: *mut u16,
+        section_len: usize,
+        values: &mut [u32; 4],
+    ) -> u32;
+    fn link_merge_rows(
+        state_bits: usize,
+        n: usize,
+        rows: *const u16,
+        rows_len: usize,
+        file: *mut u8,
         file_len: usize,
         map: *mut u16,
         map_len: usize,
@@ -82,6 +95,34 @@ pub fn merge(file: &[u8], map: &mut [u16], section: &mut [u16], values: &mut [u3
     unsafe {
         link_merge(
             file.as_ptr(),
+            file.len(),
+            map.as_mut_ptr(),
+            map.len(),
+            section.as_mut_ptr(),
+            section.len(),
+            values,
+        )
+    }
+}
+
+/// [`merge_rows`](super::merge_rows) in numbers.
+pub fn merge_rows(
+    state_bits: usize,
+    n: usize,
+    rows: &[u16],
+    file: &mut [u8],
+    map: &mut [u16],
+    section: &mut [u16],
+    values: &mut [u32; 4],
+) -> u32 {
+    // SAFETY: as for `merge`.
+    unsafe {
+        link_merge_rows(
+            state_bits,
+            n,
+            rows.as_ptr(),
+            rows.len(),
+            file.as_mut_ptr(),
             file.len(),
             map.as_mut_ptr(),
             map.len(),

@@ -1,6 +1,6 @@
 //! Calls of the kit through its crate for Rust: slices in, document 01's number and four values out, and the enum made of them held to both.
 
-use link_kit::{Decoded, DecodedList, ListRoom, Listed, Merged, ReadBack, Room, numbers};
+use link_kit::{Decoded, DecodedList, ListRoom, Listed, Merged, MergedRows, ReadBack, Room, numbers};
 
 /// An outcome's number, and the numbers returned with it in the first of four places; 0 in the others.
 #[derive(Clone, PartialEq, Debug)]
@@ -50,6 +50,20 @@ pub fn merge(file: &[u8], map: &mut [u16], section: &mut [u16]) -> Answer {
     let mut values = BEFORE;
     let number = numbers::merge(file, map, section, &mut values);
     let case = Merged::of(number, values);
+    answer(number, values, (case.number(), case.values()))
+}
+
+pub fn merge_rows(
+    state_bits: usize,
+    n: usize,
+    rows: &[u16],
+    file: &mut [u8],
+    map: &mut [u16],
+    section: &mut [u16],
+) -> Answer {
+    let mut values = BEFORE;
+    let number = numbers::merge_rows(state_bits, n, rows, file, map, section, &mut values);
+    let case = MergedRows::of(number, values);
     answer(number, values, (case.number(), case.values()))
 }
 

@@ -129,6 +129,20 @@ fn rate_1_2() -> Table {
     })
 }
 
+/// The convolutional code of rate 1/2 with 4 states and generators 7 and 5 in octal, so many inputs a section.
+pub fn rate_1_2_of_4(inputs: u8) -> Table {
+    encoder(2 * inputs, 4, 1 << inputs, |state, input| {
+        let step = |(sent, state): (usize, usize), k: u8| {
+            let register = (input >> k & 1) << 2 | state;
+            (
+                sent << 2 | parity(register & 0o7) << 1 | parity(register & 0o5),
+                register >> 1,
+            )
+        };
+        (0..inputs).rev().fold((0, state), step)
+    })
+}
+
 /// A systematic code of rate 7/8 with 8 states: seven inputs and the state's lowest bit are sent, and each input adds a column of its own to the state.
 fn rate_7_8() -> Table {
     encoder(8, 8, 128, |state, input| {

@@ -1,6 +1,6 @@
-//! What the running programs share: calls of the kit, tables and chains of many kinds, and merging, sections, decoding to the best path and to several,
-//! the listing and the block sheet written plainly from document 01, the customer's paper on tables, sections and outcomes, with what document 02's
-//! requests changed.
+//! What the running programs share: calls of the kit, tables and chains of many kinds, and merging, sums of rows, sections, decoding to the best path and
+//! to several, the listing and the block sheet written plainly from document 01, the customer's paper on tables, sections and outcomes, with what document
+//! 02's requests changed.
 #![allow(dead_code)]
 
 pub mod archive;
@@ -11,6 +11,7 @@ pub mod frames;
 pub mod hard;
 pub mod listing;
 pub mod merging;
+pub mod rows;
 pub mod sections;
 pub mod several;
 pub mod shapes;

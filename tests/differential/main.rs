@@ -1,11 +1,12 @@
-//! Tables of many shapes and files with every kind of fault through all six functions of the archive: merging, the listing, reading back what was
-//! merged, decoding chains of it to the best path and to several, and block sheets, each compared in its answer and in every place of every buffer with
-//! plain code written from documents 01 and 02 alone.
+//! Tables of many shapes, generator rows and files with every kind of fault through all seven functions of the archive: merging, also of the sums of rows,
+//! the listing, reading back what was merged, decoding chains of it to the best path and to several, and block sheets, each compared in its answer and in
+//! every place of every buffer with plain code written from documents 01 and 02 alone.
 
 #[path = "../common/mod.rs"]
 mod common;
 
 mod malformed;
+mod rows;
 mod sheet;
 mod sheet_known;
 mod states;
@@ -25,6 +26,7 @@ type Outcomes = BTreeMap<u32, usize>;
 #[derive(Default)]
 struct Tally {
     files: usize,
+    rows: Outcomes,
     merged: Outcomes,
     listed: Outcomes,
     read_back: Outcomes,
@@ -157,6 +159,9 @@ impl Tally {
 
     fn report(&self, what: &str) {
         println!("{what}: {} files", self.files);
+        if !self.rows.is_empty() {
+            println!("  merge rows: outcomes {:?}", self.rows);
+        }
         for (call, outcomes) in [
             ("merge", &self.merged),
             ("listing", &self.listed),
@@ -244,6 +249,9 @@ fn main() {
     let mut tally = Tally::default();
     states::run(&mut tally, &mut numbers);
     finish("1 to 70 states", tally);
+    let mut tally = Tally::default();
+    rows::run(&mut tally);
+    finish("sums of rows", tally);
     sheet::run(&mut all, &mut numbers);
     all.finish();
 }

@@ -11,16 +11,23 @@ use common::codes::case_9;
 use common::frames;
 use common::hard::hard;
 use common::merging::section_of;
+use common::rows::{Generator, compiled};
 use common::sections::{Edge, Section, gather, spread, usable};
 use common::sheet::{Input, MOST_BLOCKS, MOST_SECTIONS, in_turn};
 use common::tables::{Table, large_tables, sparse};
-use link_kit::ANY_SHEET;
+use link_kit::{ANY_FILE, ANY_MAP, ANY_SECTION, ANY_SHEET};
 use std::cmp::Ordering;
 
 fn merge(table: &Table) -> Answer {
     let mut map = vec![0; 9 * 1024];
     let mut section = vec![0; 30_000];
     archive::merge(&table.file(), &mut map, &mut section)
+}
+
+/// Ten rows of as many bits as there can be, and so 1,024 words.
+fn merge_rows() -> Answer {
+    let generator = Generator::independent(4, 8, 10, &mut Numbers::new());
+    compiled(&generator, [ANY_FILE, ANY_MAP, ANY_SECTION]).0
 }
 
 /// A usable section with as many edges as the bounds allow: 256 or 1,024 vertices at depths 3 to 5, and 1,024 edges a step between depths 2 and 6.
@@ -95,6 +102,7 @@ fn main() {
         "merge-wide" => merge(&wide),
         "merge-sparse" => merge(&sparse(&mut Numbers::new())),
         "merge-hard" => merge(&hard(&words[1], &(2..words.len()).map(number).collect::<Vec<usize>>())),
+        "merge-rows" => merge_rows(),
         "read-long" => read_back(section_of(&long), 0),
         "read-largest" => read_back(largest(number(1) as u16).numbers(), number(2)),
         "decode-case-9" => decode(section_of(&case_9()), number(1)),

@@ -15,7 +15,7 @@ static const uint8_t table[] = {2, 2, 1, 2, 0, 0, 0, 0, 0, 0, 0, 5, 0};
 static const uint8_t broken[] = {2, 2, 1, 3, 0, 0, 0, 0, 0, 0, 0, 0, 0, 1, 0, 4, 0};
 
 static uint8_t file[LINK_ANY_FILE], text[LINK_ANY_TEXT], sheet[LINK_ANY_SHEET];
-static uint16_t map[LINK_ANY_MAP], section[LINK_ANY_SECTION];
+static uint16_t map[LINK_ANY_MAP], section[LINK_ANY_SECTION], row_section[LINK_ANY_SECTION];
 static uint8_t indices[LINK_MOST_BLOCKS], erased[LINK_MOST_BLOCKS], goals[LINK_MOST_BLOCKS], masks[LINK_MOST_BLOCKS];
 static uint16_t received[LINK_MOST_BLOCKS], labels[LINK_MOST_BLOCKS];
 static uint32_t costs[LINK_COSTS_LEN(LINK_MOST_BLOCKS)], values[4], outcome;
@@ -36,6 +36,15 @@ static void merge_table(void) {
 
 static void merge_broken(void) {
     outcome = link_merge(broken, sizeof broken, map, LINK_ANY_MAP, section, LINK_ANY_SECTION, values);
+}
+
+/* As many rows as there can be, of as many bits: row j has bits j and j + 5, so none is a sum of others. */
+static void merge_rows(void) {
+    uint16_t rows[LINK_MOST_ROWS];
+    for (unsigned j = 0; j < LINK_MOST_ROWS; j++)
+        rows[j] = (uint16_t)(33u << j);
+    outcome = link_merge_rows(LINK_MOST_STATE_BITS, LINK_MOST_SYMBOLS, rows, LINK_MOST_ROWS, file, LINK_ANY_FILE, map, LINK_ANY_MAP,
+                              row_section, LINK_ANY_SECTION, values);
 }
 
 static void read_section(void) {
@@ -132,6 +141,7 @@ static void show_sheet(const char *name) {
 int main(void) {
     /* What is bound at its first call is bound here, on a stack that has room for it. */
     merge_table();
+    merge_rows();
     read_section();
     decode_frame();
     list_paths();
@@ -139,6 +149,7 @@ int main(void) {
     put_chain();
     sheet_of_chain();
     show("link_merge, accepted", merge_table, LINK_MERGE_STACK);
+    show("link_merge_rows", merge_rows, LINK_MERGE_ROWS_STACK);
     show("link_read_back", read_section, LINK_READ_BACK_STACK);
     show("link_decode", decode_frame, LINK_DECODE_STACK);
     show("link_decode_list", list_paths, LINK_DECODE_LIST_STACK);

@@ -8,11 +8,13 @@ use Rattle.outcomes.specs.inner.Holds.{Holds}
 use Rattle.merge.specs.Answer.{outcomeOf, Ends}
 use Rattle.merge.specs.Merging.{Merging}
 use Rattle.merge.specs.declared.Merged.{Merged}
+use Rattle.merge_rows.specs.MergingRows as rows
 use Rattle.read_back.specs.ReadingBack as reading
 use Rattle.chain.specs.Decoding as decoding
 use Rattle.chain_list.specs.Listing as paths
 use Rattle.listing.specs.Listing as printing
-use Rattle.link_kit.specs.Left.{MergeLeft, ReadBackLeft, DecodeLeft, DecodeListLeft, ListingLeft, stored, fourOf, Numbered}
+use Rattle.link_kit.specs.Left.{MergeLeft, MergeRowsLeft, ReadBackLeft, DecodeLeft, DecodeListLeft, ListingLeft}
+use Rattle.link_kit.specs.Left.{stored, fourOf, Numbered}
 
 pub numbered : {o : Outcome} {number count : ℕ} {values : List ℕ} {a b c d : ℕ} → Holds o number count values
     → a ≡ stored (getD values 0 0) → b ≡ stored (getD values 1 0) → c ≡ stored (getD values 2 0) → d ≡ stored (getD values 3 0)
@@ -32,6 +34,19 @@ pub merge-left :
     Numbered (outcomeOf r) number values →
     MergeLeft m number map section values
 merge-left E N = record { answerIs = numbered-by (E .answerIs) N; mapIs = E .mapIs; sectionIs = E .sectionIs }
+
+pub merge-rows-left :
+    {o : Outcome} {m : rows.MergingRows} {number : ℕ} {file map section values : List ℕ} →
+    rows.left o file map section ≡ m →
+    Numbered o number values →
+    MergeRowsLeft m number file map section values
+merge-rows-left e N =
+    record {
+      answerIs = numbered-by (ap (λ m. m .answer) e) N;
+      fileIs = ap (λ m. m .file) e;
+      mapIs = ap (λ m. m .map) e;
+      sectionIs = ap (λ m. m .section) e;
+    }
 
 pub read-back-left :
     {o : Outcome} {m : reading.ReadingBack} {number : ℕ} {file values : List ℕ} →

@@ -6,6 +6,7 @@ use Prim.Native.Nat.{ℕ, min}
 use lib.ListN.{getD}
 use Rattle.trellis.specs.Outcome.{Outcome}
 use Rattle.merge.specs.Merging.{Merging}
+use Rattle.merge_rows.specs.MergingRows.{MergingRows}
 use Rattle.read_back.specs.ReadingBack.{ReadingBack}
 use Rattle.chain.specs.Decoding.{Decoding}
 use Rattle.chain_list.specs.Listing.{Listing as PathListing}
@@ -26,6 +27,12 @@ pub record Numbered (o : Outcome) (number : ℕ) (values : List ℕ) : Type 0 wh
 
 pub record MergeLeft (m : Merging) (number : ℕ) (map section values : List ℕ) : Type 0 where
   pub answerIs : Numbered (m .answer) number values
+  pub mapIs : map ≡ m .map
+  pub sectionIs : section ≡ m .section
+
+pub record MergeRowsLeft (m : MergingRows) (number : ℕ) (file map section values : List ℕ) : Type 0 where
+  pub answerIs : Numbered (m .answer) number values
+  pub fileIs : file ≡ m .file
   pub mapIs : map ≡ m .map
   pub sectionIs : section ≡ m .section
 

@@ -10,6 +10,7 @@ ghost use Rattle.sheet.specs.Sheet.{sheet};
 ghost use Rattle.link_kit.specs.Left.{MergeLeft, ReadBackLeft, DecodeLeft, ListingLeft};
 
 mod answers;
+mod rows;
 mod several;
 
 pub use chain::Decoded;
@@ -22,6 +23,8 @@ pub use listing::Listed;
 pub use listing::listing;
 pub use merge::Merged;
 pub use merge::merge;
+pub use merge_rows::MergedRows;
+pub use merge_rows::merge_rows;
 pub use read_back::ReadBack;
 pub use read_back::read_back;
 pub use records::BlockRecord;
