@@ -22,7 +22,7 @@ use Rattle.layout.specs.inner.Pieces.{stepTakers, stepPairs, stepSymbols}
 use Rattle.layout.proofs.AllPieces.{pairs-size, symbols-size}
 use Rattle.assemble.specs.inner.Numbers.{firstNumbers, sizeNumbers, SizesAsked, numbersOf, Parts}
 
-regroup : (a b c d e : List ℕ) → (((a ++ b) ++ c) ++ d) ++ e ≡ a ++ (b ++ (c ++ (d ++ e)))
+pub regroup : (a b c d e : List ℕ) → (((a ++ b) ++ c) ++ d) ++ e ≡ a ++ (b ++ (c ++ (d ++ e)))
 regroup a b c d e = simp append-assoc
 
 -- ---- lengths of the parts

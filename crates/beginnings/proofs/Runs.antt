@@ -7,12 +7,7 @@ use native.Mathlib.Nat.{zero-add, add-zero, add-suc, suc-add}
 use lib.ListN.{length, getD, take, length-take}
 use lib.Seq.{take-suc, getD-take}
 use Rattle.trellis.specs.Lists.{_∈_, run, each}
-use Rattle.trellis.proofs.Lists.{run-snoc, From, of-each, in-place}
-
-map-run : {A B : Type 0} (f : A → B) (g : ℕ → A) (at count : ℕ) → map f (run g at count) ≡ run (λ k. f (g k)) at count
-unfolding run
-map-run f g at zero = refl
-map-run f g at (suc count) = ap (λ l. f (g at) ∷ l) (map-run f g (suc at) count)
+use Rattle.trellis.proofs.Lists.{run-snoc, From, of-each, in-place, map-run}
 
 pub map-each : {A B : Type 0} (f : A → B) (g : ℕ → A) (count : ℕ) → map f (each g count) ≡ each (λ k. f (g k)) count
 map-each f g count = map-run f g 0 count

@@ -1,7 +1,7 @@
 -- The parts of the section written one behind another: each has room behind those before it, and all together they are the section's
 -- numbers. The places add up to the section's length, which the buffer has room for.
 use mathlib.Core.Path.{_≡_, ap, subst, _∙_}
-use mathlib.Core.List.{List, _++_, append-assoc}
+use mathlib.Core.List.{List, _++_}
 use Prim.Native.Nat.{ℕ, _+_, _*_, _^_, _≤_}
 use native.Mathlib.Omega.{arith}
 use lib.ListN.{length, getD}
@@ -11,11 +11,9 @@ use Rattle.trellis.specs.inner.Write.{Wrote}
 use Rattle.trellis.proofs.Lists.{length-run}
 use Rattle.trellis.proofs.Write.{wrote-then, wrote-length, wrote-front}
 use Rattle.assemble.specs.inner.Numbers.{firstNumbers, sizeNumbers, SizesAsked}
+use Rattle.assemble.proofs.SectionParts.{regroup}
 use Rattle.row_edges.specs.inner.Pieces.{edgesTo, stepPairs, stepSymbols, PiecesAsked}
 use Rattle.merge_rows.specs.inner.Stages.{numbersBy, PartsAsked}
-
-regroup : (a b c d e : List ℕ) → (((a ++ b) ++ c) ++ d) ++ e ≡ a ++ (b ++ (c ++ (d ++ e)))
-regroup a b c d e = simp append-assoc
 
 module _ {s n : ℕ} {dims counts steps roots goals edges b0 : List ℕ}
     (K : PartsAsked s n dims counts steps roots goals edges b0) where

@@ -1,8 +1,8 @@
 -- The words found depth by depth, as the code finds them: at each depth the array holds the beginnings up to there, so at depth n it holds
 -- the words; where the beginnings of one depth are too many, the words are, since there are no fewer of them.
-use mathlib.Core.Path.{_≡_, refl, sym, ap, ap₂, _∙_}
-use mathlib.Core.List.{List, _∷_, map, map-map, flatMap}
-use Prim.Native.Nat.{ℕ, zero, suc, _+_, _-_, _*_, _≤_, _<_}
+use mathlib.Core.Path.{_≡_, sym, ap, ap₂, _∙_}
+use mathlib.Core.List.{List, map, map-map, flatMap}
+use Prim.Native.Nat.{ℕ, suc, _+_, _-_, _*_, _≤_, _<_}
 use native.Mathlib.Omega.{arith}
 use native.Mathlib.Nat.{zero-add}
 use native.Mathlib.Numerals.{add-one}
@@ -11,7 +11,7 @@ use Rattle.trellis.specs.Bounds.{mostWords}
 use Rattle.trellis.specs.Lists.{run, each}
 use Rattle.trellis.specs.Own.{Edge}
 use Rattle.trellis.specs.Layout.{nOf, vertexCountOf, rootState}
-use Rattle.trellis.proofs.Lists.{length-run}
+use Rattle.trellis.proofs.Lists.{length-run, map-run}
 use Rattle.section_file.specs.inner.View.{Seen}
 use Rattle.section_file.specs.inner.Answer.{edgeIn}
 use Rattle.section_file.specs.declared.View.{View}
@@ -20,11 +20,6 @@ use Rattle.read_back.specs.inner.Levels.{begun, level, code, coded, grow
 use Rattle.read_back.specs.inner.Growing.{PutBehind, partFrom, Gathered, FirstLevel, RootCodes}
 use Rattle.read_back.proofs.Levels.{levels-rise, level-coded}
 use Rattle.read_back.proofs.Places.{StepPlaces, places-start, places-next, edges-are}
-
-map-run : {A B : Type 0} (f : A → B) (g : ℕ → A) (at count : ℕ) → map f (run g at count) ≡ run (λ k. f (g k)) at count
-unfolding run
-map-run f g at zero = refl
-map-run f g at (suc count) = ap (λ l. f (g at) ∷ l) (map-run f g (suc at) count)
 
 -- the beginnings up to depth t stand in the array; the pairs and symbols of the edges that go on from there begin at two places
 pub record Depth (s : List ℕ) (codes : List ℕ) (have pairs symbols t : ℕ) : Type 0 where

@@ -3,15 +3,15 @@
 -- (`paid-is`). Sorting looks only at the costs and goes through a map, so the beginnings sorted by what is paid are the sorted slots
 -- through that map (`sorted-begun`); the rest reads this off at one place.
 use mathlib.Core.Path.{_≡_, refl, sym, ap, subst, _∙_}
-use mathlib.Core.List.{List, _∷_, map}
-use Prim.Native.Nat.{ℕ, zero, suc, _≤_, _<_}
+use mathlib.Core.List.{List, map}
+use Prim.Native.Nat.{ℕ, _≤_, _<_}
 use native.Mathlib.Omega.{arith}
 use lib.ListN.{length, getD, take, length-take}
 use lib.Seq.{getD-take, ext-getD}
 use Rattle.trellis.specs.Bounds.{mostStates}
-use Rattle.trellis.specs.Lists.{_∈_, run, each}
+use Rattle.trellis.specs.Lists.{_∈_, each}
 use Rattle.trellis.specs.Word.{Word}
-use Rattle.trellis.proofs.Lists.{length-run, each-at, each-same, From, in-each, of-each}
+use Rattle.trellis.proofs.Lists.{length-run, each-at, each-same, From, in-each, of-each, map-run}
 use Rattle.ranking.specs.Several.{sortBy}
 use Rattle.ranking.specs.inner.Growth.{Start}
 use Rattle.ranking.proofs.Sorted.{of-sort}
@@ -22,11 +22,6 @@ use Rattle.beginnings.specs.inner.Trails.{stateAt, trail, begunAt, Slots}
 use Rattle.readout.specs.inner.Read.{Placed}
 
 -- ---- lists by their places
-
-map-run : {A B : Type 0} (f : A → B) (g : ℕ → A) (at count : ℕ) → map f (run g at count) ≡ run (λ k. f (g k)) at count
-unfolding run
-map-run f g at zero = refl
-map-run f g at (suc count) = ap (λ l. f (g at) ∷ l) (map-run f g (suc at) count)
 
 take-each : (n : ℕ) (l : List ℕ) → n ≤ length l → take n l ≡ each (λ j. getD l j 0) n
 take-each n l h =

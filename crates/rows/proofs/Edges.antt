@@ -3,7 +3,7 @@
 -- such values.
 use mathlib.Core.Path.{_≡_, refl, sym, ap, subst, _∙_}
 use mathlib.Core.List.{List, [], _∷_, map, Memᴰ·cast}
-use Prim.Native.Nat.{ℕ, zero, suc, _+_, _*_, _/_, _%_, _^_, _≤_, _<_}
+use Prim.Native.Nat.{ℕ, _+_, _*_, _/_, _%_, _^_, _≤_, _<_}
 use native.Mathlib.Omega.{arith}
 use native.Mathlib.Decide.{decLt}
 use lib.ListN.{length, getD}
@@ -11,10 +11,10 @@ use lib.Seq.{ext-getD}
 use lib.Dec.{T, ltb, ltb→lt}
 use lib.Pow.{split, high, low, shr-mono}
 use lib.Bits.{xor-block}
-use Rattle.trellis.specs.Lists.{each, run, rank, ascending, Lower, byFirst, bySecond, byThird}
+use Rattle.trellis.specs.Lists.{each, rank, ascending, Lower, byFirst, bySecond, byThird}
 use Rattle.trellis.specs.Word.{Word}
 use Rattle.trellis.specs.Own.{edge, edgeLess, edgeOf, edgesAt}
-use Rattle.trellis.proofs.Lists.{in-each, of-each, each-at, each-same, length-run}
+use Rattle.trellis.proofs.Lists.{in-each, of-each, each-at, each-same, length-run, map-run}
 use Rattle.trellis.proofs.ThreeNumbers.{lower-of}
 use Rattle.trellis.proofs.Ascending.{Ascends, ascends, in-ascending, of-ascending, ascends-same, rank-at}
 use Rattle.trellis.proofs.Paths.{edges-order}
@@ -26,11 +26,6 @@ use Rattle.rows.proofs.Tables.{in-map, of-map, in-sums, of-sums, sums-a
 use Rattle.rows.proofs.Order.{sums-are}
 
 -- ---- values on the powers of 2
-
-map-run : {A B : Type 0} (f : A → B) (g : ℕ → A) (at count : ℕ) → map f (run g at count) ≡ run (λ i. f (g i)) at count
-unfolding run
-map-run f g at zero = refl
-map-run f g at (suc count) = ap (λ l. f (g at) ∷ l) (map-run f g (suc at) count)
 
 pub sum-values : {f : ℕ → ℕ} → Additive f → (k i : ℕ) → i < 2 ^ k → f i ≡ sumOf (each (λ b. f (2 ^ b)) k) i
 unfolding noRows

@@ -15,7 +15,7 @@ use lib.Dec.{ltb, ltb→lt}
 use Rattle.trellis.specs.Lists.{_∈_, each}
 use Rattle.trellis.specs.Word.{Word, word, wordAt, Before, Table, beginning, ending, joined, Rectangular}
 use Rattle.trellis.proofs.Lists.{in-place, in-each, of-each}
-use Rattle.trellis.proofs.Ascending.{Ascends, numbers, ascends, in-ascending, of-ascending}
+use Rattle.trellis.proofs.Ascending.{Ascends, numbers, ascends, in-ascending, of-ascending, ascends-at}
 use Rattle.rows.specs.Sums.{_⊕_, sumOf, choices, IsSum, sums}
 use Rattle.rows.specs.Table.{wordOf, cutAt, tableOf}
 use Rattle.rows.specs.Check.{ParityCheck, syndromeAt}
@@ -46,12 +46,6 @@ pub map-at : {A B : Type 0} (f : A → B) (d : A) (e : B) (l : List A) (i : ℕ)
 map-at f d e [] i h = absurd (not-suc-le-zero h)
 map-at f d e (x ∷ l) zero h = refl
 map-at f d e (x ∷ l) (suc i) h = map-at f d e l i (omega arith)
-
-ascends-at : (l : List ℕ) → Ascends ltb l → (i j : ℕ) → i < j → j < length l → getD l i 0 < getD l j 0
-ascends-at [] a i j p q = absurd (not-suc-le-zero q)
-ascends-at (x ∷ l) a i zero p q = absurd (not-suc-le-zero p)
-ascends-at (x ∷ l) a zero (suc j) p q = ltb→lt x (getD l j 0) (a .0 (getD l j 0) (in-place 0 l j (omega arith)))
-ascends-at (x ∷ l) a (suc i) (suc j) p q = ascends-at l (a .1) i j (omega arith) (omega arith)
 
 -- ---- all sums, in order
 
@@ -118,7 +112,8 @@ module _ (s n : ℕ) (rows : List ℕ) where
       rise : (i j : ℕ) → i < j → j < length (tableOf s n rows) → Before (wordAt (tableOf s n rows) i) (wordAt (tableOf s n rows) j)
       rise i j p q = subst (λ v. Before v (wordAt (tableOf s n rows) j)) (sym (table-at i (omega arith)))
           (subst (λ v. Before (wordOf s n (sumAt rows i)) v) (sym (table-at j q))
-          (words-rise s n (sumAt rows i) (sumAt rows j) (ascends-at (sums rows) (sums-ascend rows) i j p (omega (arith, table-length)))))
+          (words-rise s n (sumAt rows i) (sumAt rows j)
+          (ltb→lt (sumAt rows i) (sumAt rows j) (ascends-at ltb 0 (sums rows) (sums-ascend rows) i j p (omega (arith, table-length))))))
 
 -- ---- rectangles
 

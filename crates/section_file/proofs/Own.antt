@@ -1,11 +1,10 @@
 -- What merging writes is usable: our section of a rectangular table within bounds is sound. Its counts are no greater than the number of
 -- words, its states are the words' states in order, each edge is some word's, each vertex is on some word's path, and it has no twins.
 use mathlib.Core.Path.{_≡_, refl, sym, ap, subst, _∙_}
-use mathlib.Core.Bool.{Bool, true}
-use mathlib.Core.List.{List, [], _∷_}
-use Prim.Native.Nat.{ℕ, zero, suc, _≤_, _<_}
+use mathlib.Core.Bool.{true}
+use mathlib.Core.List.{List}
+use Prim.Native.Nat.{ℕ, suc, _≤_, _<_}
 use native.Mathlib.Omega.{arith}
-use native.Mathlib.Nat.{not-suc-le-zero}
 use lib.ListN.{length, getD}
 use lib.Dec.{T, ltb, ltb→lt}
 use Rattle.trellis.specs.Bounds.{mostStates, mostWords, mostSymbols, leastQ, mostQ}
@@ -16,7 +15,7 @@ use Rattle.trellis.specs.Own.{Edge, edge, edgeLess, key, keys, vertexOf, vertex
 use Rattle.trellis.proofs.Ours.{ours}
 use Rattle.trellis.specs.Layout.{nOf, vertexCountOf, edgeCountOf, sectionOf}
 use Rattle.trellis.proofs.Lists.{From, in-place, place-of, in-each, of-each}
-use Rattle.trellis.proofs.Ascending.{Ascends, numbers, ascends, of-ascending}
+use Rattle.trellis.proofs.Ascending.{numbers, ascends, of-ascending, ascends-at}
 use Rattle.trellis.proofs.ThreeNumbers.{lower-yes}
 use Rattle.trellis.proofs.Words.{word-in}
 use Rattle.trellis.proofs.Paths.{edges-order}
@@ -43,14 +42,6 @@ pub record Fitting (q n S : ℕ) (words : List Word) : Type 0 where
   pub symbolsBelow : (w : Word) → w ∈ words → (t : ℕ) → t < n → symbol n t (w .label) < q
   pub table : Table n words
   pub rectangular : Rectangular n words
-
--- places of an ascending list ascend
-ascends-at : {A : Type 0} (less : A → A → Bool) (d : A) (l : List A) → Ascends less l → (i j : ℕ) → i < j → j < length l
-    → T (less (getD l i d) (getD l j d))
-ascends-at less d [] a i j h b = absurd (not-suc-le-zero b)
-ascends-at less d (x ∷ l) a i zero h b = absurd (not-suc-le-zero h)
-ascends-at less d (x ∷ l) a zero (suc j) h b = a .0 (getD l j d) (in-place d l j (omega arith))
-ascends-at less d (x ∷ l) a (suc i) (suc j) h b = ascends-at less d l (a .1) i j (omega arith) (omega arith)
 
 module _ (q n S : ℕ) (table : List Word) (A : Fitting q n S table) where
   abbrev l : List ℕ

@@ -7,6 +7,7 @@ use mathlib.Core.List.{List, [], _∷_, _++_, List·Memᴰ·head, List·Memᴰ·
 use mathlib.Core.List.{List·Memᴰ·eq-of-singleton, Memᴰ·append-left, Memᴰ·append-right, Memᴰ·cast}
 use Prim.Native.Nat.{ℕ, zero, suc, _+_, _≤_, _<_}
 use native.Mathlib.Omega.{arith}
+use native.Mathlib.Nat.{not-suc-le-zero}
 use native.Mathlib.Decide.{ℕ-discrete, decLt}
 use lib.ListN.{length, getD}
 use lib.Dec.{T, ltb, ltb→lt, lt→ltb}
@@ -296,3 +297,11 @@ rank-less (x ∷ l) s z m h = go (List·Memᴰ·cases-cons m) (ltb x s) refl (lt
     go (inr u) true f false g r w = let k = ltb→lt x s (holds f) in absurd (fails g (lt→ltb x z (omega arith)))
     go (inr u) false f true g r w = omega arith
     go (inr u) false f false g r w = let k = r u h in omega arith
+
+-- places of an ascending list ascend
+pub ascends-at : {A : Type 0} (less : A → A → Bool) (d : A) (l : List A) → Ascends less l → (i j : ℕ) → i < j → j < length l
+    → T (less (getD l i d) (getD l j d))
+ascends-at less d [] a i j h b = absurd (not-suc-le-zero b)
+ascends-at less d (x ∷ l) a i zero h b = absurd (not-suc-le-zero h)
+ascends-at less d (x ∷ l) a zero (suc j) h b = a .0 (getD l j d) (in-place d l j (omega arith))
+ascends-at less d (x ∷ l) a (suc i) (suc j) h b = ascends-at less d l (a .1) i j (omega arith) (omega arith)

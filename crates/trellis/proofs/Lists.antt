@@ -59,6 +59,11 @@ unfolding run
 run-append f at zero n = ap₂ (λ i k. run f i k) (add-zero at) (sym (zero-add n))
 run-append f at (suc m) n = rw (add-suc at m, ← suc-add at m, suc-add m n) (ap (λ l. f at ∷ l) (run-append f (suc at) m n))
 
+pub map-run : {A B : Type 0} (f : A → B) (g : ℕ → A) (at count : ℕ) → map f (run g at count) ≡ run (λ i. f (g i)) at count
+unfolding run
+map-run f g at zero = refl
+map-run f g at (suc count) = ap (λ l. f (g at) ∷ l) (map-run f g (suc at) count)
+
 pub run-snoc : {A : Type 0} (f : ℕ → A) (at count : ℕ) → run f at (suc count) ≡ run f at count ++ (f (at + count) ∷ [])
 unfolding run
 run-snoc f at zero = ap (λ k. f k ∷ []) (sym (add-zero at))
