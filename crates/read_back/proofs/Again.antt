@@ -1,14 +1,12 @@
 -- Reading back what merging wrote gives the very file that was merged, byte for byte: our section of an accepted rectangular table is
 -- usable, its words are the table's words, and the bytes of those words are the file. Each byte of the file stands at the place where the
 -- file's layout says.
-use mathlib.Core.Path.{_≡_, refl, sym, ap, ap₂, subst, _∙_}
+use mathlib.Core.Path.{_≡_, refl, sym, ap, ap₂, _∙_}
 use mathlib.Core.Bool.{true, cond}
 use mathlib.Core.List.{List, [], _∷_, _++_, flatMap}
 use Prim.Native.Nat.{ℕ, zero, suc, _+_, _*_, _/_, _%_, _<_}
 use native.Mathlib.Omega.{arith}
-use native.Mathlib.Nat.{zero-add}
 use lib.ListN.{length, getD}
-use lib.Seq.{ext-getD}
 use lib.Dec.{ltb}
 use borrow.Author.Tests.{le-ltb, eq-eqb}
 use Rattle.trellis.specs.Bounds.{mostWords}
@@ -16,7 +14,7 @@ use Rattle.trellis.specs.Lists.{run, over}
 use Rattle.trellis.specs.Word.{Word, Rectangular}
 use Rattle.trellis.specs.Outcome.{success, shortBuffer}
 use Rattle.trellis.specs.Layout.{sectionLength, sectionOf}
-use Rattle.trellis.proofs.Lists.{length-run, run-at, run-append}
+use Rattle.trellis.proofs.Lists.{run-whole, run-append}
 use Rattle.trellis.proofs.OwnLaid.{own-q, own-n, own-states, own-length}
 use Rattle.label.proofs.Packing.{label-packed}
 use Rattle.reader.specs.Fields.{byteAt, twoBytes, wordCount, fileWord, fileWords}
@@ -29,11 +27,6 @@ use Rattle.read_back.specs.TableBytes.{bytesOf, pairBytes, labelBytes, t
 use Rattle.read_back.specs.ReadingBack.{left, isSection, readingBack}
 
 -- ---- the file from its bytes
-
-run-whole : (file : List ℕ) → run (λ i. getD file i 0) 0 (length file) ≡ file
-run-whole file = ext-getD 0 (run (λ i. getD file i 0) 0 (length file)) file (length-run (λ i. getD file i 0) 0 (length file))
-    (λ i h. run-at (λ i. getD file i 0) 0 (length file) i 0 (subst (λ m. i < m) (length-run (λ i. getD file i 0) 0 (length file)) h)
-    ∙ ap (λ k. getD file k 0) (zero-add i))
 
 two-more : {A : Type 0} (f : ℕ → A) (a c : ℕ) → run f a (2 * suc c) ≡ f a ∷ f (a + 1) ∷ run f (a + 2) (2 * c)
 unfolding run
@@ -121,7 +114,7 @@ good-fits {file} {q} {n} {S} {words} G R = record {
 -- ---- merged and read back
 
 module _ (q n S : ℕ) (words : List Word) (A : Fitting q n S words) where
-  own-is-section : isSection (sectionOf q n S words) ≡ true
+  pub own-is-section : isSection (sectionOf q n S words) ≡ true
   unfolding isSection
   own-is-section =
       let u = own-usable q n S words A in

@@ -306,7 +306,7 @@ fn put_words(section: &[u16], at: View, file: &mut [u8]) -> ReadBack
 }
 
 // The section that a slice is: usable, with no numbers left over.
-fn section_of(s: &[u16]) -> Part
+pub fn section_of(s: &[u16]) -> Part
     ensures { λ r. ⌜ r ≡ wholePart (now (s .entry)) ⌝ }
 {
     let part = usable_at(s, 0);

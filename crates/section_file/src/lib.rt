@@ -14,7 +14,7 @@ ghost use Rattle.section_file.specs.inner.View.{viewOf, Laid};
 ghost use Rattle.section_file.specs.inner.Answer.{partOf, edgeIn, heldEdge, meantEdge};
 
 mod states;
-mod twins;
+pub mod twins;
 
 use numbers::number;
 use numbers::total;

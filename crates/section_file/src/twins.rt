@@ -17,7 +17,7 @@ use trellis::MOST_Q;
 use trellis::MOST_WORDS;
 
 // Edge k, on the way back with from and to in each other's place.
-fn edge_met(pairs: &[u16], symbols: &[u16], k: usize, back: bool) -> Edge
+pub fn edge_met(pairs: &[u16], symbols: &[u16], k: usize, back: bool) -> Edge
     requires { ⌜ (2 * k + 1 < length (now pairs)) × (k < length (now symbols)) ⌝ }
     ensures { λ r. ⌜ r ≡ heldEdge (turnedIn back (now (pairs .entry)) (now (symbols .entry)) k) ⌝ }
 {

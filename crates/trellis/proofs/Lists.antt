@@ -10,7 +10,7 @@ use native.Mathlib.Omega.{arith}
 use native.Mathlib.Nat.{not-suc-le-zero, add-zero, add-suc, suc-add, zero-add, mul-zero, mul-add, le-antisymm, le-of-eq}
 use native.Mathlib.Decide.{decLt}
 use lib.ListN.{length, getD, take, drop, length-append, length-drop}
-use lib.Seq.{take-all}
+use lib.Seq.{take-all, ext-getD}
 use lib.Dec.{T}
 use borrow.Author.Tests.{lt-ltb, le-ltb}
 use Rattle.trellis.specs.Lists.{_∈_, run, each, sum, first, isIn, rank}
@@ -36,6 +36,12 @@ run-at f at (suc count) (suc k) d h = run-at f (suc at) count k d (omega arith) 
 
 pub each-at : {A : Type 0} (f : ℕ → A) (count k : ℕ) (d : A) → k < count → getD (each f count) k d ≡ f k
 each-at f count k d h = run-at f 0 count k d h ∙ ap f (zero-add k)
+
+-- a list is the run of its elements
+pub run-whole : (l : List ℕ) → each (λ i. getD l i 0) (length l) ≡ l
+run-whole l =
+    let long = length-run (λ i. getD l i 0) 0 (length l) in
+    ext-getD 0 (each (λ i. getD l i 0) (length l)) l long (λ k h. each-at (λ i. getD l i 0) (length l) k 0 (subst (λ m. k < m) long h))
 
 -- values that agree, from wherever each run begins
 pub run-shift : {A : Type 0} (f g : ℕ → A) (at to count : ℕ) → ((k : ℕ) → k < count → f (at + k) ≡ g (to + k))

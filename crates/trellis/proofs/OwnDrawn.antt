@@ -34,7 +34,7 @@ run-ascends at (suc count) = (
   run-ascends (suc at) count,
 )
 
-once-each : (count : ℕ) → Once (each (λ v. v) count)
+pub once-each : (count : ℕ) → Once (each (λ v. v) count)
 once-each count = once-of ltb numbers (each (λ v. v) count) (run-ascends 0 count)
 
 below-each : (count v : ℕ) → v ∈ each (λ v. v) count → v < count
