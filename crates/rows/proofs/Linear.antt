@@ -3,7 +3,7 @@
 -- addition as well. There are 2 ^ d vertices, and d is at most the number of bits before the cut, and at most that behind it, since either
 -- part of a word decides its syndrome: before the cut by definition, and behind it because the whole word has syndrome 0.
 use mathlib.Core.Path.{_≡_, refl, sym, ap, subst, _∙_}
-use mathlib.Core.List.{List, [], _∷_, map, List·Memᴰ·head, List·Memᴰ·tail, Memᴰ·cast}
+use mathlib.Core.List.{List, map}
 use Prim.Native.Nat.{ℕ, zero, suc, _+_, _*_, _/_, _%_, _^_, _≤_, _<_}
 use native.Mathlib.Omega.{arith}
 use native.Mathlib.Nat.{mod-lt, mod-le, le-antisymm}
@@ -12,11 +12,11 @@ use lib.ListN.{length, length-map}
 use lib.Seq.{ext-getD}
 use lib.Dec.{ltb, eqb, eqb→eq, eqb-refl}
 use lib.Pow.{pow-pos, pow-lt, pow-mono, shr-lt, shr-le}
-use Rattle.trellis.specs.Lists.{_∈_, Once, each, rank, ascending}
+use Rattle.trellis.specs.Lists.{_∈_, each, rank, ascending}
 use Rattle.trellis.specs.Own.{keys, vertexOf, vertexCount}
 use Rattle.trellis.proofs.Lists.{From, in-each, of-each, each-at, length-run}
 use Rattle.trellis.proofs.Ascending.{numbers, once-of, ascends, of-ascending}
-use Rattle.trellis.proofs.Distinct.{distinct-le, le-distinct}
+use Rattle.trellis.proofs.Distinct.{once-le, once-map}
 use Rattle.trellis.proofs.Vertices.{vertex-below}
 use Rattle.runs.specs.inner.Runs.{firstLike}
 use Rattle.runs.proofs.FirstLike.{like-le, like-is, like-least, like-eq, like-twice}
@@ -57,25 +57,13 @@ numbered {g} A (suc b) = go (numbered A b) (decLt (firstLike g (2 ^ b)) (2 ^ b))
 
 -- ---- there are no more numbers than values
 
-once-map : (g : ℕ → ℕ) (l : List ℕ) → Once l → ((x y : ℕ) → x ∈ l → y ∈ l → g x ≡ g y → x ≡ y) → Once (map g l)
-once-map g [] o h = tt
-once-map g (x ∷ l) o h = (
-  λ m. let I = of-map g l (g x) m in
-      o .0 (Memᴰ·cast (h x (I .source) (List·Memᴰ·head refl) (List·Memᴰ·tail (I .listed)) (I .is)) (I .listed)),
-  once-map g l (o .1) (λ a b p q. h a b (List·Memᴰ·tail p) (List·Memᴰ·tail q)),
-)
-
--- a list without repeats is no longer than one that has all its elements
-once-le : (l k : List ℕ) → Once l → ((x : ℕ) → x ∈ l → x ∈ k) → length l ≤ length k
-once-le l k o h = omega (arith, le-distinct eqb eqb→eq eqb-refl k l o h, distinct-le eqb eqb→eq eqb-refl k k (λ x m. m))
-
 -- where all values of g are among m values, there are at most m numbers
 numbers-few : (g : ℕ → ℕ) (W : ℕ) (value : ℕ → ℕ) (m : ℕ) → ((i : ℕ) → i < W → From value m (g i)) → numbersBelow g W ≤ m
 numbers-few g W value m h = omega (
   arith,
   length-counts W (firstLike g) (λ i k. like-le g i) (λ i k. like-twice g i),
   length-map firsts g,
-  once-le (map g firsts) (each value m)
+  once-le eqb eqb→eq eqb-refl (map g firsts) (each value m)
       (once-map g firsts (once-of ltb numbers firsts (ascends ltb numbers (each (firstLike g) W))) apart) inside,
   length-run value 0 m,
 )

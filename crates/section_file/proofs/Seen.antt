@@ -140,7 +140,7 @@ module _ (l : List ℕ) (i : ℕ) {pairs symbols : ℕ} (p : pairs ≡ pairsPlac
 -- ---- end states
 
 -- numbers that ascend strictly are no smaller than their places
-rising-from : (f : ℕ → ℕ) (count : ℕ) → ((u v : ℕ) → u < v → v < count → f u < f v) → (v : ℕ) → v < count → v ≤ f v
+pub rising-from : (f : ℕ → ℕ) (count : ℕ) → ((u v : ℕ) → u < v → v < count → f u < f v) → (v : ℕ) → v < count → v ≤ f v
 rising-from f count a zero h = omega arith
 rising-from f count a (suc v) h = omega (arith, rising-from f count a v (omega arith), a v (suc v) (omega arith) h)
 

@@ -4,7 +4,8 @@
 use mathlib.Core.Path.{_≡_, refl, sym, ap, subst, _∙_}
 use mathlib.Core.Bool.{Bool, true, false}
 use mathlib.Core.Logic.{_⊎_, inl, inr}
-use mathlib.Core.List.{List, [], _∷_, List·Memᴰ·head, List·Memᴰ·tail, List·Memᴰ·not-nil, List·Memᴰ·cases-cons, Memᴰ·cast}
+use mathlib.Core.List.{List, [], _∷_, map, List·Memᴰ·head, List·Memᴰ·tail, List·Memᴰ·not-nil, List·Memᴰ·cases-cons}
+use mathlib.Core.List.{Memᴰ·cast, Memᴰ·of-map}
 use Prim.Native.Nat.{ℕ, zero, suc, _+_, _≤_, _<_}
 use native.Mathlib.Omega.{arith}
 use native.Mathlib.Nat.{not-suc-le-zero, le-antisymm}
@@ -147,6 +148,18 @@ module _ {A : Type 0} (eq : A → A → Bool) where
     -- a list without repeats that has just the values of l is as long as l has different values
     pub length-distinct : (l L : List A) → Once L → ((x : A) → x ∈ L → x ∈ l) → ((x : A) → x ∈ l → x ∈ L) → length L ≡ distinct l
     length-distinct l L o a b = le-antisymm (le-distinct l L o a) (distinct-le l L b)
+
+    -- a list without repeats is no longer than one that has all its values
+    pub once-le : (l L : List A) → Once l → ((x : A) → x ∈ l → x ∈ L) → length l ≤ length L
+    once-le l L o h = omega (arith, le-distinct L l o h, distinct-le L L (λ x m. m))
+
+-- what is taken from a list without repeats, no two to one, has no repeats
+pub once-map : {A B : Type 0} (f : A → B) (l : List A) → Once l → ((x y : A) → x ∈ l → y ∈ l → f x ≡ f y → x ≡ y) → Once (map f l)
+once-map f [] o h = tt
+once-map f (x ∷ l) o h = (
+  λ m. let z = Memᴰ·of-map f l m in o .0 (Memᴰ·cast (h x (z .0) (List·Memᴰ·head refl) (List·Memᴰ·tail (z .1)) (sym (z .2))) (z .1)),
+  once-map f l (o .1) (λ a b p q. h a b (List·Memᴰ·tail p) (List·Memᴰ·tail q)),
+)
 
 -- ---- the values f 0 .. f (W - 1) of a function, the last first
 
