@@ -1,0 +1,2 @@
+-- What it means that two sections differ only by the numbers of inner vertices.
+pub mod Matching
