@@ -109,7 +109,7 @@ module _ {file : List ℕ} {q n states : ℕ} {table : List Word} {map section :
   -- ---- the section left
 
   module _ (A : IsAccepted (merging file map section)) where
-    is-ours : sectionLeft (merging file map section) ≡ sectionOf q n states table
+    pub is-ours : sectionLeft (merging file map section) ≡ sectionOf q n states table
     is-ours =
         let e = succeeded (witness-none n table .1 (only A)) in
         ap sectionLeft e ∙ take-front (sectionOf q n states table) (drop (length (sectionOf q n states table)) section)

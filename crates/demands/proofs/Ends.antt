@@ -22,12 +22,13 @@ use Rattle.rows.specs.Table.{rowWidth, tableOf}
 use Rattle.merge_rows.specs.MergingRows.{MergingRows, sizesFit, firstWide, rowsFile, withFile, mergedRows, mergingRows}
 use Rattle.paths.specs.Choice.{Choice, none, some}
 use Rattle.read_back.specs.ReadingBack.{ReadingBack, isSection, fileLength, readingBack}
+use Rattle.same_section.specs.Comparing.{comparing}
 use Rattle.sections.specs.Sections.{sectionsBad}
 use Rattle.chain.specs.Frame.{Frame, blockCount, frameBad, blockBad}
 use Rattle.chain.specs.Decoding.{Decoding, left, neededOf, bestOf, found as decoded, fitted, framed, decoding}
 use Rattle.chain_list.specs.Listing as listing
 use Rattle.chain_list.specs.Listing.{Listing, found as listed}
-use Rattle.demands.specs.Demands.{MergingEnds, MergingRowsEnds, ReadingBackEnds, DecodingEnds, ListingEnds}
+use Rattle.demands.specs.Demands.{MergingEnds, MergingRowsEnds, ReadingBackEnds, ComparingEnds, DecodingEnds, ListingEnds}
 
 -- what holds of both ends of a test
 ends : {A : Type 0} (P : A → Type 0) (b : Bool) {x y : A} → P x → P y → P (cond b x y)
@@ -134,6 +135,14 @@ reading-back-ends section file =
   where
     Kept : ReadingBack → Type 0
     Kept r = ReadingBackEnds file r
+
+-- ---- comparing
+
+pub comparing-ends : (a b : List ℕ) → ComparingEnds (comparing a b)
+unfolding comparing isIn
+comparing-ends a b =
+    ends ComparingEnds (not (isSection a)) (record { listed = is-in 8 _ tt })
+    (ends ComparingEnds (not (isSection b)) (record { listed = is-in 8 _ tt }) (record { listed = is-in 0 _ tt }))
 
 -- ---- decoding
 

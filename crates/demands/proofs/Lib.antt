@@ -1,4 +1,4 @@
--- Why the demands are met, and why an erased symbol's cost leaves the winning path alone.
+-- Why the demands are met, why an erased symbol's cost leaves the winning path alone, and that a section can be numbered otherwise.
 pub mod Ends
 pub mod SameDrawing
 pub mod Demanded
@@ -7,4 +7,6 @@ pub mod Several
 pub mod Erasures
 pub mod TableBytes
 pub mod Rows
+pub mod Only
+pub mod Exchanged
 pub mod Demands

@@ -1,6 +1,6 @@
--- The three demands, quoted sentence by sentence, each with its statement. It speaks of `merging`, `mergingRows`, `readingBack`, `decoding`
--- and `listing`: what the calls leave for all arguments, by their promises. That nothing but lent memory is touched is the form of these
--- promises: they give the answer and the whole content of every buffer lent for writing.
+-- The three demands, quoted sentence by sentence, each with its statement. It speaks of `merging`, `mergingRows`, `readingBack`,
+-- `comparing`, `decoding` and `listing`: what the calls leave for all arguments, by their promises. That nothing but lent memory is touched
+-- is the form of these promises: they give the answer and the whole content of every buffer lent for writing.
 use mathlib.Core.Path.{_≡_}
 use mathlib.Core.Logic.{_↔_}
 use mathlib.Core.List.{List, [], _∷_}
@@ -16,12 +16,14 @@ use Rattle.table.specs.File.{tableFile, accepted}
 use Rattle.merge.specs.Merging.{Merging, mapLength, merging}
 use Rattle.merge_rows.specs.MergingRows.{MergingRows, mergingRows}
 use Rattle.read_back.specs.ReadingBack.{ReadingBack, left, readingBack}
+use Rattle.same_section.specs.Comparing.{comparing}
 use Rattle.chain.specs.Frame.{Frame}
 use Rattle.chain.specs.Decoding.{Decoding, decoding}
 use Rattle.chain_list.specs.Listing.{Listing, listing}
 use Rattle.demands.specs.Decoded.{Meaning}
 use Rattle.demands.specs.Several.{ListMeaning}
 use Rattle.demands.specs.Rows.{RowsMeaning}
+use Rattle.demands.specs.Only.{Only, ComparingMeaning}
 
 -- ---- demand 1: "The call ends with an outcome from a fixed list, touches only lent memory, and each refusal states a fixed result and
 -- a fixed content of every buffer."
@@ -58,6 +60,10 @@ pub record MergingRowsEnds (file map section : List ℕ) (r : MergingRows) : Typ
   pub listed : OneOf (0 ∷ 14 ∷ 15 ∷ 10 ∷ 5 ∷ 7 ∷ []) (r .answer)
   pub othersKept : 0 < r .answer .number → (r .file ≡ file) × (r .section ≡ section)
   pub mapKept : OneOf (14 ∷ 15 ∷ 10 ∷ 5 ∷ []) (r .answer) → r .map ≡ map
+
+-- document 02's request 8: comparing writes nothing, and ends so
+pub record ComparingEnds (o : Outcome) : Type 0 where
+  pub listed : OneOf (0 ∷ 8 ∷ []) o
 
 -- ---- demand 2
 
@@ -99,6 +105,8 @@ pub record SameWords (file : List ℕ) (q n states : ℕ) (table : List Word) (l
 -- "The decoder names a path of least distance, the first such in word order, and says there is none only when there is none": `Meaning`,
 -- in the file beside this one
 
+-- document 02's request 8, "The section is the only one": `Only`, and `ComparingMeaning` of comparing, in the file beside this one
+
 -- ---- demand 3: "Of all sections that anyone can draw for an accepted table, none has fewer vertices at any depth, fewer edges at any
 -- step, or fewer selections in all than ours, by the counts that stand in the buffer; and ours is itself such a section."
 
@@ -113,6 +121,7 @@ pub record Demands : Type 0 where
   pub mergingRowsEnds : (s n : ℕ) (rows file map section : List ℕ)
       → MergingRowsEnds file map section (mergingRows s n rows file map section)
   pub readingBackEnds : (section file : List ℕ) → ReadingBackEnds file (readingBack section file)
+  pub comparingEnds : (a b : List ℕ) → ComparingEnds (comparing a b)
   pub decodingEnds : (f : Frame) (costs labels goals masks : List ℕ)
       → DecodingEnds costs labels goals masks (decoding f costs labels goals masks)
   pub listingEnds : (f : Frame) (paths : ℕ) (costs distances labels goals : List ℕ)
@@ -121,6 +130,9 @@ pub record Demands : Type 0 where
       → Decided n table (merging file map section)
   pub sameWords : {file map section : List ℕ} {q n states : ℕ} {table : List Word} → Fair file q n states table map section
       → IsAccepted (merging file map section) → SameWords file q n states table (sectionLeft (merging file map section))
+  pub only : {file map section : List ℕ} {q n states : ℕ} {table : List Word} → Fair file q n states table map section
+      → IsAccepted (merging file map section) → Only q n states table (sectionLeft (merging file map section))
+  pub comparer : (a b : List ℕ) → ComparingMeaning a b
   pub rows : (s n : ℕ) (rows : List ℕ) → RowsMeaning s n rows
   pub decoder : (f : Frame) (costs labels goals masks : List ℕ)
       → Meaning f (decoding f costs labels goals masks)

@@ -2,4 +2,5 @@
 pub mod Decoded
 pub mod Several
 pub mod Rows
+pub mod Only
 pub mod Demands
