@@ -25,7 +25,7 @@ numbered H ea eb ec ed = record {
   valuesAre = (λ t. ea t ∷ eb t ∷ ec t ∷ ed t ∷ []) ∙ ap fourOf (H .valuesAre);
 }
 
-numbered-by : {o p : Outcome} {number : ℕ} {values : List ℕ} → o ≡ p → Numbered o number values → Numbered p number values
+pub numbered-by : {o p : Outcome} {number : ℕ} {values : List ℕ} → o ≡ p → Numbered o number values → Numbered p number values
 numbered-by {o} {p} {number} {values} e N = subst (λ x. Numbered x number values) e N
 
 pub merge-left :

@@ -11,6 +11,7 @@ ghost use Rattle.link_kit.specs.Left.{MergeLeft, ReadBackLeft, DecodeLef
 
 mod answers;
 mod rows;
+mod same;
 mod several;
 
 pub use chain::Decoded;
@@ -31,6 +32,8 @@ pub use records::BlockRecord;
 pub use records::Counted;
 pub use records::Sums;
 pub use records::count as count_records;
+pub use same_section::SameSection;
+pub use same_section::same_section;
 pub use sheet::block_sheet;
 
 // Merges the table in `file`.
