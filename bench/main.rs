@@ -1,6 +1,6 @@
-//! The benchmark: merging, refusing, merging the sums of rows, decoding and listing several paths by the kit, by its own algorithm in plain Rust with bounds
-//! checks and without, and, for merging, with hash maps, side by side in one run; then what the kit is held to. Started with the words of a call it does
-//! just that call in all its ways, for their instructions to be counted.
+//! The benchmark: merging, refusing, merging the sums of rows, comparing sections, decoding and listing several paths by the kit, by its own algorithm in
+//! plain Rust with bounds checks and without, and, for merging, with hash maps, side by side in one run; then what the kit is held to. Started with the words
+//! of a call it does just that call in all its ways, for their instructions to be counted.
 
 #[path = "../tests/common/mod.rs"]
 mod common;
@@ -12,6 +12,7 @@ mod plain_decode;
 mod plain_list;
 mod plain_merge;
 mod plain_rows;
+mod plain_same;
 mod plain_section;
 mod plain_witness;
 mod reading;
@@ -66,6 +67,12 @@ fn rows_row(code: usize, name: &str, table: &Table) -> Row {
     ways::rows_alike(table);
     let sizes = vec![table.words.len(), edges(&section(table))];
     Row::new(name.to_string(), sizes, &words("rows", &[code]), 3)
+}
+
+fn same_row(code: usize, name: &str, table: &Table) -> Row {
+    ways::same_alike(table);
+    let sizes = vec![table.words.len(), edges(&section(table))];
+    Row::new(name.to_string(), sizes, &words("same", &[code]), 3)
 }
 
 /// What one block more takes, between a chain and its first block.
@@ -189,6 +196,12 @@ fn main() {
         .map(|(code, (name, table))| rows_row(code, name, table))
         .collect();
     print_rows("merging the sums of rows", &["words", "edges"], 3, &merging_rows);
+    print_rows(
+        "comparing with the same renumbered",
+        &["words", "edges"],
+        3,
+        &rows(&same_row),
+    );
     let mut refusing: Vec<Row> = refusals::kept().iter().map(|hard| refusal_row(hard, "kept:")).collect();
     refusing.extend(refusals::found().iter().map(|hard| refusal_row(hard, "found:")));
     print_rows("refusing", &["words", "depth"], 3, &refusing);

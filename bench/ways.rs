@@ -4,17 +4,20 @@ use super::access::{Checked, Unchecked};
 use super::common::archive::{Buffers, Frame, ListBuffers};
 use super::common::codes::{benchmarked, case_3};
 use super::common::hard::hard;
+use super::common::merging::section_of;
 use super::common::rows::Generator;
+use super::common::sections::whole;
 use super::common::tables::Table;
 use super::common::{Numbers, frames};
 use super::measuring::Job;
-use super::{hashed, plain_decode, plain_list, plain_merge, plain_rows};
-use link_kit::{ANY_FILE, ANY_MAP, ANY_SECTION, Decoded, DecodedList, ListRoom, Merged, MergedRows, Room};
+use super::{hashed, plain_decode, plain_list, plain_merge, plain_rows, plain_same};
+use link_kit::{ANY_FILE, ANY_MAP, ANY_SECTION, Decoded, DecodedList, ListRoom, Merged, MergedRows, Room, SameSection};
 
 pub const BLOCKS: usize = 256;
 
 type Merging = fn(&[u8], &mut [u16], &mut [u16]) -> Merged;
 type MergingRows = fn(usize, usize, &[u16], &mut [u8], &mut [u16], &mut [u16]) -> MergedRows;
+type Comparing = fn(&[u16], &[u16]) -> SameSection;
 type Decoding = fn(&link_kit::Frame, Room) -> Decoded;
 type Listing = fn(&link_kit::Frame, usize, ListRoom) -> DecodedList;
 
@@ -31,6 +34,11 @@ const MERGING_ROWS: [MergingRows; 3] = [
     link_kit::merge_rows,
     plain_rows::merge_rows::<Checked>,
     plain_rows::merge_rows::<Unchecked>,
+];
+const COMPARING: [Comparing; 3] = [
+    link_kit::same_section,
+    plain_same::same_section::<Checked>,
+    plain_same::same_section::<Unchecked>,
 ];
 const DECODING: [Decoding; 3] = [
     link_kit::decode,
@@ -64,6 +72,20 @@ fn rows_job(Generator { state_bits, n, rows }: Generator, merge: MergingRows) ->
     let (mut file, mut map, mut section) = (vec![0; ANY_FILE], vec![0; ANY_MAP], vec![0; ANY_SECTION]);
     Box::new(move || {
         std::hint::black_box(merge(state_bits, n, &rows, &mut file, &mut map, &mut section));
+    })
+}
+
+/// A code's section, and the same renumbered.
+fn two_sections(table: &Table) -> [Vec<u16>; 2] {
+    let own = section_of(table);
+    let section = whole(&own).expect("a usable section");
+    let other = section.renumbered(&mut Numbers::new()).numbers();
+    [own, other]
+}
+
+fn same_job([own, other]: [Vec<u16>; 2], compare: Comparing) -> Job {
+    Box::new(move || {
+        std::hint::black_box(compare(&own, &other));
     })
 }
 
@@ -106,8 +128,8 @@ fn list_jobs(frame: &Frame, paths: usize) -> [Job; 3] {
     })
 }
 
-/// The jobs of a call in all its ways, for words that name it: `merge CODE`; `rows CODE`; `decode CODE` and `list CODE PATHS`, a chain in all ways and
-/// then its first block; `frame`, one block of case 3; `refuse FAMILY NUMBER..`.
+/// The jobs of a call in all its ways, for words that name it: `merge CODE`; `rows CODE`; `same CODE`; `decode CODE` and `list CODE PATHS`, a chain in all
+/// ways and then its first block; `frame`, one block of case 3; `refuse FAMILY NUMBER..`.
 pub fn jobs(words: &[String]) -> Vec<Job> {
     let number = |word: &String| word.parse::<usize>().expect("a number");
     let code = |word: &String| benchmarked()[number(word)].1.clone();
@@ -115,6 +137,9 @@ pub fn jobs(words: &[String]) -> Vec<Job> {
         "merge" => MERGING.map(|merge| merge_job(&code(&words[1]), merge)).into(),
         "rows" => MERGING_ROWS
             .map(|merge| rows_job(rows_of(&code(&words[1])), merge))
+            .into(),
+        "same" => COMPARING
+            .map(|compare| same_job(two_sections(&code(&words[1])), compare))
             .into(),
         "decode" => chain(&code(&words[1])).iter().flat_map(decode_jobs).collect(),
         "list" => {
@@ -154,6 +179,18 @@ pub fn rows_alike(table: &Table) {
         (answer, file, map, section)
     });
     assert!(left[0] == left[1] && left[0] == left[2], "merging rows differs");
+}
+
+/// All ways find a code's section the same as itself renumbered, other than that of case 3, and unusable without its last number.
+pub fn same_alike(table: &Table) {
+    let [own, other] = two_sections(table);
+    for compare in COMPARING {
+        assert_eq!(compare(&own, &other), SameSection::Same, "comparing differs");
+        let cut = compare(&own, &other[..other.len() - 1]);
+        assert_eq!(cut, SameSection::Unusable(1), "comparing differs");
+        let case = compare(&own, &section_of(&case_3()));
+        assert_eq!(case, SameSection::Different, "comparing differs");
+    }
 }
 
 /// The same of a code's chain and of its first block.

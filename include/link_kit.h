@@ -1,4 +1,4 @@
-/* The link kit for C and C++ on x86-64, seven functions: link with liblink_kit.a, which `rt staticlib link_kit` writes. Table files, sections, frames,
+/* The link kit for C and C++ on x86-64, eight functions: link with liblink_kit.a, which `rt staticlib link_kit` writes. Table files, sections, frames,
  * block sheets and outcomes are those of document 01, the customer's paper on tables, sections and outcomes, with what the requests of document 02
  * changed; docs/FORMATS.md says all of them, with a worked table. The outcome numbers are the LINK_ constants below.
  *
@@ -18,7 +18,8 @@ extern "C" {
 #endif
 
 /* Outcomes, what values holds, and what the buffers hold then; "unchanged" means every buffer but values. */
-#define LINK_SUCCESS 0u         /* section's, file's or text's length, distance or number of paths; places beyond those written are unchanged */
+#define LINK_SUCCESS 0u         /* section's, file's or text's length, distance, number of paths, or 1 or 0 for two sections that are the same or not;
+                                 * places beyond those written are unchanged */
 #define LINK_FILE_LENGTH 1u     /* file length: under 5 bytes, or not 5 + 4 W; unchanged */
 #define LINK_SIZE 2u            /* 0 to 3, the first of q, n, S, W outside its bounds; unchanged */
 #define LINK_WORD 3u            /* first word with a state not below S, a label not below 4^n, or a symbol not below q; unchanged */
@@ -26,7 +27,8 @@ extern "C" {
 #define LINK_SHORT_MAP 5u       /* W (n + 1), the places that the map needs; unchanged */
 #define LINK_NOT_RECTANGULAR 6u /* depth, and words i, j, k that force a word which is missing; first W (n + 1) places of the map 0, else unchanged */
 #define LINK_SHORT_SECTION 7u   /* length that the section needs; map as on success, others unchanged */
-#define LINK_UNUSABLE 8u        /* K if outside its bounds; else the first unusable section; else K, for numbers left over; unchanged */
+#define LINK_UNUSABLE 8u        /* K if outside its bounds; else the first unusable section; else K, for numbers left over; of two sections the first
+                                 * that is unusable or has numbers left over, 0 or 1; unchanged */
 #define LINK_BLOCK 9u           /* first bad block, or B for a fault of lengths or states; unchanged */
 #define LINK_SHORT_BUFFER 10u   /* least length that the first short buffer needs; unchanged */
 #define LINK_NO_PATH 11u        /* nothing; cost table as on success, others unchanged */
@@ -71,6 +73,7 @@ extern "C" {
 #define LINK_MERGE_STACK 35840u
 #define LINK_MERGE_ROWS_STACK 22016u
 #define LINK_READ_BACK_STACK 19456u
+#define LINK_SAME_SECTION_STACK 29696u
 #define LINK_DECODE_STACK 20992u
 #define LINK_DECODE_LIST_STACK 91648u
 #define LINK_LISTING_STACK 55296u
@@ -93,6 +96,12 @@ uint32_t link_merge_rows(size_t state_bits, size_t n, const uint16_t *rows, size
 /* Writes the table file of a section's words. Success returns the file's length.
  * Outcomes 0, 8 (with 0, for numbers left over too), 12, 10, checked in this order. */
 uint32_t link_read_back(const uint16_t *section, size_t section_len, uint8_t *file, size_t file_len, uint32_t values[4]);
+
+/* Says whether two sections are the same but for the numbers of inner vertices. Success returns 1 if they have the same q, n, S and words: then there is
+ * just one matching of the vertices of each depth that keeps end states and symbols and carries edges to edges. Else it returns 0. Words are not listed,
+ * and there may be any number of them; a and b may be the same memory. Nothing but values is written.
+ * Outcomes 0 and 8 (with 0 for a, else with 1 for b, for numbers left over too). */
+uint32_t link_same_section(const uint16_t *a, size_t a_len, const uint16_t *b, size_t b_len, uint32_t values[4]);
 
 /* Finds the first path of least distance through a chain of blocks over k sections, which stand one behind another in `sections`. Block b goes
  * through section indices[b]; received[b] is its received label and erased[b] its erasure mask of n bits, the first symbol highest; an erased

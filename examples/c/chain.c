@@ -1,6 +1,6 @@
-/* Merges the table of labels 00 and 11 (marked case 3) and prints its sizes, decodes two blocks received as 01 and 11 (marked case 7), prints the
- * path and which symbols were wrong, lists the best paths up to the first whose check sum is right, prints what both blocks cost, and makes the table and
- * the section of a code from its generator rows. Valid C and C++. */
+/* Merges the table of labels 00 and 11 (marked case 3) and prints its sizes, compares its section with one that is numbered otherwise, decodes two blocks
+ * received as 01 and 11 (marked case 7), prints the path and which symbols were wrong, lists the best paths up to the first whose check sum is right, prints
+ * what both blocks cost, and makes the table and the section of a code from its generator rows. Valid C and C++. */
 #include "link_kit.h"
 
 #include <stdio.h>
@@ -20,6 +20,17 @@ static uint32_t costs[LINK_COSTS_LEN(BLOCKS)];
 static int refused(const char *call, uint32_t number, const uint32_t values[4]) {
     fprintf(stderr, "%s: refused %u, %u %u %u %u\n", call, number, values[0], values[1], values[2], values[3]);
     return 1;
+}
+
+/* The section as somebody else may draw it, with the two vertices at depth 1 in the other order: 00 goes through vertex 1 and 11 through vertex 0. */
+static int print_same(size_t length) {
+    static const uint16_t drawn[] = {2, 2, 1, /* */ 1, 2, 1, /* */ 2, 2, /* */ 0, 0, /* */ 0, 1, 0, 0, 0, 0, 1, 0, /* */ 0, 1, 1, 0};
+    uint32_t values[4];
+    uint32_t number = link_same_section(section, length, drawn, sizeof drawn / sizeof drawn[0], values);
+    if (number != LINK_SUCCESS)
+        return refused("same section", number, values);
+    printf("with inner vertices in another order: %s\n", values[0] == 1 ? "the same section" : "another section");
+    return 0;
 }
 
 static int print_path(size_t length) {
@@ -117,5 +128,5 @@ int main(void) {
     if (number != LINK_SUCCESS || values[0] != sizeof file || memcmp(file, again, sizeof file) != 0)
         return refused("read back", number, values);
 
-    return print_path(length) || print_list(length) || print_sheet() || print_rows();
+    return print_same(length) || print_path(length) || print_list(length) || print_sheet() || print_rows();
 }

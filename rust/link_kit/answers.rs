@@ -51,6 +51,17 @@ pub enum ReadBack {
     Short(usize),
 }
 
+/// What comparing two sections answers.
+#[derive(Clone, Copy, PartialEq, Eq, Debug)]
+pub enum SameSection {
+    /// Both have the same q, n, S and words: they differ at most in the numbers of inner vertices.
+    Same,
+    /// They have not.
+    Different,
+    /// 0 if the first section is not usable or numbers are left over behind it, else 1 if the second is so.
+    Unusable(usize),
+}
+
 /// What decoding answers.
 #[derive(Clone, Copy, PartialEq, Eq, Debug)]
 pub enum Decoded {

@@ -1,7 +1,7 @@
-//! The link kit for Rust: tables merged into trellis sections, tables and sections made from generator rows, sections read back, chains of blocks
-//! decoded to their best path or to several of the best, sizes listed, block sheets added up. Safe calls of `liblink_kit.a`, whose every answer and every
-//! place of every buffer is proved to be what document 01 says, the customer's paper on tables, sections and outcomes, with what the requests of document
-//! 02 changed. Formats and outcomes are in `docs/FORMATS.md`, with a worked table. Nothing here allocates or keeps anything between calls.
+//! The link kit for Rust: tables merged into trellis sections, tables and sections made from generator rows, sections read back and compared, chains of
+//! blocks decoded to their best path or to several of the best, sizes listed, block sheets added up. Safe calls of `liblink_kit.a`, whose every answer and
+//! every place of every buffer is proved to be what document 01 says, the customer's paper on tables, sections and outcomes, with what the requests of
+//! document 02 changed. Formats and outcomes are in `docs/FORMATS.md`, with a worked table. Nothing here allocates or keeps anything between calls.
 //!
 //! ```
 //! use link_kit::{ANY_SECTION, COSTS_A_BLOCK, Decoded, Frame, Merged, Room};
@@ -25,7 +25,7 @@ mod answers;
 pub mod numbers;
 mod outcomes;
 
-pub use answers::{Decoded, DecodedList, Listed, Merged, MergedRows, ReadBack};
+pub use answers::{Decoded, DecodedList, Listed, Merged, MergedRows, ReadBack, SameSection};
 
 /// A table file of 1,024 words in bytes, the longest there is.
 pub const ANY_FILE: usize = 5 + 4 * 1024;
@@ -177,6 +177,33 @@ pub fn read_back(section: &[u16], file: &mut [u8]) -> ReadBack {
     let mut values = [0; 4];
     let number = numbers::read_back(section, file, &mut values);
     ReadBack::of(number, values)
+}
+
+/// Says whether two sections are the same but for the numbers of inner vertices: whether they have the same q, n, S and words. If so, just one matching of
+/// the vertices of each depth keeps end states and symbols and carries edges to edges. Words are not listed, and there may be any number of them.
+///
+/// ```
+/// use link_kit::SameSection;
+/// // From state 0 to state 0 by 00 and 11: sizes, vertices, edges, the root, the goal, pairs (from, to) of both steps, and their symbols.
+/// let ours = [2, 2, 1, 1, 2, 1, 2, 2, 0, 0, 0, 0, 0, 1, 0, 0, 1, 0, 0, 1, 0, 1];
+/// // The same with the two vertices at depth 1 exchanged.
+/// let theirs = [2, 2, 1, 1, 2, 1, 2, 2, 0, 0, 0, 1, 0, 0, 0, 0, 1, 0, 0, 1, 1, 0];
+/// assert_eq!(link_kit::same_section(&ours, &theirs), SameSection::Same);
+///
+/// // By 01 and 10: the counts are the same, and the words are others.
+/// let other = [2, 2, 1, 1, 2, 1, 2, 2, 0, 0, 0, 0, 0, 1, 0, 0, 1, 0, 0, 1, 1, 0];
+/// assert_eq!(link_kit::same_section(&ours, &other), SameSection::Different);
+///
+/// // Cut short.
+/// assert_eq!(link_kit::same_section(&ours[..21], &theirs), SameSection::Unusable(0));
+/// let answer = link_kit::same_section(&ours, &theirs[..21]);
+/// assert_eq!(answer, SameSection::Unusable(1));
+/// assert_eq!((answer.number(), answer.values()), (8, [1, 0, 0, 0]));
+/// ```
+pub fn same_section(a: &[u16], b: &[u16]) -> SameSection {
+    let mut values = [0; 4];
+    let number = numbers::same_section(a, b, &mut values);
+    SameSection::of(number, values)
 }
 
 /// Finds the first path of least distance through a chain of blocks. The crate's front page has an example; here the one word goes elsewhere:

@@ -1,4 +1,4 @@
-//! The archive's seven functions as they are, over slices: each returns document 01's number and fills `values` with the numbers returned with it,
+//! The archive's eight functions as they are, over slices: each returns document 01's number and fills `values` with the numbers returned with it,
 //! 0 in the places not used. The only declarations of the archive in Rust, and the only unsafe code, are here.
 
 use super::{Frame, ListRoom, Room};
@@ -34,6 +34,7 @@ unsafe extern "C" {
         file_len: usize,
         values: &mut [u32; 4],
     ) -> u32;
+    fn link_same_section(a: *const u16, a_len: usize, b: *const u16, b_len: usize, values: &mut [u32; 4]) -> u32;
     fn link_decode(
         sections: *const u16,
         sections_len: usize,
@@ -137,6 +138,12 @@ pub fn merge_rows(
 pub fn read_back(section: &[u16], file: &mut [u8], values: &mut [u32; 4]) -> u32 {
     // SAFETY: as for `merge`.
     unsafe { link_read_back(section.as_ptr(), section.len(), file.as_mut_ptr(), file.len(), values) }
+}
+
+/// [`same_section`](super::same_section) in numbers.
+pub fn same_section(a: &[u16], b: &[u16], values: &mut [u32; 4]) -> u32 {
+    // SAFETY: as for `merge`; the two sections may overlap, as they are only read.
+    unsafe { link_same_section(a.as_ptr(), a.len(), b.as_ptr(), b.len(), values) }
 }
 
 /// [`decode`](super::decode) in numbers.

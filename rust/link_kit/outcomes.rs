@@ -1,6 +1,6 @@
 //! The number and the values of each answer's cases, and the case of a number and its values. The numbers are document 01's, from 13 on document 02's.
 
-use super::{Decoded, DecodedList, Listed, Merged, MergedRows, ReadBack};
+use super::{Decoded, DecodedList, Listed, Merged, MergedRows, ReadBack, SameSection};
 
 /// A list of returned numbers in their four places.
 fn places(returned: &[usize]) -> [usize; 4] {
@@ -118,6 +118,35 @@ impl ReadBack {
         match self {
             ReadBack::File(x) | ReadBack::Short(x) => places(&[x]),
             ReadBack::Unusable | ReadBack::TooMany => places(&[]),
+        }
+    }
+}
+
+impl SameSection {
+    /// The case of a number and its values, as the archive gives them.
+    pub fn of(number: u32, values: [u32; 4]) -> SameSection {
+        match (number, values[0]) {
+            (0, 0) => SameSection::Different,
+            (0, _) => SameSection::Same,
+            (8, which) => SameSection::Unusable(which as usize),
+            (other, _) => no_outcome(other),
+        }
+    }
+
+    /// Document 01's number.
+    pub fn number(self) -> u32 {
+        match self {
+            SameSection::Same | SameSection::Different => 0,
+            SameSection::Unusable(_) => 8,
+        }
+    }
+
+    /// The numbers returned with it, 0 in the places not used.
+    pub fn values(self) -> [usize; 4] {
+        match self {
+            SameSection::Same => places(&[1]),
+            SameSection::Different => places(&[0]),
+            SameSection::Unusable(which) => places(&[which]),
         }
     }
 }

@@ -1,6 +1,6 @@
 //! Calls of the kit through its crate for Rust: slices in, document 01's number and four values out, and the enum made of them held to both.
 
-use link_kit::{Decoded, DecodedList, ListRoom, Listed, Merged, MergedRows, ReadBack, Room, numbers};
+use link_kit::{Decoded, DecodedList, ListRoom, Listed, Merged, MergedRows, ReadBack, Room, SameSection, numbers};
 
 /// An outcome's number, and the numbers returned with it in the first of four places; 0 in the others.
 #[derive(Clone, PartialEq, Debug)]
@@ -71,6 +71,13 @@ pub fn read_back(section: &[u16], file: &mut [u8]) -> Answer {
     let mut values = BEFORE;
     let number = numbers::read_back(section, file, &mut values);
     let case = ReadBack::of(number, values);
+    answer(number, values, (case.number(), case.values()))
+}
+
+pub fn same_section(a: &[u16], b: &[u16]) -> Answer {
+    let mut values = BEFORE;
+    let number = numbers::same_section(a, b, &mut values);
+    let case = SameSection::of(number, values);
     answer(number, values, (case.number(), case.values()))
 }
 

@@ -1,6 +1,6 @@
-//! What the running programs share: calls of the kit, tables and chains of many kinds, and merging, sums of rows, sections, decoding to the best path and
-//! to several, the listing and the block sheet written plainly from document 01, the customer's paper on tables, sections and outcomes, with what document
-//! 02's requests changed.
+//! What the running programs share: calls of the kit, tables and chains of many kinds, and merging, sums of rows, sections, whether two of them are the
+//! same, decoding to the best path and to several, the listing and the block sheet written plainly from document 01, the customer's paper on tables,
+//! sections and outcomes, with what document 02's requests changed.
 #![allow(dead_code)]
 
 pub mod archive;
@@ -12,11 +12,13 @@ pub mod hard;
 pub mod listing;
 pub mod merging;
 pub mod rows;
+pub mod same;
 pub mod sections;
 pub mod several;
 pub mod shapes;
 pub mod sheet;
 pub mod tables;
+pub mod wide;
 
 /// The bound on states of a table, of a section and of a chain's ends; the cost table has as many places a block.
 pub const MOST_STATES: usize = 16;

@@ -163,10 +163,24 @@ impl Section {
 
     /// The same section with the vertices of each inner depth in another order.
     pub fn renumbered(&self, numbers: &mut Numbers) -> Section {
-        let mut other = self.clone();
-        for depth in 1..self.n as usize {
-            let mut order: Vec<u16> = (0..self.vertices[depth]).collect();
+        let mut drawn = |&count: &u16| {
+            let mut order: Vec<u16> = (0..count).collect();
             numbers.shuffle(&mut order);
+            order
+        };
+        let orders: Vec<Vec<u16>> = self.inner().iter().map(&mut drawn).collect();
+        self.numbered(&orders)
+    }
+
+    /// The vertex counts of the inner depths.
+    pub fn inner(&self) -> &[u16] {
+        &self.vertices[1..self.n as usize]
+    }
+
+    /// The same section with other numbers for the vertices of each inner depth, a list of them for each.
+    pub fn numbered(&self, orders: &[Vec<u16>]) -> Section {
+        let mut other = self.clone();
+        for (order, depth) in orders.iter().zip(1..) {
             for edge in &mut other.steps[depth - 1] {
                 edge.2 = order[edge.2 as usize];
             }
@@ -174,21 +188,14 @@ impl Section {
                 edge.0 = order[edge.0 as usize];
             }
         }
-        for step in &mut other.steps {
-            step.sort();
-        }
+        other.sort();
         other
     }
-}
 
-/// A step from each vertex by four symbols to four vertices of their own.
-pub fn spread(froms: u16) -> Vec<Edge> {
-    (0..4 * froms).map(|v| (v / 4, v % 4, v)).collect()
-}
-
-/// A step from each four vertices to one.
-pub fn gather(froms: u16) -> Vec<Edge> {
-    (0..froms).map(|v| (v, v % 4, v / 4)).collect()
+    /// Puts the edges of each step into their order.
+    pub fn sort(&mut self) {
+        self.steps.iter_mut().for_each(|step| step.sort());
+    }
 }
 
 /// Whether no key stands with two different vertices.
@@ -207,9 +214,15 @@ pub fn usable(numbers: &[u16]) -> Option<(Section, usize)> {
     Section::read(numbers).filter(|(section, _)| section.broken().is_empty())
 }
 
+/// The usable section that some numbers are, with none left over.
+pub fn whole(numbers: &[u16]) -> Option<Section> {
+    let (section, length) = usable(numbers)?;
+    (length == numbers.len()).then_some(section)
+}
+
 /// What reading back leaves in the file's buffer, and its answer: 8, 12, 10 or success.
 pub fn read_back(numbers: &[u16], file: &mut [u8]) -> Answer {
-    let Some((section, _)) = usable(numbers).filter(|(_, length)| *length == numbers.len()) else {
+    let Some(section) = whole(numbers) else {
         return Answer::new(8, &[0]);
     };
     if section.path_count() > 1024 {

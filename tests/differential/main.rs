@@ -1,6 +1,6 @@
-//! Tables of many shapes, generator rows and files with every kind of fault through all seven functions of the archive: merging, also of the sums of rows,
-//! the listing, reading back what was merged, decoding chains of it to the best path and to several, and block sheets, each compared in its answer and in
-//! every place of every buffer with plain code written from documents 01 and 02 alone.
+//! Tables of many shapes, generator rows and files with every kind of fault through all eight functions of the archive: merging, also of the sums of rows,
+//! the listing, reading back what was merged, comparing it with other sections, decoding chains of it to the best path and to several, and block sheets,
+//! each compared in its answer and in every place of every buffer with plain code written from documents 01 and 02 alone.
 
 #[path = "../common/mod.rs"]
 mod common;
@@ -17,7 +17,7 @@ use common::frames::Lengths;
 use common::several::{self, MOST_PATHS};
 use common::shapes;
 use common::tables::{Table, large_tables};
-use common::{Differing, Numbers, decoding, frames, listing, merging, sections};
+use common::{Differing, Numbers, decoding, frames, listing, merging, same, sections};
 use std::collections::BTreeMap;
 
 type Outcomes = BTreeMap<u32, usize>;
@@ -30,6 +30,10 @@ struct Tally {
     merged: Outcomes,
     listed: Outcomes,
     read_back: Outcomes,
+    compared: Outcomes,
+    /// How many were the same, and the section of the table before.
+    alike: usize,
+    before: Vec<u16>,
     decoded: Outcomes,
     ties: usize,
     several: Outcomes,
@@ -74,7 +78,8 @@ impl Tally {
         }
     }
 
-    /// Reads sections back: a table's own, numbered in another way, and spoiled; with roomy buffers and with short ones.
+    /// Reads sections back: a table's own, numbered in another way, and spoiled; with roomy buffers and with short ones. Compares them with its own, and its
+    /// own with that of the table before.
     fn sections(&mut self, table: &Table, numbers: &mut Numbers) {
         let own = merging::section_of(table);
         let (section, _) = sections::Section::read(&own).expect("a whole section");
@@ -83,6 +88,7 @@ impl Tally {
         self.read_back(&own, length - 1);
         let mut other = section.renumbered(numbers).numbers();
         self.read_back(&other, length + 7);
+        self.same_section(&own, &other);
         for _ in 0..4 {
             let (a, b) = (numbers.below(other.len()), numbers.below(other.len()));
             match numbers.below(4) {
@@ -92,7 +98,20 @@ impl Tally {
                 _ => drop(other.remove(a)),
             }
             self.read_back(&other, 4200);
+            self.same_section(&own, &other);
         }
+        let before = std::mem::replace(&mut self.before, own.clone());
+        self.same_section(&own, &before);
+    }
+
+    fn same_section(&mut self, a: &[u16], b: &[u16]) -> archive::Answer {
+        let wanted = same::same_section(a, b);
+        let given = archive::same_section(a, b);
+        *self.compared.entry(wanted.number).or_default() += 1;
+        self.alike += (wanted == archive::Answer::new(0, &[1])) as usize;
+        self.differing
+            .compare(&wanted, &given, || format!("comparing {a:?} with {b:?}"));
+        wanted
     }
 
     fn read_back(&mut self, section: &[u16], file_length: usize) -> archive::Answer {
@@ -169,6 +188,7 @@ impl Tally {
         ] {
             println!("  {call}: outcomes {outcomes:?}");
         }
+        println!("  same section: outcomes {:?}, {} the same", self.compared, self.alike);
         println!("  decode: outcomes {:?}, {} with ties", self.decoded, self.ties);
         println!("  decode list: outcomes {:?}, {} paths", self.several, self.paths);
     }

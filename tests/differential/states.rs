@@ -19,10 +19,13 @@ fn all_calls(tally: &mut Tally, states: u8, numbers: &mut Numbers) {
     let from_last = chain(&[largest.clone()], states - 1, 0);
     let to_last = chain(&[largest], 0, states - 1);
     let listed = list_lengths_of(BLOCKS, PATHS);
+    let (section, widest) = (section_of(&table), section_of(&across(MOST_STATES as u8)));
     tally.file(&table.file());
     let answers = [
         (tally.merge(&table.file(), 9 * 1024, 30_000), Answer::new(2, &[2])),
-        (tally.read_back(&section_of(&table), 4200), Answer::new(8, &[0])),
+        (tally.read_back(&section, 4200), Answer::new(8, &[0])),
+        (tally.same_section(&section, &widest), Answer::new(8, &[0])),
+        (tally.same_section(&widest, &section), Answer::new(8, &[1])),
         (tally.decode(&behind, lengths_of(BLOCKS)), Answer::new(8, &[1])),
         (tally.decode(&from_last, lengths_of(BLOCKS)), Answer::new(9, &[BLOCKS])),
         (tally.decode(&to_last, lengths_of(BLOCKS)), Answer::new(9, &[BLOCKS])),

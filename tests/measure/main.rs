@@ -12,11 +12,11 @@ use common::frames;
 use common::hard::hard;
 use common::merging::section_of;
 use common::rows::{Generator, compiled};
-use common::sections::{Edge, Section, gather, spread, usable};
+use common::sections::usable;
 use common::sheet::{Input, MOST_BLOCKS, MOST_SECTIONS, in_turn};
 use common::tables::{Table, large_tables, sparse};
+use common::wide::largest;
 use link_kit::{ANY_FILE, ANY_MAP, ANY_SECTION, ANY_SHEET};
-use std::cmp::Ordering;
 
 fn merge(table: &Table) -> Answer {
     let mut map = vec![0; 9 * 1024];
@@ -30,33 +30,17 @@ fn merge_rows() -> Answer {
     compiled(&generator, [ANY_FILE, ANY_MAP, ANY_SECTION]).0
 }
 
-/// A usable section with as many edges as the bounds allow: 256 or 1,024 vertices at depths 3 to 5, and 1,024 edges a step between depths 2 and 6.
-fn largest(vertices: u16) -> Section {
-    let counts = [16, 64, 256, vertices, vertices, vertices, 256, 64, 16];
-    let symbols = 1024 / vertices;
-    let edges = (0..vertices).flat_map(|v| (0..symbols).map(move |s| (v, s, (v + s) % vertices)));
-    let between: Vec<Edge> = edges.collect();
-    let step = |pair: &[u16]| match pair[1].cmp(&pair[0]) {
-        Ordering::Greater => spread(pair[0]),
-        Ordering::Equal => between.clone(),
-        Ordering::Less => gather(pair[0]),
-    };
-    let states: Vec<u16> = (0..16).collect();
-    Section {
-        q: 4,
-        n: 8,
-        states: 16,
-        vertices: counts.to_vec(),
-        roots: states.clone(),
-        goals: states,
-        steps: counts.windows(2).map(step).collect(),
-    }
-}
-
 /// Reads a section back, with zeros behind it up to `length` numbers.
 fn read_back(mut numbers: Vec<u16>, length: usize) -> Answer {
     numbers.resize(numbers.len().max(length), 0);
     archive::read_back(&numbers, &mut vec![0; 5000])
+}
+
+/// Compares a section with the same renumbered.
+fn same(numbers: Vec<u16>) -> Answer {
+    let (section, _) = usable(&numbers).expect("a usable section");
+    println!("{} edges", section.steps.concat().len());
+    archive::same_section(&numbers, &section.renumbered(&mut Numbers::new()).numbers())
 }
 
 /// Blocks of one section from its last root to its last goal, for which a pass forward looks at most edges.
@@ -105,6 +89,8 @@ fn main() {
         "merge-rows" => merge_rows(),
         "read-long" => read_back(section_of(&long), 0),
         "read-largest" => read_back(largest(number(1) as u16).numbers(), number(2)),
+        "same-long" => same(section_of(&long)),
+        "same-largest" => same(largest(number(1) as u16).numbers()),
         "decode-case-9" => decode(section_of(&case_9()), number(1)),
         "decode-wide" => decode(section_of(&wide), number(1)),
         "decode-long" => decode(section_of(&long), number(1)),

@@ -3,7 +3,8 @@
 use super::Tally;
 use super::common::MOST_STATES;
 use super::common::archive::Answer;
-use super::common::sections::{Edge, Rule, Section, gather, spread};
+use super::common::sections::{Edge, Rule, Section};
+use super::common::wide::{gather, spread};
 use std::collections::BTreeSet;
 
 /// Two paths side by side, all symbols 0, through n steps.

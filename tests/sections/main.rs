@@ -8,7 +8,8 @@ mod broken;
 
 use common::sections::{self, Section};
 use common::tables::{Table, large_tables, small_tables};
-use common::{Differing, MOST_STATES, Numbers, archive, merging};
+use common::wide::with_words;
+use common::{Differing, Numbers, archive, merging};
 use std::collections::BTreeMap;
 
 #[derive(Default)]
@@ -95,29 +96,6 @@ fn spoiled(tally: &mut Tally, table: &Table, numbers: &mut Numbers) {
             near
         };
         tally.compare(&other, 4200);
-    }
-}
-
-/// Sections of q 4, one vertex at each inner depth, and as many roots, symbols of the first step and goals as given: their words multiply.
-fn with_words(n: u16, roots: u16, first: u16, goals: u16) -> Section {
-    let inner: Vec<u16> = vec![1; n as usize - 1];
-    let step = |froms: u16, symbols: u16, tos: u16| {
-        let edges = (0..froms).flat_map(|v| (0..symbols).flat_map(move |s| (0..tos).map(move |w| (v, s, w))));
-        edges.collect::<Vec<_>>()
-    };
-    let between = (2..n).map(|_| step(1, 4, 1));
-    let steps = std::iter::once(step(roots, first, 1))
-        .chain(between)
-        .chain([step(1, 4, goals)])
-        .collect();
-    Section {
-        q: 4,
-        n,
-        states: MOST_STATES as u16,
-        vertices: [vec![roots], inner, vec![goals]].concat(),
-        roots: (0..roots).collect(),
-        goals: (0..goals).collect(),
-        steps,
     }
 }
 

@@ -19,6 +19,7 @@ static uint16_t map[LINK_ANY_MAP], section[LINK_ANY_SECTION], row_section[LINK_A
 static uint8_t indices[LINK_MOST_BLOCKS], erased[LINK_MOST_BLOCKS], goals[LINK_MOST_BLOCKS], masks[LINK_MOST_BLOCKS];
 static uint16_t received[LINK_MOST_BLOCKS], labels[LINK_MOST_BLOCKS];
 static uint32_t costs[LINK_COSTS_LEN(LINK_MOST_BLOCKS)], values[4], outcome;
+static size_t row_length;
 
 /* The largest list. */
 enum { WORDS = LINK_LIST_LEN(LINK_MOST_PATHS, LINK_MOST_BLOCKS) };
@@ -45,10 +46,16 @@ static void merge_rows(void) {
         rows[j] = (uint16_t)(33u << j);
     outcome = link_merge_rows(LINK_MOST_STATE_BITS, LINK_MOST_SYMBOLS, rows, LINK_MOST_ROWS, file, LINK_ANY_FILE, map, LINK_ANY_MAP,
                               row_section, LINK_ANY_SECTION, values);
+    row_length = values[0];
 }
 
 static void read_section(void) {
     outcome = link_read_back(section, 22, file, LINK_ANY_FILE, values);
+}
+
+/* The largest section that is left here, compared with itself. */
+static void compare_sections(void) {
+    outcome = link_same_section(row_section, row_length, row_section, row_length, values);
 }
 
 static void decode_frame(void) {
@@ -143,6 +150,7 @@ int main(void) {
     merge_table();
     merge_rows();
     read_section();
+    compare_sections();
     decode_frame();
     list_paths();
     list_table();
@@ -151,6 +159,7 @@ int main(void) {
     show("link_merge, accepted", merge_table, LINK_MERGE_STACK);
     show("link_merge_rows", merge_rows, LINK_MERGE_ROWS_STACK);
     show("link_read_back", read_section, LINK_READ_BACK_STACK);
+    show("link_same_section", compare_sections, LINK_SAME_SECTION_STACK);
     show("link_decode", decode_frame, LINK_DECODE_STACK);
     show("link_decode_list", list_paths, LINK_DECODE_LIST_STACK);
     show("link_merge, not rectangular", merge_broken, LINK_MERGE_STACK);
