@@ -1,6 +1,6 @@
 -- The number and values of each answer: document 01's, and for what came later document 02's.
-use Rattle.trellis.specs.Outcome.{Outcome, success, badLength, badSize, badWord, notAbove, shortMap, notRectangular, shortSection}
-use Rattle.trellis.specs.Outcome.{badSection, badBlock, shortBuffer, noPath, tooManyWords, badPathCount, badRows, dependentRow}
+use Rattle.trellis.specs.Outcome.{Outcome, success, bad_length, bad_size, bad_word, not_above, short_map, not_rectangular, short_section}
+use Rattle.trellis.specs.Outcome.{bad_section, bad_block, short_buffer, no_path, too_many_words, bad_path_count, bad_rows, dependent_row}
 use Rattle.answers.specs.declared.merge.Merged.{Merged}
 use Rattle.answers.specs.declared.merge.Merged.TheVariants as merge
 use Rattle.answers.specs.declared.merge_rows.MergedRows.{MergedRows}
@@ -17,56 +17,56 @@ use Rattle.answers.specs.declared.listing.Listed.{Listed}
 use Rattle.answers.specs.declared.listing.Listed.TheVariants as listing
 
 -- merging a table
-abbrev pub mergedOutcome : Merged → Outcome
-mergedOutcome (merge.Section sectionLength) = success sectionLength
-mergedOutcome (merge.Length fileLength) = badLength fileLength
-mergedOutcome (merge.Size place) = badSize place
-mergedOutcome (merge.Word index) = badWord index
-mergedOutcome (merge.Order index) = notAbove index
-mergedOutcome (merge.ShortMap needed) = shortMap needed
-mergedOutcome (merge.NotRectangular depth i j k) = notRectangular depth i j k
-mergedOutcome (merge.ShortSection needed) = shortSection needed
+abbrev pub merged_outcome : Merged → Outcome
+merged_outcome (merge.Section section_length) = success section_length
+merged_outcome (merge.Length file_length) = bad_length file_length
+merged_outcome (merge.Size place) = bad_size place
+merged_outcome (merge.Word index) = bad_word index
+merged_outcome (merge.Order index) = not_above index
+merged_outcome (merge.ShortMap needed) = short_map needed
+merged_outcome (merge.NotRectangular depth i j k) = not_rectangular depth i j k
+merged_outcome (merge.ShortSection needed) = short_section needed
 
 -- merging generator rows
-abbrev pub mergedRowsOutcome : MergedRows → Outcome
-mergedRowsOutcome (merge-rows.Section sectionLength) = success sectionLength
-mergedRowsOutcome (merge-rows.Rows countOrRow) = badRows countOrRow
-mergedRowsOutcome (merge-rows.Dependent row) = dependentRow row
-mergedRowsOutcome (merge-rows.ShortFile needed) = shortBuffer needed
-mergedRowsOutcome (merge-rows.ShortMap needed) = shortMap needed
-mergedRowsOutcome (merge-rows.ShortSection needed) = shortSection needed
+abbrev pub merged_rows_outcome : MergedRows → Outcome
+merged_rows_outcome (merge-rows.Section section_length) = success section_length
+merged_rows_outcome (merge-rows.Rows count_or_row) = bad_rows count_or_row
+merged_rows_outcome (merge-rows.Dependent row) = dependent_row row
+merged_rows_outcome (merge-rows.ShortFile needed) = short_buffer needed
+merged_rows_outcome (merge-rows.ShortMap needed) = short_map needed
+merged_rows_outcome (merge-rows.ShortSection needed) = short_section needed
 
 -- reading a section back
-abbrev pub readBackOutcome : ReadBack → Outcome
-readBackOutcome (read_back.File length) = success length
-readBackOutcome read_back.Unusable = badSection 0
-readBackOutcome read_back.TooMany = tooManyWords
-readBackOutcome (read_back.Short needed) = shortBuffer needed
+abbrev pub read_back_outcome : ReadBack → Outcome
+read_back_outcome (read_back.File length) = success length
+read_back_outcome read_back.Unusable = bad_section 0
+read_back_outcome read_back.TooMany = too_many_words
+read_back_outcome (read_back.Short needed) = short_buffer needed
 
 -- comparing two sections
-abbrev pub sameSectionOutcome : SameSection → Outcome
-sameSectionOutcome same-section.Same = success 1
-sameSectionOutcome same-section.Different = success 0
-sameSectionOutcome (same-section.Unusable which) = badSection which
+abbrev pub same_section_outcome : SameSection → Outcome
+same_section_outcome same-section.Same = success 1
+same_section_outcome same-section.Different = success 0
+same_section_outcome (same-section.Unusable which) = bad_section which
 
 -- decoding a chain
-abbrev pub decodedOutcome : Decoded → Outcome
-decodedOutcome (decode.Distance d) = success d
-decodedOutcome (decode.Section index) = badSection index
-decodedOutcome (decode.Block index) = badBlock index
-decodedOutcome (decode.Short needed) = shortBuffer needed
-decodedOutcome decode.NoPath = noPath
+abbrev pub decoded_outcome : Decoded → Outcome
+decoded_outcome (decode.Distance d) = success d
+decoded_outcome (decode.Section index) = bad_section index
+decoded_outcome (decode.Block index) = bad_block index
+decoded_outcome (decode.Short needed) = short_buffer needed
+decoded_outcome decode.NoPath = no_path
 
 -- listing the best paths of a chain
-abbrev pub decodedListOutcome : DecodedList → Outcome
-decodedListOutcome (decode-list.Paths count) = success count
-decodedListOutcome (decode-list.Section index) = badSection index
-decodedListOutcome (decode-list.Block index) = badBlock index
-decodedListOutcome (decode-list.Short needed) = shortBuffer needed
-decodedListOutcome decode-list.NoPath = noPath
-decodedListOutcome (decode-list.Count paths) = badPathCount paths
+abbrev pub decoded_list_outcome : DecodedList → Outcome
+decoded_list_outcome (decode-list.Paths count) = success count
+decoded_list_outcome (decode-list.Section index) = bad_section index
+decoded_list_outcome (decode-list.Block index) = bad_block index
+decoded_list_outcome (decode-list.Short needed) = short_buffer needed
+decoded_list_outcome decode-list.NoPath = no_path
+decoded_list_outcome (decode-list.Count paths) = bad_path_count paths
 
 -- a text in a lent buffer
-abbrev pub listedOutcome : Listed → Outcome
-listedOutcome (listing.Text length) = success length
-listedOutcome (listing.Short needed) = shortBuffer needed
+abbrev pub listed_outcome : Listed → Outcome
+listed_outcome (listing.Text length) = success length
+listed_outcome (listing.Short needed) = short_buffer needed

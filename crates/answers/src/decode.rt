@@ -1,6 +1,6 @@
 // Decoding a chain.
-ghost use Rattle.outcomes.specs.inner.Holds.{Holds};
-ghost use Rattle.answers.specs.Answers.{decodedOutcome};
+ghost use Rattle.outcomes.specs.Inner.Holds.{Holds};
+ghost use Rattle.answers.specs.Answers.{decoded_outcome};
 
 use outcomes::{Returned, no_value, one_value};
 
@@ -16,7 +16,7 @@ pub enum Decoded {
 
 // Document 01's number and values of an answer.
 pub fn outcome(answer: Decoded) -> Returned
-    ensures { Holds (decodedOutcome answer) result.number result.count result.values }
+    ensures { Holds (decoded_outcome answer) result.number result.count result.values }
 {
     match answer {
         Decoded::Distance(distance) => one_value(0, distance as usize),

@@ -1,6 +1,6 @@
 // Listing the best paths of a chain.
-ghost use Rattle.outcomes.specs.inner.Holds.{Holds};
-ghost use Rattle.answers.specs.Answers.{decodedListOutcome};
+ghost use Rattle.outcomes.specs.Inner.Holds.{Holds};
+ghost use Rattle.answers.specs.Answers.{decoded_list_outcome};
 
 use outcomes::{Returned, no_value, one_value};
 
@@ -17,7 +17,7 @@ pub enum DecodedList {
 
 // The number and values of an answer.
 pub fn outcome(answer: DecodedList) -> Returned
-    ensures { Holds (decodedListOutcome answer) result.number result.count result.values }
+    ensures { Holds (decoded_list_outcome answer) result.number result.count result.values }
 {
     match answer {
         DecodedList::Paths(count) => one_value(0, count),

@@ -1,6 +1,6 @@
 // A text in a lent buffer.
-ghost use Rattle.outcomes.specs.inner.Holds.{Holds};
-ghost use Rattle.answers.specs.Answers.{listedOutcome};
+ghost use Rattle.outcomes.specs.Inner.Holds.{Holds};
+ghost use Rattle.answers.specs.Answers.{listed_outcome};
 
 use outcomes::{Returned, one_value};
 
@@ -13,7 +13,7 @@ pub enum Listed {
 
 // Document 01's number and values of an answer.
 pub fn outcome(answer: Listed) -> Returned
-    ensures { Holds (listedOutcome answer) result.number result.count result.values }
+    ensures { Holds (listed_outcome answer) result.number result.count result.values }
 {
     match answer {
         Listed::Text(length) => one_value(0, length),

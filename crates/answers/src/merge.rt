@@ -1,7 +1,7 @@
 // Merging a table.
 ghost use Rattle.std.specs.Prelude.{length};
-ghost use Rattle.outcomes.specs.inner.Holds.{Holds};
-ghost use Rattle.answers.specs.Answers.{mergedOutcome};
+ghost use Rattle.outcomes.specs.Inner.Holds.{Holds};
+ghost use Rattle.answers.specs.Answers.{merged_outcome};
 
 use outcomes::{Returned, four_values, one_value};
 
@@ -20,7 +20,7 @@ pub enum Merged {
 
 // Document 01's number and values of an answer.
 pub fn outcome(answer: Merged) -> Returned
-    ensures { Holds (mergedOutcome answer) result.number result.count result.values }
+    ensures { Holds (merged_outcome answer) result.number result.count result.values }
 {
     match answer {
         Merged::Section(length) => one_value(0, length),

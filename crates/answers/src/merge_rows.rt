@@ -1,7 +1,7 @@
 // Merging generator rows.
 ghost use Rattle.std.specs.Prelude.{length};
-ghost use Rattle.outcomes.specs.inner.Holds.{Holds};
-ghost use Rattle.answers.specs.Answers.{mergedRowsOutcome};
+ghost use Rattle.outcomes.specs.Inner.Holds.{Holds};
+ghost use Rattle.answers.specs.Answers.{merged_rows_outcome};
 
 use outcomes::{Returned, one_value};
 
@@ -18,7 +18,7 @@ pub enum MergedRows {
 
 // Document 02's number and value of an answer.
 pub fn outcome(answer: MergedRows) -> Returned
-    ensures { Holds (mergedRowsOutcome answer) result.number result.count result.values }
+    ensures { Holds (merged_rows_outcome answer) result.number result.count result.values }
 {
     match answer {
         MergedRows::Section(length) => one_value(0, length),

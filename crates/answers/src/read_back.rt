@@ -1,7 +1,7 @@
 // Reading a section back.
 ghost use Rattle.std.specs.Prelude.{length};
-ghost use Rattle.outcomes.specs.inner.Holds.{Holds};
-ghost use Rattle.answers.specs.Answers.{readBackOutcome};
+ghost use Rattle.outcomes.specs.Inner.Holds.{Holds};
+ghost use Rattle.answers.specs.Answers.{read_back_outcome};
 
 use outcomes::{Returned, no_value, one_value};
 
@@ -16,7 +16,7 @@ pub enum ReadBack {
 
 // Document 01's number and values of an answer.
 pub fn outcome(answer: ReadBack) -> Returned
-    ensures { Holds (readBackOutcome answer) result.number result.count result.values }
+    ensures { Holds (read_back_outcome answer) result.number result.count result.values }
 {
     match answer {
         ReadBack::File(length) => one_value(0, length),

@@ -1,6 +1,6 @@
 // Comparing two sections.
-ghost use Rattle.outcomes.specs.inner.Holds.{Holds};
-ghost use Rattle.answers.specs.Answers.{sameSectionOutcome};
+ghost use Rattle.outcomes.specs.Inner.Holds.{Holds};
+ghost use Rattle.answers.specs.Answers.{same_section_outcome};
 
 use outcomes::{Returned, one_value};
 
@@ -14,7 +14,7 @@ pub enum SameSection {
 
 // The number and the values of an answer.
 pub fn outcome(answer: SameSection) -> Returned
-    ensures { Holds (sameSectionOutcome answer) result.number result.count result.values }
+    ensures { Holds (same_section_outcome answer) result.number result.count result.values }
 {
     match answer {
         SameSection::Same => one_value(0, 1),

@@ -1,2 +1,2 @@
 -- The numbers of a section, as the contracts of this crate speak of them.
-pub mod inner
+pub mod Inner

@@ -1,9 +1,9 @@
 // The numbers of our section, one part behind another: its sizes, the end states, the edges of all steps.
 ghost use Rattle.std.specs.Prelude.{◌≡◌, [], ◌∷◌, ◌+◌, ◌*◌, ◌<◌, ◌≤◌, length};
-ghost use Rattle.trellis.specs.Bounds.{mostSymbols};
+ghost use Rattle.trellis.specs.Bounds.{most_symbols};
 ghost use Rattle.trellis.specs.Lists.{over};
-ghost use Rattle.trellis.specs.inner.Write.{Wrote};
-ghost use Rattle.assemble.specs.inner.Numbers.{firstNumbers, sizeNumbers, SizesAsked, lengthBy, LengthAsked, numbersOf, Parts};
+ghost use Rattle.trellis.specs.Inner.Write.{Wrote};
+ghost use Rattle.assemble.specs.Inner.Numbers.{first_numbers, size_numbers, SizesAsked, length_by, LengthAsked, numbers_of, Parts};
 
 use layout::states;
 use numbers::wide;
@@ -14,7 +14,7 @@ use trellis::MOST_SYMBOLS;
 // The first `count` numbers of an array, from place `at` on.
 pub fn put_numbers(source: &[u16], count: usize, section: &mut [u16], at: usize) -> usize
     requires { (count ≤ length source.now) × (at + count ≤ length section.old) }
-    ensures { Wrote section.old at (firstNumbers source.now count) section.new result }
+    ensures { Wrote section.old at (first_numbers source.now count) section.new result }
 {
     let mut i: usize = 0;
     while i < count {
@@ -26,7 +26,7 @@ pub fn put_numbers(source: &[u16], count: usize, section: &mut [u16], at: usize)
 
 // q, n and S.
 fn put_header(q: u8, n: usize, states: u8, sizes: &mut [u16]) -> usize
-    requires { (n ≤ mostSymbols) × (3 ≤ length sizes.old) }
+    requires { (n ≤ most_symbols) × (3 ≤ length sizes.old) }
     ensures { Wrote sizes.old 0 (q ∷ n ∷ states ∷ []) sizes.new result }
 {
     sizes[0] = q as u16;
@@ -45,7 +45,7 @@ pub fn put_sizes(
     sizes: &mut [u16],
 )
     requires { SizesAsked n vertices.now steps.now sizes.old }
-    ensures { Wrote sizes.old 0 (sizeNumbers q n states vertices.now steps.now) sizes.new
+    ensures { Wrote sizes.old 0 (size_numbers q n states vertices.now steps.now) sizes.new
         (4 + 2 * n) }
 {
     let mut at = put_header(q, n, states, sizes);
@@ -56,7 +56,7 @@ pub fn put_sizes(
 // The section's length, from the counts.
 pub fn section_length(n: usize, vertices: &[u16; MOST_SYMBOLS + 1], edges: usize) -> usize
     requires { LengthAsked n vertices.now edges }
-    ensures { result ≡ lengthBy n vertices.now edges }
+    ensures { result ≡ length_by n vertices.now edges }
 {
     4 + 2 * n + (wide(vertices[0]) + wide(vertices[n])) + 3 * edges
 }
@@ -75,7 +75,7 @@ pub fn put_section(
 )
     requires { Parts n sizes.now edges.counts outer.roots outer.goals map.now labels.now words.now section.old }
     ensures { section.new
-        ≡ over (numbersOf n sizes.now outer.roots outer.goals map.now labels.now)
+        ≡ over (numbers_of n sizes.now outer.roots outer.goals map.now labels.now)
         section.old }
 {
     let roots = outer.roots;

@@ -6,79 +6,79 @@ use Prim.Native.Nat.{ℕ, zero, suc, ◌+◌, ◌-◌, ◌*◌, ◌≤◌, ◌<�
 use native.Mathlib.Omega.{arith}
 use native.Mathlib.Decide.{dec_le}
 use lib.ListN.{get_or}
-use Rattle.trellis.specs.Bounds.{mostPaths, mostStates}
+use Rattle.trellis.specs.Bounds.{most_paths, most_states}
 use Rattle.trellis.specs.Word.{word}
-use Rattle.dearest.specs.inner.Items.{code_in}
-use Rattle.codes.specs.inner.Codes.{code, codeRoot, codeVertex, codeLabel}
-use Rattle.beginnings.specs.inner.Trails.{backAt, stateAt, trail, NotedWell}
-use Rattle.beginnings.specs.inner.Entering.{stateFrom, Leavable, Left}
+use Rattle.dearest.specs.Inner.Items.{code_in}
+use Rattle.codes.specs.Inner.Codes.{code, code_root, code_vertex, code_label}
+use Rattle.beginnings.specs.Inner.Trails.{back_at, state_at, trail, NotedWell}
+use Rattle.beginnings.specs.Inner.Entering.{state_from, Leavable, Left}
 
 -- what is read off a code
 pub record Coded (c root vertex label : ℕ) : Type 0 where
-  pub root_is : codeRoot c ≡ root
-  pub vertex-is : codeVertex c ≡ vertex
-  pub label_is : codeLabel c ≡ label
+  pub root_is : code_root c ≡ root
+  pub vertex_is : code_vertex c ≡ vertex
+  pub label_is : code_label c ≡ label
 
-pub coded-of : (root vertex label : ℕ) → root < 64 → vertex < 1024 → label < 65536 → Coded (code root vertex label) root vertex label
-coded-of root vertex label r v l = record { root_is = omega arith; vertex-is = omega arith; label_is = omega arith }
+pub coded_of : (root vertex label : ℕ) → root < 64 → vertex < 1024 → label < 65536 → Coded (code root vertex label) root vertex label
+coded_of root vertex label r v l = record { root_is = omega arith; vertex_is = omega arith; label_is = omega arith }
 
 -- ---- earlier ones stay
 
-module _ (old new : List ℕ) (b first : ℕ) (same : (i : ℕ) → i < mostPaths * b → get_or new i 0 ≡ get_or old i 0)
-    (proper : (i : ℕ) → codeRoot (get_or old i 0) < mostPaths) where
-  pub state-same : (c j : ℕ) → c ≤ b → j < mostPaths → stateAt new first c j ≡ stateAt old first c j
-  unfolding stateAt
-  state-same zero j h l = refl
-  state-same (suc c) j h l = ap codeVertex (same (mostPaths * c + j) (omega arith))
+module _ (old new : List ℕ) (b first : ℕ) (same : (i : ℕ) → i < most_paths * b → get_or new i 0 ≡ get_or old i 0)
+    (proper : (i : ℕ) → code_root (get_or old i 0) < most_paths) where
+  pub state_same : (c j : ℕ) → c ≤ b → j < most_paths → state_at new first c j ≡ state_at old first c j
+  unfolding state_at
+  state_same zero j h l = refl
+  state_same (suc c) j h l = ap code_vertex (same (most_paths * c + j) (omega arith))
 
-  pub trail-same : (c j : ℕ) → c ≤ b → j < mostPaths → trail new first c j ≡ trail old first c j
+  pub trail_same : (c j : ℕ) → c ≤ b → j < most_paths → trail new first c j ≡ trail old first c j
   unfolding trail
-  trail-same zero j h l = refl
-  trail-same (suc c) j h l =
-      let e : backAt new first c j ≡ backAt old first c j = same (mostPaths * c + j) (omega arith) in
-      let x = backAt old first c j in
-      let r = proper (mostPaths * c + j) in
-      ap (λ y. trail new first c (codeRoot y) ++ (word (stateAt new first c (codeRoot y)) (codeLabel y) (codeVertex y) ∷ [])) e
-      ∙ ap₂ (λ a s. a ++ (word s (codeLabel x) (codeVertex x) ∷ [])) (trail-same c (codeRoot x) (omega arith) r)
-      (state-same c (codeRoot x) (omega arith) r)
+  trail_same zero j h l = refl
+  trail_same (suc c) j h l =
+      let e : back_at new first c j ≡ back_at old first c j = same (most_paths * c + j) (omega arith) in
+      let x = back_at old first c j in
+      let r = proper (most_paths * c + j) in
+      ap (λ y. trail new first c (code_root y) ++ (word (state_at new first c (code_root y)) (code_label y) (code_vertex y) ∷ [])) e
+      ∙ ap₂ (λ a s. a ++ (word s (code_label x) (code_vertex x) ∷ [])) (trail_same c (code_root x) (omega arith) r)
+      (state_same c (code_root x) (omega arith) r)
 
 -- ---- those of one block
 
 module _ {s : List ℕ} (goals : ℕ) {items : List ℕ} {b count : ℕ} {slots old new : List ℕ} (A : Leavable s goals items count)
-    (L : Left (stateFrom s goals) items b count slots old new) where
+    (L : Left (state_from s goals) items b count slots old new) where
   abbrev item_at : ℕ → ℕ
   item_at j = get_or items j 0
 
   -- what the back pointer of item j says
-  pub noted-parts : (j : ℕ) → j < count
-      → Coded (get_or new (mostPaths * b + j) 0) (codeRoot (code_in (item_at j))) (stateFrom s goals (codeVertex (code_in (item_at j))))
-      (codeLabel (code_in (item_at j)))
-  noted-parts j h =
+  pub noted_parts : (j : ℕ) → j < count
+      → Coded (get_or new (most_paths * b + j) 0) (code_root (code_in (item_at j))) (state_from s goals (code_vertex (code_in (item_at j))))
+      (code_label (code_in (item_at j)))
+  noted_parts j h =
       let x = item_at j in
-      let r = codeRoot (code_in x) in
-      let g = stateFrom s goals (codeVertex (code_in x)) in
-      let l = codeLabel (code_in x) in
+      let r = code_root (code_in x) in
+      let g = state_from s goals (code_vertex (code_in x)) in
+      let l = code_label (code_in x) in
       subst (λ c. Coded c r g l) (sym (L.noted j h))
-      (coded-of r g l (omega (arith, A.of j h)) (omega (arith, A.small j h)) (omega arith))
+      (coded_of r g l (omega (arith, A.of j h)) (omega (arith, A.small j h)) (omega arith))
 
-  pub kept-before : (i : ℕ) → i < mostPaths * b → get_or new i 0 ≡ get_or old i 0
-  kept-before i h = L.other i (λ j l e. absurd (omega arith))
+  pub kept_before : (i : ℕ) → i < most_paths * b → get_or new i 0 ≡ get_or old i 0
+  kept_before i h = L.other i (λ j l e. absurd (omega arith))
 
   -- a property of every old back pointer, and of every new one
-  everywhere : (P : ℕ → Type 0) → ((i : ℕ) → P (get_or old i 0)) → ((j : ℕ) → j < count → P (get_or new (mostPaths * b + j) 0))
+  everywhere : (P : ℕ → Type 0) → ((i : ℕ) → P (get_or old i 0)) → ((j : ℕ) → j < count → P (get_or new (most_paths * b + j) 0))
       → (i : ℕ) → P (get_or new i 0)
-  everywhere P before here i = go (dec_le (mostPaths * b) i) (dec_le (mostPaths * b + count) i)
+  everywhere P before here i = go (dec_le (most_paths * b) i) (dec_le (most_paths * b + count) i)
     where
-      go : Dec (mostPaths * b ≤ i) → Dec (mostPaths * b + count ≤ i) → P (get_or new i 0)
+      go : Dec (most_paths * b ≤ i) → Dec (most_paths * b + count ≤ i) → P (get_or new i 0)
       go (yes p) (no q) =
-          let e : mostPaths * b + (i - mostPaths * b) ≡ i = omega arith in
-          subst (λ a. P (get_or new a 0)) e (here (i - mostPaths * b) (omega arith))
+          let e : most_paths * b + (i - most_paths * b) ≡ i = omega arith in
+          subst (λ a. P (get_or new a 0)) e (here (i - most_paths * b) (omega arith))
       go (yes p) (yes q) = subst P (sym (L.other i (λ j l e. absurd (omega arith)))) (before i)
       go (no p) q = subst P (sym (L.other i (λ j l e. absurd (omega arith)))) (before i)
 
-  pub noted-well : NotedWell old → NotedWell new
-  noted-well N = record {
-    long = L.longBack;
-    proper = everywhere (λ c. codeRoot c < mostPaths) N.proper (λ j h. omega (arith, (noted-parts j h).root_is, A.of j h));
-    small = everywhere (λ c. codeVertex c < mostStates) N.small (λ j h. omega (arith, (noted-parts j h).vertex-is, A.small j h));
+  pub noted_well : NotedWell old → NotedWell new
+  noted_well N = record {
+    long = L.long_back;
+    proper = everywhere (λ c. code_root c < most_paths) N.proper (λ j h. omega (arith, (noted_parts j h).root_is, A.of j h));
+    small = everywhere (λ c. code_vertex c < most_states) N.small (λ j h. omega (arith, (noted_parts j h).vertex-is, A.small j h));
   }

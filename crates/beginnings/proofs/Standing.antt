@@ -11,72 +11,72 @@ use native.Mathlib.Nat.{pow-le-pow_right, lt_of_lt_of_le}
 use native.Mathlib.Decide.{dec_le}
 use lib.Dec.{ltb, lit<}
 use borrow.Author.Tests.{ltb-true, lt-ltb, le-ltb}
-use Rattle.trellis.specs.Bounds.{mostSymbols}
+use Rattle.trellis.specs.Bounds.{most_symbols}
 use Rattle.trellis.specs.Lists.{◌∈◌, keep}
 use Rattle.trellis.specs.Own.{Edge}
 use Rattle.trellis.specs.Section.{leaving}
-use Rattle.trellis.proofs.Lists.{flatMap-map}
-use Rattle.packed.specs.inner.Packed.{appended}
-use Rattle.packed.proofs.Appending.{appended-is, appended-short}
+use Rattle.trellis.proofs.Lists.{flat_map_map}
+use Rattle.packed.specs.Inner.Packed.{appended}
+use Rattle.packed.proofs.Appending.{appended_is, appended_short}
 use Rattle.paths.specs.Chain.{unreached}
-use Rattle.paths.specs.inner.Costs.{plus}
-use Rattle.paths.specs.inner.Sections.{sectionGraph, edgeCost, sectionLeast}
-use Rattle.paths.proofs.Ordered.{of-flatMap}
+use Rattle.paths.specs.Inner.Costs.{plus}
+use Rattle.paths.specs.Inner.Sections.{section_graph, edge_cost, section_least}
+use Rattle.paths.proofs.Ordered.{of_flat_map}
 use Rattle.paths.proofs.Sections.{listed_of}
-use Rattle.ranking.specs.inner.Kept.{keepBest, live, keepLive}
-use Rattle.ranking.specs.inner.Growth.{narrow, Start, start, further, extended, rated}
-use Rattle.ranking.specs.inner.Block.{Label, spelled, oneEdge, edgeRated, edgesKept}
-use Rattle.ranking.proofs.Lists.{map-flatMap, flatMap-same, flatMap-one, keep-flatMap}
-use Rattle.ranking.proofs.Cut.{kept-member}
+use Rattle.ranking.specs.Inner.Kept.{keep_best, live, keep_live}
+use Rattle.ranking.specs.Inner.Growth.{narrow, Start, start, further, extended, rated}
+use Rattle.ranking.specs.Inner.Block.{Label, spelled, one_edge, edge_rated, edges_kept}
+use Rattle.ranking.proofs.Lists.{map_flat_map, flat_map_same, flat_map_one, keep_flat_map}
+use Rattle.ranking.proofs.Cut.{kept_member}
 use Rattle.ranking.proofs.Mapped.{kept_map, kept_same}
-use Rattle.dearest.specs.inner.Items.{costIn, code_in, item_of}
-use Rattle.codes.specs.inner.Codes.{code, codeRoot, codeVertex, codeLabel, furtherCode}
-use Rattle.least_rows.specs.inner.Rows.{row_at}
-use Rattle.totals.specs.inner.Totals.{paidFor, total_of}
-use Rattle.one_step.specs.inner.Steps.{candidate, candidates, steppedFrom}
-use Rattle.beginnings.specs.inner.Standing.{opened, Fitted, Item}
+use Rattle.dearest.specs.Inner.Items.{cost_in, code_in, item_of}
+use Rattle.codes.specs.Inner.Codes.{code, code_root, code_vertex, code_label, further_code}
+use Rattle.least_rows.specs.Inner.Rows.{row_at}
+use Rattle.totals.specs.Inner.Totals.{paid_for, total_of}
+use Rattle.one_step.specs.Inner.Steps.{candidate, candidates, stepped_from}
+use Rattle.beginnings.specs.Inner.Standing.{opened, Fitted, Item}
 
-live-flatMap : {A B : Type 0} (rate : B → ℕ) (bound : ℕ) (g : A → List B) (xs : List A)
+live_flat_map : {A B : Type 0} (rate : B → ℕ) (bound : ℕ) (g : A → List B) (xs : List A)
     → live rate bound (flat_map g xs) ≡ flat_map (λ x. live rate bound (g x)) xs
 unfolding live
-live-flatMap rate bound g xs = keep-flatMap (λ y. ltb (rate y) bound) g xs
+live_flat_map rate bound g xs = keep_flat_map (λ y. ltb (rate y) bound) g xs
 
 -- ---- numbers
 
 -- what is read off an item
 pub record Parts (x cost root vertex label : ℕ) : Type 0 where
-  pub cost-is : costIn x ≡ cost
-  pub root_is : codeRoot (code_in x) ≡ root
-  pub vertex-is : codeVertex (code_in x) ≡ vertex
-  pub label_is : codeLabel (code_in x) ≡ label
+  pub cost_is : cost_in x ≡ cost
+  pub root_is : code_root (code_in x) ≡ root
+  pub vertex_is : code_vertex (code_in x) ≡ vertex
+  pub label_is : code_label (code_in x) ≡ label
 
 -- each part fits in its bits: six for the place, ten for the vertex, sixteen for the label
-pub parts-of : (cost root vertex label : ℕ) → root < 64 → vertex < 1024 → label < 65536
+pub parts_of : (cost root vertex label : ℕ) → root < 64 → vertex < 1024 → label < 65536
     → Parts (item_of cost (code root vertex label)) cost root vertex label
-parts-of cost root vertex label r v l =
-    record { cost-is = omega arith; root_is = omega arith; vertex-is = omega arith; label_is = omega arith }
+parts_of cost root vertex label r v l =
+    record { cost_is = omega arith; root_is = omega arith; vertex_is = omega arith; label_is = omega arith }
 
-root-small : (x : ℕ) → codeRoot (code_in x) < 64
-root-small x = omega arith
+root_small : (x : ℕ) → code_root (code_in x) < 64
+root_small x = omega arith
 
 module _ {edges : ℕ → List Edge} {n : ℕ} {counts : ℕ → ℕ} {cost : ℕ → ℕ → ℕ} {number : ℕ → ℕ} {rows prices : List ℕ}
     (F : Fitted edges n counts cost number rows prices) (have : ℕ) where
-  abbrev ratedAt : ℕ → Start (Label ℕ) → ℕ
-  ratedAt t x = edgeRated edges cost unreached number (n - t) t x
+  abbrev rated_at : ℕ → Start (Label ℕ) → ℕ
+  rated_at t x = edge_rated edges cost unreached number (n - t) t x
 
   -- an item is rated by its cost
-  pub item-rated : (t x : ℕ) → t ≤ n → Item counts rows have t x → ratedAt t (opened rows t x) ≡ costIn x
-  unfolding edgeRated rated opened paidFor plus sectionLeast
-  item-rated t x h I =
-      let r = F.row_is t (codeVertex (code_in x)) h I.within in
+  pub item_rated : (t x : ℕ) → t ≤ n → Item counts rows have t x → rated_at t (opened rows t x) ≡ cost_in x
+  unfolding edge_rated rated opened paid_for plus section_least
+  item_rated t x h I =
+      let r = F.row_is t (code_vertex (code_in x)) h I.within in
       let a = I.low in
       let b = I.paid in
       omega arith
 
-  pub opened-by : (t : ℕ) {x c r v l : ℕ} → Parts x c r v l
+  pub opened_by : (t : ℕ) {x c r v l : ℕ} → Parts x c r v l
       → opened rows t x ≡ start (record { of = r; label = l }) v (c - row_at rows t v)
-  unfolding opened paidFor
-  opened-by t P =
+  unfolding opened paid_for
+  opened_by t P =
       λ i. start (record { of = P.root_is i; label = P.label_is i }) (P.vertex-is i) (P.cost-is i - row_at rows t (P.vertex-is i))
 
   pub item_by : (t : ℕ) {x c r v l : ℕ} → Parts x c r v l → r < have → c < unreached → v < counts t → l < 4 ^ t → row_at rows t v ≤ c
@@ -86,106 +86,106 @@ module _ {edges : ℕ → List Edge} {n : ℕ} {counts : ℕ → ℕ} {cost : �
     within = subst (λ w. w < counts t) (sym P.vertex-is) b;
     spelled = subst (λ w. w < 4 ^ t) (sym P.label_is) d;
     of = subst (λ w. w < have) (sym P.root_is) o;
-    paid = subst (λ w. row_at rows t w ≤ costIn x) (sym P.vertex-is) (omega (arith, P.cost-is));
+    paid = subst (λ w. row_at rows t w ≤ cost_in x) (sym P.vertex-is) (omega (arith, P.cost-is));
   }
 
   -- ---- one edge
 
-  module _ (t x : ℕ) (h : t < n) (I : Item counts rows have t x) (e : Edge) (m : e ∈ leaving (codeVertex (code_in x)) (edges t)) where
+  module _ (t x : ℕ) (h : t < n) (I : Item counts rows have t x) (e : Edge) (m : e ∈ leaving (code_vertex (code_in x)) (edges t)) where
     listed : e ∈ edges t
-    listed = listed_of (codeVertex (code_in x)) (edges t) e m
+    listed = listed_of (code_vertex (code_in x)) (edges t) e m
 
     -- what the item becomes, as a beginning and as a number
     abbrev next : Start (Label ℕ)
-    next = further (sectionGraph edges) (edgeCost cost) spelled t (opened rows t x) e
+    next = further (section_graph edges) (edge_cost cost) spelled t (opened rows t x) e
 
-    abbrev paidSoFar : ℕ
-    paidSoFar = paidFor rows t x
+    abbrev paid_so_far : ℕ
+    paid_so_far = paid_for rows t x
 
     abbrev total : ℕ
-    total = total_of rows prices t paidSoFar e
+    total = total_of rows prices t paid_so_far e
 
-    abbrev nextItem : ℕ
-    nextItem = item_of total (furtherCode (code_in x) e)
+    abbrev next_item : ℕ
+    next_item = item_of total (further_code (code_in x) e)
 
-    total-is : total ≡ paidSoFar + cost t e.symbol + row_at rows (suc t) e.to
+    total_is : total ≡ paid_so_far + cost t e.symbol + row_at rows (suc t) e.to
     unfolding total_of
-    total-is = ap (λ p. paidSoFar + p + row_at rows (suc t) e.to) (F.price-is t e.symbol h (F.symbol-lt t h e listed))
+    total_is = ap (λ p. paid_so_far + p + row_at rows (suc t) e.to) (F.price-is t e.symbol h (F.symbol-lt t h e listed))
 
-    next-rated : ratedAt (suc t) next ≡ min unreached total
-    unfolding edgeRated rated opened plus sectionLeast further
-    next-rated =
-        ap (λ y. min unreached (paidSoFar + cost t e.symbol + y)) (sym (F.row_is (suc t) e.to h (F.to-lt t h e listed)))
-        ∙ ap (min unreached) (sym total-is)
+    next_rated : rated_at (suc t) next ≡ min unreached total
+    unfolding edge_rated rated opened plus section_least further
+    next_rated =
+        ap (λ y. min unreached (paid_so_far + cost t e.symbol + y)) (sym (F.row_is (suc t) e.to h (F.to-lt t h e listed)))
+        ∙ ap (min unreached) (sym total_is)
 
-    same-life : ltb (ratedAt (suc t) next) unreached ≡ ltb total unreached
-    same-life = go (dec_le unreached total)
+    same_life : ltb (rated_at (suc t) next) unreached ≡ ltb total unreached
+    same_life = go (dec_le unreached total)
       where
-        go : Dec (unreached ≤ total) → ltb (ratedAt (suc t) next) unreached ≡ ltb total unreached
-        go (yes l) = le-ltb (ratedAt (suc t) next) unreached (omega (arith, next-rated)) ∙ sym (le-ltb total unreached l)
+        go : Dec (unreached ≤ total) → ltb (rated_at (suc t) next) unreached ≡ ltb total unreached
+        go (yes l) = le-ltb (rated_at (suc t) next) unreached (omega (arith, next_rated)) ∙ sym (le-ltb total unreached l)
         go (no l) =
-            lt-ltb (ratedAt (suc t) next) unreached (omega (arith, next-rated)) ∙ sym (lt-ltb total unreached (omega arith))
+            lt-ltb (rated_at (suc t) next) unreached (omega (arith, next_rated)) ∙ sym (lt-ltb total unreached (omega arith))
 
-    label-fits : appended (codeLabel (code_in x)) e.symbol ≡ codeLabel (code_in x) * 4 + e.symbol
-    label-fits = appended-is t (codeLabel (code_in x)) e.symbol I.spelled (omega (arith, F.short)) (F.symbol-lt t h e listed)
+    label_fits : appended (code_label (code_in x)) e.symbol ≡ code_label (code_in x) * 4 + e.symbol
+    label_fits = appended_is t (code_label (code_in x)) e.symbol I.spelled (omega (arith, F.short)) (F.symbol-lt t h e listed)
 
-    label-short : appended (codeLabel (code_in x)) e.symbol < 4 ^ suc t
-    label-short = appended-short t (codeLabel (code_in x)) e.symbol I.spelled (omega (arith, F.short)) (F.symbol-lt t h e listed)
+    label_short : appended (code_label (code_in x)) e.symbol < 4 ^ suc t
+    label_short = appended_short t (code_label (code_in x)) e.symbol I.spelled (omega (arith, F.short)) (F.symbol-lt t h e listed)
 
-    next-parts : Parts nextItem total (codeRoot (code_in x)) e.to (appended (codeLabel (code_in x)) e.symbol)
-    next-parts =
-        let g : suc t ≤ mostSymbols = omega (arith, F.short) in
-        let q : 4 ^ suc t ≤ 4 ^ mostSymbols = pow-le-pow_right (lit< tt) g in
+    next_parts : Parts next_item total (code_root (code_in x)) e.to (appended (code_label (code_in x)) e.symbol)
+    next_parts =
+        let g : suc t ≤ most_symbols = omega (arith, F.short) in
+        let q : 4 ^ suc t ≤ 4 ^ most_symbols = pow-le-pow_right (lit< tt) g in
         let v = F.to-lt t h e listed in
         let w = F.counts-le (suc t) h in
-        parts-of total (codeRoot (code_in x)) e.to (appended (codeLabel (code_in x)) e.symbol) (root-small x) (omega arith)
-        (lt_of_lt_of_le label-short q)
+        parts_of total (code_root (code_in x)) e.to (appended (code_label (code_in x)) e.symbol) (root_small x) (omega arith)
+        (lt_of_lt_of_le label_short q)
 
     -- a candidate stands for what the item becomes
-    opened-next : opened rows (suc t) nextItem ≡ next
+    opened_next : opened rows (suc t) next_item ≡ next
     unfolding opened further
-    opened-next =
-        let a = total-is in
-        let d : total - row_at rows (suc t) e.to ≡ paidSoFar + cost t e.symbol = omega arith in
-        opened-by (suc t) next-parts
-        ∙ ap₂ (λ y c. start (record { of = codeRoot (code_in x); label = y }) e.to c) label-fits d
+    opened_next =
+        let a = total_is in
+        let d : total - row_at rows (suc t) e.to ≡ paid_so_far + cost t e.symbol = omega arith in
+        opened_by (suc t) next_parts
+        ∙ ap₂ (λ y c. start (record { of = code_root (code_in x); label = y }) e.to c) label_fits d
 
-    next-item : total < unreached → Item counts rows have (suc t) nextItem
-    next-item l =
-        let a = total-is in item_by (suc t) next-parts I.of l (F.to-lt t h e listed) label-short (omega arith)
+    next_item_lem : total < unreached → Item counts rows have (suc t) next_item
+    next_item_lem l =
+        let a = total_is in item_by (suc t) next_parts I.of l (F.to-lt t h e listed) label_short (omega arith)
 
     -- one edge: nothing, or one candidate
-    one-candidate : live (ratedAt (suc t)) unreached (next ∷ [])
-        ≡ map (opened rows (suc t)) (candidate rows prices t paidSoFar (code_in x) e)
+    one_candidate : live (rated_at (suc t)) unreached (next ∷ [])
+        ≡ map (opened rows (suc t)) (candidate rows prices t paid_so_far (code_in x) e)
     unfolding live keep candidate
-    one-candidate = rw same-life (go (ltb total unreached))
+    one_candidate = rw same_life (go (ltb total unreached))
       where
-        go : (b : Bool) → cond b (next ∷ []) [] ≡ map (opened rows (suc t)) (cond b (nextItem ∷ []) [])
-        go true = ap (λ y. y ∷ []) (sym opened-next)
+        go : (b : Bool) → cond b (next ∷ []) [] ≡ map (opened rows (suc t)) (cond b (next_item ∷ []) [])
+        go true = ap (λ y. y ∷ []) (sym opened_next)
         go false = refl
 
-    candidate-item : (y : ℕ) → y ∈ candidate rows prices t paidSoFar (code_in x) e → Item counts rows have (suc t) y
+    candidate_item : (y : ℕ) → y ∈ candidate rows prices t paid_so_far (code_in x) e → Item counts rows have (suc t) y
     unfolding candidate
-    candidate-item y k = go (ltb total unreached) refl k
+    candidate_item y k = go (ltb total unreached) refl k
       where
-        go : (b : Bool) → ltb total unreached ≡ b → y ∈ cond b (nextItem ∷ []) [] → Item counts rows have (suc t) y
+        go : (b : Bool) → ltb total unreached ≡ b → y ∈ cond b (next_item ∷ []) [] → Item counts rows have (suc t) y
         go true i j =
-            subst (Item counts rows have (suc t)) (sym (Memᴰ.eq_of_singleton j)) (next-item (ltb-true total unreached i))
+            subst (Item counts rows have (suc t)) (sym (Memᴰ.eq_of_singleton j)) (next_item_lem (ltb-true total unreached i))
         go false i j = absurd (Memᴰ.not-nil j)
 
   -- ---- one item
 
-  candidates-stand : (t x : ℕ) → t < n → Item counts rows have t x
-      → live (ratedAt (suc t)) unreached (oneEdge edges cost t (opened rows t x))
+  candidates_stand : (t x : ℕ) → t < n → Item counts rows have t x
+      → live (rated_at (suc t)) unreached (one_edge edges cost t (opened rows t x))
       ≡ map (opened rows (suc t)) (candidates rows prices t (edges t) x)
-  unfolding oneEdge extended opened
-  candidates-stand t x h I =
-      let out : List Edge = leaving (codeVertex (code_in x)) (edges t) in
-      let go : Edge → Start (Label ℕ) = further (sectionGraph edges) (edgeCost cost) spelled t (opened rows t x) in
-      ap (live (ratedAt (suc t)) unreached) (sym (flatMap-one go out))
-      ∙ live-flatMap (ratedAt (suc t)) unreached (λ e. go e ∷ []) out
-      ∙ flatMap-same _ _ out (λ e m. one-candidate t x h I e m)
-      ∙ sym (map-flatMap (opened rows (suc t)) (candidate rows prices t (paidFor rows t x) (code_in x)) out)
+  unfolding one_edge extended opened
+  candidates_stand t x h I =
+      let out : List Edge = leaving (code_vertex (code_in x)) (edges t) in
+      let go : Edge → Start (Label ℕ) = further (section_graph edges) (edge_cost cost) spelled t (opened rows t x) in
+      ap (live (rated_at (suc t)) unreached) (sym (flat_map_one go out))
+      ∙ live_flat_map (rated_at (suc t)) unreached (λ e. go e ∷ []) out
+      ∙ flat_map_same _ _ out (λ e m. one_candidate t x h I e m)
+      ∙ sym (map_flat_map (opened rows (suc t)) (candidate rows prices t (paid_for rows t x) (code_in x)) out)
 
   -- ---- one step
 
@@ -195,52 +195,52 @@ module _ {edges : ℕ → List Edge} {n : ℕ} {counts : ℕ → ℕ} {cost : �
   abbrev coming : ℕ → List ℕ → List ℕ
   coming t xs = flat_map (candidates rows prices t (edges t)) xs
 
-  coming-items : (t : ℕ) → t < n → (xs : List ℕ) → AllItems t xs → AllItems (suc t) (coming t xs)
-  coming-items t h xs a y m =
-      let w = of-flatMap (candidates rows prices t (edges t)) xs y m in
+  coming_items : (t : ℕ) → t < n → (xs : List ℕ) → AllItems t xs → AllItems (suc t) (coming t xs)
+  coming_items t h xs a y m =
+      let w = of_flat_map (candidates rows prices t (edges t)) xs y m in
       let x = w.source in
-      let v = of-flatMap (candidate rows prices t (paidFor rows t x) (code_in x)) (leaving (codeVertex (code_in x)) (edges t)) y w.holds in
-      candidate-item t x h (a x w.listed) v.source v.listed y v.holds
+      let v = of_flat_map (candidate rows prices t (paid_for rows t x) (code_in x)) (leaving (code_vertex (code_in x)) (edges t)) y w.holds in
+      candidate_item t x h (a x w.listed) v.source v.listed y v.holds
 
-  live-coming : (t : ℕ) → t < n → (xs : List ℕ) → AllItems t xs
-      → live (ratedAt (suc t)) unreached (flat_map (oneEdge edges cost t) (map (opened rows t) xs)) ≡ map (opened rows (suc t)) (coming t xs)
-  live-coming t h xs a =
-      live-flatMap (ratedAt (suc t)) unreached (oneEdge edges cost t) (map (opened rows t) xs)
-      ∙ flatMap-map (λ y. live (ratedAt (suc t)) unreached (oneEdge edges cost t y)) (opened rows t) xs
-      ∙ flatMap-same _ _ xs (λ x m. candidates-stand t x h (a x m))
-      ∙ sym (map-flatMap (opened rows (suc t)) (candidates rows prices t (edges t)) xs)
+  live_coming : (t : ℕ) → t < n → (xs : List ℕ) → AllItems t xs
+      → live (rated_at (suc t)) unreached (flat_map (one_edge edges cost t) (map (opened rows t) xs)) ≡ map (opened rows (suc t)) (coming t xs)
+  live_coming t h xs a =
+      live_flat_map (rated_at (suc t)) unreached (one_edge edges cost t) (map (opened rows t) xs)
+      ∙ flat_map_map (λ y. live (rated_at (suc t)) unreached (one_edge edges cost t y)) (opened rows t) xs
+      ∙ flat_map_same _ _ xs (λ x m. candidates_stand t x h (a x m))
+      ∙ sym (map_flat_map (opened rows (suc t)) (candidates rows prices t (edges t)) xs)
 
-  step-items : (k t : ℕ) → t < n → (xs : List ℕ) → AllItems t xs → AllItems (suc t) (keepBest costIn k (coming t xs))
-  step-items k t h xs a y m = coming-items t h xs a y (kept-member costIn k (coming t xs) y m)
+  step_items : (k t : ℕ) → t < n → (xs : List ℕ) → AllItems t xs → AllItems (suc t) (keep_best cost_in k (coming t xs))
+  step_items k t h xs a y m = coming_items t h xs a y (kept_member cost_in k (coming t xs) y m)
 
-  step-stands : (k t : ℕ) → t < n → (xs : List ℕ) → AllItems t xs
-      → keepLive (ratedAt (suc t)) unreached k (flat_map (oneEdge edges cost t) (map (opened rows t) xs))
-      ≡ map (opened rows (suc t)) (keepBest costIn k (coming t xs))
-  unfolding keepLive
-  step-stands k t h xs a =
-      ap (keepBest (ratedAt (suc t)) k) (live-coming t h xs a) ∙ kept_map (ratedAt (suc t)) (opened rows (suc t)) k (coming t xs)
+  step_stands : (k t : ℕ) → t < n → (xs : List ℕ) → AllItems t xs
+      → keep_live (rated_at (suc t)) unreached k (flat_map (one_edge edges cost t) (map (opened rows t) xs))
+      ≡ map (opened rows (suc t)) (keep_best cost_in k (coming t xs))
+  unfolding keep_live
+  step_stands k t h xs a =
+      ap (keep_best (rated_at (suc t)) k) (live_coming t h xs a) ∙ kept_map (rated_at (suc t)) (opened rows (suc t)) k (coming t xs)
       ∙ ap (map (opened rows (suc t)))
-      (kept_same (λ y. ratedAt (suc t) (opened rows (suc t) y)) costIn k (coming t xs)
-      (λ y m. item-rated (suc t) y h (coming-items t h xs a y m)))
+      (kept_same (λ y. rated_at (suc t) (opened rows (suc t) y)) cost_in k (coming t xs)
+      (λ y m. item_rated (suc t) y h (coming_items t h xs a y m)))
 
   -- ---- all steps
 
   -- what is kept are items
-  pub section-items : (k m t : ℕ) → t + m ≡ n → (xs : List ℕ) → AllItems t xs → AllItems n (steppedFrom edges rows prices k m t xs)
-  unfolding steppedFrom
-  section-items k zero t e xs a = let i : t ≡ n = omega arith in subst (λ u. AllItems u xs) i a
-  section-items k (suc m) t e xs a =
-      section-items k m (suc t) (omega arith) (keepBest costIn k (coming t xs)) (step-items k t (omega arith) xs a)
+  pub section_items : (k m t : ℕ) → t + m ≡ n → (xs : List ℕ) → AllItems t xs → AllItems n (stepped_from edges rows prices k m t xs)
+  unfolding stepped_from
+  section_items k zero t e xs a = let i : t ≡ n = omega arith in subst (λ u. AllItems u xs) i a
+  section_items k (suc m) t e xs a =
+      section_items k m (suc t) (omega arith) (keep_best cost_in k (coming t xs)) (step_items k t (omega arith) xs a)
 
   -- and stands for what is kept of beginnings
-  pub section-stands : (k m t : ℕ) → t + m ≡ n → (xs : List ℕ) → AllItems t xs
-      → edgesKept edges cost unreached number k m t (map (opened rows t) xs) ≡ map (opened rows n) (steppedFrom edges rows prices k m t xs)
-  unfolding edgesKept narrow steppedFrom
-  section-stands k zero t e xs a = let i : t ≡ n = omega arith in ap (λ u. map (opened rows u) xs) i
-  section-stands k (suc m) t e xs a =
+  pub section_stands : (k m t : ℕ) → t + m ≡ n → (xs : List ℕ) → AllItems t xs
+      → edges_kept edges cost unreached number k m t (map (opened rows t) xs) ≡ map (opened rows n) (stepped_from edges rows prices k m t xs)
+  unfolding edges_kept narrow stepped_from
+  section_stands k zero t e xs a = let i : t ≡ n = omega arith in ap (λ u. map (opened rows u) xs) i
+  section_stands k (suc m) t e xs a =
       let h : t < n = omega arith in
       let i : m ≡ n - suc t = omega arith in
-      ap (λ j. narrow (oneEdge edges cost) (edgeRated edges cost unreached number) unreached k m (suc t)
-      (keepLive (edgeRated edges cost unreached number j (suc t)) unreached k (flat_map (oneEdge edges cost t) (map (opened rows t) xs)))) i
-      ∙ ap (narrow (oneEdge edges cost) (edgeRated edges cost unreached number) unreached k m (suc t)) (step-stands k t h xs a)
-      ∙ section-stands k m (suc t) (omega arith) (keepBest costIn k (coming t xs)) (step-items k t h xs a)
+      ap (λ j. narrow (one_edge edges cost) (edge_rated edges cost unreached number) unreached k m (suc t)
+      (keep_live (edge_rated edges cost unreached number j (suc t)) unreached k (flat_map (one_edge edges cost t) (map (opened rows t) xs)))) i
+      ∙ ap (narrow (one_edge edges cost) (edge_rated edges cost unreached number) unreached k m (suc t)) (step_stands k t h xs a)
+      ∙ section_stands k m (suc t) (omega arith) (keep_best cost_in k (coming t xs)) (step_items k t h xs a)

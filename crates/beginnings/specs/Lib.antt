@@ -1,2 +1,2 @@
 -- The k best beginnings in front of a block and behind it, as the code keeps them.
-pub mod inner
+pub mod Inner

@@ -1,12 +1,12 @@
 // The k best beginnings between two blocks. They enter the section of a block at the roots of their states, and leave it at its goals, each
 // with a back pointer, by which its words are found again.
 ghost use Rattle.std.specs.Prelude.{◌≡◌, ◌+◌, ◌*◌, ◌<◌, ◌≤◌, length};
-ghost use Rattle.trellis.specs.Bounds.{mostPaths, mostBlocks, mostWords};
-ghost use Rattle.dearest.specs.inner.Items.{code_in};
-ghost use Rattle.codes.specs.inner.Codes.{code, codeVertex};
-ghost use Rattle.beginnings.specs.inner.Trails.{backLong};
-ghost use Rattle.beginnings.specs.inner.Entering.{stateFrom, OwnRoot, RootOf, HasRoot, EnteredOne, Enterable, AllEntered, Leavable};
-ghost use Rattle.beginnings.specs.inner.Entering.{Left};
+ghost use Rattle.trellis.specs.Bounds.{most_paths, most_blocks, most_words};
+ghost use Rattle.dearest.specs.Inner.Items.{code_in};
+ghost use Rattle.codes.specs.Inner.Codes.{code, code_vertex};
+ghost use Rattle.beginnings.specs.Inner.Trails.{back_long};
+ghost use Rattle.beginnings.specs.Inner.Entering.{state_from, OwnRoot, RootOf, HasRoot, EnteredOne, Enterable, AllEntered, Leavable};
+ghost use Rattle.beginnings.specs.Inner.Entering.{Left};
 
 use codes::{label_of, root_of, vertex_of};
 use dearest::{code_of, cost_of, item};
@@ -18,7 +18,7 @@ pub const BACK: usize = MOST_PATHS * MOST_BLOCKS;
 
 // A code from a place, a vertex or a state, and the symbols so far.
 pub fn coded(place: usize, vertex: usize, label: u16) -> u32
-    requires { (place < mostPaths) × (vertex < mostWords) }
+    requires { (place < most_paths) × (vertex < most_words) }
     ensures { result ≡ code place vertex label }
 {
     ((place * 1024 + vertex) as u32) * 65536 + (label as u32)
@@ -64,8 +64,8 @@ fn root_at(s: &[u16], roots: usize, count: usize, state: usize) -> usize
 
 // Slot x at place j becomes an item at the root of its state.
 fn entered(s: &[u16], roots: usize, count: usize, j: usize, x: u64) -> u64
-    requires { (roots + count ≤ length s.now) × (count ≤ mostWords) × (j < mostPaths)
-        × HasRoot s.now roots count (codeVertex (code_in x)) }
+    requires { (roots + count ≤ length s.now) × (count ≤ most_words) × (j < most_paths)
+        × HasRoot s.now roots count (code_vertex (code_in x)) }
     ensures { EnteredOne s.now roots count j x result }
 {
     let v = root_at(s, roots, count, vertex_of(code_of(x)));
@@ -81,8 +81,8 @@ pub fn enter(
     have: usize,
     items: &mut [u64; MOST_PATHS],
 )
-    requires { (roots + count ≤ length s.now) × (count ≤ mostWords) × (have ≤ mostPaths) × (length slots.now ≡ mostPaths)
-        × (length items.old ≡ mostPaths) × Enterable s.now roots count slots.now have }
+    requires { (roots + count ≤ length s.now) × (count ≤ most_words) × (have ≤ most_paths) × (length slots.now ≡ most_paths)
+        × (length items.old ≡ most_paths) × Enterable s.now roots count slots.now have }
     ensures { AllEntered s.now roots count slots.now items.new have }
 {
     let mut j: usize = 0;
@@ -102,9 +102,9 @@ pub fn leave(
     slots: &mut [u64; MOST_PATHS],
     back: &mut [u32; BACK],
 )
-    requires { (count ≤ mostPaths) × (b < mostBlocks) × (length items.now ≡ mostPaths)
-        × (length slots.old ≡ mostPaths) × (length back.old ≡ backLong) × Leavable s.now goals items.now count }
-    ensures { Left (stateFrom s.now goals) items.now b count slots.new back.old
+    requires { (count ≤ most_paths) × (b < most_blocks) × (length items.now ≡ most_paths)
+        × (length slots.old ≡ most_paths) × (length back.old ≡ back_long) × Leavable s.now goals items.now count }
+    ensures { Left (state_from s.now goals) items.now b count slots.new back.old
         back.new }
 {
     let mut j: usize = 0;

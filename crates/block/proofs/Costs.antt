@@ -8,62 +8,62 @@ use native.Mathlib.Omega.{arith}
 use lib.Dec.{lit<}
 use lib.ListN.{length, get_or, set, length-set}
 use lib.Seq.{get_or-set_same, get_or-set_other, set_out}
-use Rattle.trellis.specs.Bounds.{mostSymbols}
-use Rattle.trellis.specs.Comparing.{symbolCost}
-use Rattle.paths.specs.inner.Ranked.{labelUnit, distanceUnit, topRank, ranked, rankedCost, PriceRoom}
-use Rattle.block.specs.inner.Prices.{Prices}
+use Rattle.trellis.specs.Bounds.{most_symbols}
+use Rattle.trellis.specs.Comparing.{symbol_cost}
+use Rattle.paths.specs.Inner.Ranked.{label_unit, distance_unit, top_rank, ranked, ranked_cost, PriceRoom}
+use Rattle.block.specs.Inner.Prices.{Prices}
 
 -- what the symbols from t on add is there, and the next one's weight is known
 pub record InPrices (n received erased : ℕ) (prices : List ℕ) (weight t : ℕ) : Type 0 where
-  pub t-le : t ≤ n
+  pub t_le : t ≤ n
   pub room : PriceRoom prices
-  pub weightIs : weight ≡ 4 ^ (n - t) * labelUnit
-  pub light : weight ≤ distanceUnit
-  pub at : (u a : ℕ) → t ≤ u → u < n → a < 4 → get_or prices (4 * u + a) 0 ≡ rankedCost n (symbolCost n received erased) u a
+  pub weight_is : weight ≡ 4 ^ (n - t) * label_unit
+  pub light : weight ≤ distance_unit
+  pub at : (u a : ℕ) → t ≤ u → u < n → a < 4 → get_or prices (4 * u + a) 0 ≡ ranked_cost n (symbol_cost n received erased) u a
 
-pub prices-start : {n received erased : ℕ} {prices : List ℕ} → PriceRoom prices → InPrices n received erased prices labelUnit n
-prices-start {n} h =
+pub prices_start : {n received erased : ℕ} {prices : List ℕ} → PriceRoom prices → InPrices n received erased prices label_unit n
+prices_start {n} h =
     let e : n - n ≡ 0 = omega arith in
     record {
-      t-le = omega arith;
+      t_le = omega arith;
       room = h;
-      weightIs = sym (ap (λ k. 4 ^ k * labelUnit) e);
+      weight_is = sym (ap (λ k. 4 ^ k * label_unit) e);
       light = omega arith;
       at =
           λ u a k l. absurd (omega arith);
     }
 
-pub step-inside : {n received erased weight t : ℕ} {prices : List ℕ} → InPrices n received erased prices weight t → 0 < t → t - 1 < n
-step-inside I h = omega (arith, I.t-le)
+pub step_inside : {n received erased weight t : ℕ} {prices : List ℕ} → InPrices n received erased prices weight t → 0 < t → t - 1 < n
+step_inside I h = omega (arith, I.t-le)
 
 -- four places written, one behind another
 abbrev four : List ℕ → ℕ → ℕ → ℕ → ℕ → ℕ → List ℕ
 four l i w x y z = set (set (set (set l i w) (i + 1) x) (i + 2) y) (i + 3) z
 
 module _ (l : List ℕ) (i w x y z : ℕ) (h : i + 3 < length l) where
-  four-0 : get_or (four l i w x y z) i 0 ≡ w
-  four-0 =
+  four_0 : get_or (four l i w x y z) i 0 ≡ w
+  four_0 =
       get_or-set_other (set (set (set l i w) (i + 1) x) (i + 2) y) (i + 3) i z 0 (λ k. absurd (omega arith))
       ∙ get_or-set_other (set (set l i w) (i + 1) x) (i + 2) i y 0 (λ k. absurd (omega arith))
       ∙ get_or-set_other (set l i w) (i + 1) i x 0 (λ k. absurd (omega arith))
       ∙ get_or-set_same l i w 0 (omega arith)
 
-  four-1 : get_or (four l i w x y z) (i + 1) 0 ≡ x
-  four-1 =
+  four_1 : get_or (four l i w x y z) (i + 1) 0 ≡ x
+  four_1 =
       get_or-set_other (set (set (set l i w) (i + 1) x) (i + 2) y) (i + 3) (i + 1) z 0 (λ k. absurd (omega arith))
       ∙ get_or-set_other (set (set l i w) (i + 1) x) (i + 2) (i + 1) y 0 (λ k. absurd (omega arith))
       ∙ get_or-set_same (set l i w) (i + 1) x 0 (simp length-set (omega arith))
 
-  four-2 : get_or (four l i w x y z) (i + 2) 0 ≡ y
-  four-2 =
+  four_2 : get_or (four l i w x y z) (i + 2) 0 ≡ y
+  four_2 =
       get_or-set_other (set (set (set l i w) (i + 1) x) (i + 2) y) (i + 3) (i + 2) z 0 (λ k. absurd (omega arith))
       ∙ get_or-set_same (set (set l i w) (i + 1) x) (i + 2) y 0 (simp length-set (omega arith))
 
-  four-3 : get_or (four l i w x y z) (i + 3) 0 ≡ z
-  four-3 = get_or-set_same (set (set (set l i w) (i + 1) x) (i + 2) y) (i + 3) z 0 (simp length-set (omega arith))
+  four_3 : get_or (four l i w x y z) (i + 3) 0 ≡ z
+  four_3 = get_or-set_same (set (set (set l i w) (i + 1) x) (i + 2) y) (i + 3) z 0 (simp length-set (omega arith))
 
-  four-other : (j : ℕ) → i + 3 < j → get_or (four l i w x y z) j 0 ≡ get_or l j 0
-  four-other j k =
+  four_other : (j : ℕ) → i + 3 < j → get_or (four l i w x y z) j 0 ≡ get_or l j 0
+  four_other j k =
       get_or-set_other (set (set (set l i w) (i + 1) x) (i + 2) y) (i + 3) j z 0 (λ e. absurd (omega arith))
       ∙ get_or-set_other (set (set l i w) (i + 1) x) (i + 2) j y 0 (λ e. absurd (omega arith))
       ∙ get_or-set_other (set l i w) (i + 1) j x 0 (λ e. absurd (omega arith))
@@ -78,33 +78,33 @@ set_all P l i w all here j = go (dec_lt i (length l)) (ℕ_discrete j i)
     go (yes h) (no e) = subst P (sym (get_or-set_other l i j w 0 e)) (all j)
     go (no h) e = subst (λ k. P (get_or k j 0)) (sym (set_out l i w (omega arith))) (all j)
 
-abbrev four-all : (P : ℕ → Type 0) (l : List ℕ) (i w x y z : ℕ) → ((j : ℕ) → P (get_or l j 0)) → P w → P x → P y → P z
+abbrev four_all : (P : ℕ → Type 0) (l : List ℕ) (i w x y z : ℕ) → ((j : ℕ) → P (get_or l j 0)) → P w → P x → P y → P z
     → (j : ℕ) → P (get_or (four l i w x y z) j 0)
-four-all P l i w x y z all a b c d =
+four_all P l i w x y z all a b c d =
     set_all P (set (set (set l i w) (i + 1) x) (i + 2) y) (i + 3) z
     (set_all P (set (set l i w) (i + 1) x) (i + 2) y (set_all P (set l i w) (i + 1) x (set_all P l i w all a) b) c) d
 
 -- what is written for the symbol a
-price-is : (n t cost a weight : ℕ) → weight ≡ 4 ^ (n - suc t) * labelUnit
-    → cost * distanceUnit + a * weight ≡ ranked cost (a * 4 ^ (n - suc t)) 0
+price_is : (n t cost a weight : ℕ) → weight ≡ 4 ^ (n - suc t) * label_unit
+    → cost * distance_unit + a * weight ≡ ranked cost (a * 4 ^ (n - suc t)) 0
 unfolding ranked
-price-is n t cost a weight e =
-    let m : a * (4 ^ (n - suc t) * labelUnit) ≡ a * 4 ^ (n - suc t) * labelUnit = sym (mul_assoc a (4 ^ (n - suc t)) labelUnit) in
-    ap (λ x. cost * distanceUnit + a * x) e ∙ omega (arith, m)
+price_is n t cost a weight e =
+    let m : a * (4 ^ (n - suc t) * label_unit) ≡ a * 4 ^ (n - suc t) * label_unit = sym (mul_assoc a (4 ^ (n - suc t)) label_unit) in
+    ap (λ x. cost * distance_unit + a * x) e ∙ omega (arith, m)
 
-pub prices-more : {n received erased t weight c₀ c₁ c₂ c₃ w x y z : ℕ} {prices : List ℕ} → n ≤ mostSymbols
+pub prices_more : {n received erased t weight c₀ c₁ c₂ c₃ w x y z : ℕ} {prices : List ℕ} → n ≤ most_symbols
     → InPrices n received erased prices weight t → 0 < t
-    → c₀ ≡ symbolCost n received erased (t - 1) 0 → (w ≡ c₀ * distanceUnit + 0 * weight) × (w ≤ topRank)
-    → c₁ ≡ symbolCost n received erased (t - 1) 1 → (x ≡ c₁ * distanceUnit + 1 * weight) × (x ≤ topRank)
-    → c₂ ≡ symbolCost n received erased (t - 1) 2 → (y ≡ c₂ * distanceUnit + 2 * weight) × (y ≤ topRank)
-    → c₃ ≡ symbolCost n received erased (t - 1) 3 → (z ≡ c₃ * distanceUnit + 3 * weight) × (z ≤ topRank)
+    → c₀ ≡ symbol_cost n received erased (t - 1) 0 → (w ≡ c₀ * distance_unit + 0 * weight) × (w ≤ top_rank)
+    → c₁ ≡ symbol_cost n received erased (t - 1) 1 → (x ≡ c₁ * distance_unit + 1 * weight) × (x ≤ top_rank)
+    → c₂ ≡ symbol_cost n received erased (t - 1) 2 → (y ≡ c₂ * distance_unit + 2 * weight) × (y ≤ top_rank)
+    → c₃ ≡ symbol_cost n received erased (t - 1) 3 → (z ≡ c₃ * distance_unit + 3 * weight) × (z ≤ top_rank)
     → InPrices n received erased (four prices (4 * (t - 1)) w x y z) (weight * 4) (t - 1)
-unfolding rankedCost
-prices-more {n} {received} {erased} {t} {weight} {w = w} {x} {y} {z} {prices} few I h c₀-is a c₁-is b c₂-is c c₃-is d =
+unfolding ranked_cost
+prices_more {n} {received} {erased} {t} {weight} {w = w} {x} {y} {z} {prices} few I h c₀-is a c₁-is b c₂-is c c₃-is d =
     record {
-      t-le = omega (arith, I.t-le);
+      t_le = omega (arith, I.t-le);
       room = record { long = simp length-set I.room.long; small = small };
-      weightIs = weights;
+      weight_is = weights;
       light = lighter;
       at = at;
     }
@@ -112,48 +112,48 @@ prices-more {n} {received} {erased} {t} {weight} {w = w} {x} {y} {z} {prices} fe
     inside : 4 * (t - 1) + 3 < length prices
     inside = omega (arith, I.room.long, I.t-le)
 
-    small : (i : ℕ) → get_or (four prices (4 * (t - 1)) w x y z) i 0 ≤ topRank
-    small i = four-all (λ k. k ≤ topRank) prices (4 * (t - 1)) w x y z I.room.small a.1 b.1 c.1 d.1 i
+    small : (i : ℕ) → get_or (four prices (4 * (t - 1)) w x y z) i 0 ≤ top_rank
+    small i = four_all (λ k. k ≤ top_rank) prices (4 * (t - 1)) w x y z I.room.small a.1 b.1 c.1 d.1 i
 
-    weights : weight * 4 ≡ 4 ^ (n - (t - 1)) * labelUnit
+    weights : weight * 4 ≡ 4 ^ (n - (t - 1)) * label_unit
     weights =
         let e : n - (t - 1) ≡ suc (n - t) = omega (arith, I.t-le) in
-        omega (arith, I.weightIs, ap (λ k. 4 ^ k) e, pow-suc 4 (n - t))
+        omega (arith, I.weight_is, ap (λ k. 4 ^ k) e, pow-suc 4 (n - t))
 
-    lighter : weight * 4 ≤ distanceUnit
+    lighter : weight * 4 ≤ distance_unit
     lighter =
-        let m : 4 ^ (n - (t - 1)) ≤ 4 ^ 8 = pow-le-pow_right (lit< tt) (let k : n - (t - 1) ≤ mostSymbols = omega arith in k) in
+        let m : 4 ^ (n - (t - 1)) ≤ 4 ^ 8 = pow-le-pow_right (lit< tt) (let k : n - (t - 1) ≤ most_symbols = omega arith in k) in
         omega (arith, weights)
 
-    heavy : weight ≡ 4 ^ (n - suc (t - 1)) * labelUnit
-    heavy = let e : n - t ≡ n - suc (t - 1) = omega arith in I.weightIs ∙ ap (λ k. 4 ^ k * labelUnit) e
+    heavy : weight ≡ 4 ^ (n - suc (t - 1)) * label_unit
+    heavy = let e : n - t ≡ n - suc (t - 1) = omega arith in I.weight_is ∙ ap (λ k. 4 ^ k * label_unit) e
 
-    is : (s : ℕ) {k : ℕ} → k ≡ symbolCost n received erased (t - 1) s
-        → k * distanceUnit + s * weight ≡ rankedCost n (symbolCost n received erased) (t - 1) s
-    is s {k} k-is = price-is n (t - 1) k s weight heavy ∙ ap (λ k. ranked k (s * 4 ^ (n - suc (t - 1))) 0) k-is
+    is : (s : ℕ) {k : ℕ} → k ≡ symbol_cost n received erased (t - 1) s
+        → k * distance_unit + s * weight ≡ ranked_cost n (symbol_cost n received erased) (t - 1) s
+    is s {k} k_is = price_is n (t - 1) k s weight heavy ∙ ap (λ k. ranked k (s * 4 ^ (n - suc (t - 1))) 0) k_is
 
     here : (s : ℕ) → s < 4
-        → get_or (four prices (4 * (t - 1)) w x y z) (4 * (t - 1) + s) 0 ≡ rankedCost n (symbolCost n received erased) (t - 1) s
-    here zero l = rw (add-zero (4 * (t - 1))) (four-0 prices (4 * (t - 1)) w x y z inside ∙ a.0 ∙ is 0 c₀-is)
-    here (suc zero) l = four-1 prices (4 * (t - 1)) w x y z inside ∙ b.0 ∙ is 1 c₁-is
-    here (suc (suc zero)) l = four-2 prices (4 * (t - 1)) w x y z inside ∙ c.0 ∙ is 2 c₂-is
-    here (suc (suc (suc zero))) l = four-3 prices (4 * (t - 1)) w x y z inside ∙ d.0 ∙ is 3 c₃-is
+        → get_or (four prices (4 * (t - 1)) w x y z) (4 * (t - 1) + s) 0 ≡ ranked_cost n (symbol_cost n received erased) (t - 1) s
+    here zero l = rw (add-zero (4 * (t - 1))) (four_0 prices (4 * (t - 1)) w x y z inside ∙ a.0 ∙ is 0 c₀-is)
+    here (suc zero) l = four_1 prices (4 * (t - 1)) w x y z inside ∙ b.0 ∙ is 1 c₁-is
+    here (suc (suc zero)) l = four_2 prices (4 * (t - 1)) w x y z inside ∙ c.0 ∙ is 2 c₂-is
+    here (suc (suc (suc zero))) l = four_3 prices (4 * (t - 1)) w x y z inside ∙ d.0 ∙ is 3 c₃-is
     here (suc (suc (suc (suc s)))) l = absurd (omega arith)
 
     at : (u s : ℕ) → t - 1 ≤ u → u < n → s < 4
-        → get_or (four prices (4 * (t - 1)) w x y z) (4 * u + s) 0 ≡ rankedCost n (symbolCost n received erased) u s
+        → get_or (four prices (4 * (t - 1)) w x y z) (4 * u + s) 0 ≡ ranked_cost n (symbol_cost n received erased) u s
     at u s l m k = go (ℕ_discrete u (t - 1))
       where
-        go : Dec (u ≡ t - 1) → get_or (four prices (4 * (t - 1)) w x y z) (4 * u + s) 0 ≡ rankedCost n (symbolCost n received erased) u s
-        go (yes e) = subst (λ v. get_or (four prices (4 * (t - 1)) w x y z) (4 * v + s) 0 ≡ rankedCost n (symbolCost n received erased) v s)
+        go : Dec (u ≡ t - 1) → get_or (four prices (4 * (t - 1)) w x y z) (4 * u + s) 0 ≡ ranked_cost n (symbol_cost n received erased) u s
+        go (yes e) = subst (λ v. get_or (four prices (4 * (t - 1)) w x y z) (4 * v + s) 0 ≡ ranked_cost n (symbol_cost n received erased) v s)
             (sym e) (here s k)
-        go (no e) = four-other prices (4 * (t - 1)) w x y z inside (4 * u + s) (omega arith) ∙ I.at u s (omega arith) m k
+        go (no e) = four_other prices (4 * (t - 1)) w x y z inside (4 * u + s) (omega arith) ∙ I.at u s (omega arith) m k
 
-pub prices-end : {n received erased weight t : ℕ} {prices : List ℕ} → InPrices n received erased prices weight t → t ≤ 0
+pub prices_end : {n received erased weight t : ℕ} {prices : List ℕ} → InPrices n received erased prices weight t → t ≤ 0
     → Prices n received erased prices
-prices-end I h = record { room = I.room; at = λ u a k. I.at u a (omega arith) k }
+prices_end I h = record { room = I.room; at = λ u a k. I.at u a (omega arith) k }
 
 -- ---- the size of a price
 
-pub symbol-least : (symbol weight : ℕ) → symbol ≤ 3 → weight ≤ distanceUnit → symbol * weight ≤ 3 * distanceUnit
-symbol-least symbol weight h k = mul-le-mul h k
+pub symbol_least : (symbol weight : ℕ) → symbol ≤ 3 → weight ≤ distance_unit → symbol * weight ≤ 3 * distance_unit
+symbol_least symbol weight h k = mul-le-mul h k

@@ -1,2 +1,2 @@
 -- What the symbols of a block cost.
-pub mod inner
+pub mod Inner

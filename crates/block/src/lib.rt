@@ -1,8 +1,8 @@
 // What the symbols of a block cost, ranked by the symbol. Symbols are compared by `comparing::compare` alone.
 ghost use Rattle.std.specs.Prelude.{◌≡◌, ◌+◌, ◌*◌, ◌≤◌};
-ghost use Rattle.trellis.specs.Bounds.{mostSymbols};
-ghost use Rattle.paths.specs.inner.Ranked.{distanceUnit, topRank, PriceRoom};
-ghost use Rattle.block.specs.inner.Prices.{Prices};
+ghost use Rattle.trellis.specs.Bounds.{most_symbols};
+ghost use Rattle.paths.specs.Inner.Ranked.{distance_unit, top_rank, PriceRoom};
+ghost use Rattle.block.specs.Inner.Prices.{Prices};
 
 use paths::{DISTANCE_UNIT, LABEL_UNIT};
 use received::bit_at;
@@ -10,8 +10,8 @@ use trellis::{MOST_Q, MOST_SYMBOLS};
 
 // A cost and, below it, the symbol at its place in the label.
 fn price(cost: u32, symbol: u64, weight: u64) -> u64
-    requires { (cost ≤ 1) × (symbol ≤ 3) × (weight ≤ distanceUnit) }
-    ensures { (result ≡ cost * distanceUnit + symbol * weight) × (result ≤ topRank) }
+    requires { (cost ≤ 1) × (symbol ≤ 3) × (weight ≤ distance_unit) }
+    ensures { (result ≡ cost * distance_unit + symbol * weight) × (result ≤ top_rank) }
 {
     (cost as u64) * DISTANCE_UNIT + symbol * weight
 }
@@ -19,7 +19,7 @@ fn price(cost: u32, symbol: u64, weight: u64) -> u64
 // What the symbols add, four a step: the cost ranks first, then the symbol. A symbol costs 1 where the label that has it throughout differs
 // from the received one, so four comparisons tell what all symbols cost. Places of other steps are left as they were.
 pub fn put_prices(n: usize, received: u16, erased: u8, prices: &mut [u64; MOST_Q * MOST_SYMBOLS])
-    requires { (n ≤ mostSymbols) × PriceRoom prices.old }
+    requires { (n ≤ most_symbols) × PriceRoom prices.old }
     ensures { Prices n received erased prices.new }
 {
     let zeros = comparing::compare(received, 0x0000, erased);

@@ -4,20 +4,20 @@ use mathlib.Core.List.{List}
 use Prim.Native.Nat.{ℕ}
 use Rattle.trellis.specs.Outcome.{Outcome}
 use Rattle.outcomes.specs.Numbered.{Numbered}
-use Rattle.outcomes.proofs.Numbering.{numbered-by}
+use Rattle.outcomes.proofs.Numbering.{numbered_by}
 use Rattle.decoding.specs.Decoding as decoding
 use Rattle.decoding.specs.Decoding.{DecodeLeft}
 
-pub decode-left :
+pub decode_left :
     {o : Outcome} {m : decoding.Decoding} {number : ℕ} {costs labels goals masks values : List ℕ} →
     decoding.left o costs labels goals masks ≡ m →
     Numbered o number values →
     DecodeLeft m number costs labels goals masks values
-decode-left e N =
+decode_left e N =
     record {
-      answerIs = numbered-by (ap (λ m. m.answer) e) N;
-      costsAre = ap (λ m. m.costs) e;
-      labelsAre = ap (λ m. m.labels) e;
-      goalsAre = ap (λ m. m.goals) e;
-      masksAre = ap (λ m. m.masks) e;
+      answer_is = numbered_by (ap (λ m. m.answer) e) N;
+      costs_are = ap (λ m. m.costs) e;
+      labels_are = ap (λ m. m.labels) e;
+      goals_are = ap (λ m. m.goals) e;
+      masks_are = ap (λ m. m.masks) e;
     }

@@ -4,20 +4,20 @@ use mathlib.Core.List.{List}
 use Prim.Native.Nat.{ℕ}
 use Rattle.trellis.specs.Outcome.{Outcome}
 use Rattle.outcomes.specs.Numbered.{Numbered}
-use Rattle.outcomes.proofs.Numbering.{numbered-by}
+use Rattle.outcomes.proofs.Numbering.{numbered_by}
 use Rattle.path_list.specs.Listing as paths
 use Rattle.path_list.specs.Listing.{DecodeListLeft}
 
-pub decode-list-left :
+pub decode_list_left :
     {o : Outcome} {m : paths.Listing} {number : ℕ} {costs distances labels goals values : List ℕ} →
     paths.left o costs distances labels goals ≡ m →
     Numbered o number values →
     DecodeListLeft m number costs distances labels goals values
-decode-list-left e N =
+decode_list_left e N =
     record {
-      answerIs = numbered-by (ap (λ m. m.answer) e) N;
-      costsAre = ap (λ m. m.costs) e;
-      distancesAre = ap (λ m. m.distances) e;
-      labelsAre = ap (λ m. m.labels) e;
-      goalsAre = ap (λ m. m.goals) e;
+      answer_is = numbered_by (ap (λ m. m.answer) e) N;
+      costs_are = ap (λ m. m.costs) e;
+      distances_are = ap (λ m. m.distances) e;
+      labels_are = ap (λ m. m.labels) e;
+      goals_are = ap (λ m. m.goals) e;
     }

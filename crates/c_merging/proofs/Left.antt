@@ -2,14 +2,14 @@
 use mathlib.Core.List.{List}
 use Prim.Native.Nat.{ℕ}
 use Rattle.outcomes.specs.Numbered.{Numbered}
-use Rattle.outcomes.proofs.Numbering.{numbered-by}
-use Rattle.answers.specs.Answers.{mergedOutcome}
+use Rattle.outcomes.proofs.Numbering.{numbered_by}
+use Rattle.answers.specs.Answers.{merged_outcome}
 use Rattle.answers.specs.declared.merge.Merged.{Merged}
 use Rattle.merging.specs.Merging.{Ends, MergeLeft, Merging}
 
-pub merge-left :
+pub merge_left :
     {m : Merging} {r : Merged} {number : ℕ} {map section values : List ℕ} →
     Ends m r map section →
-    Numbered (mergedOutcome r) number values →
+    Numbered (merged_outcome r) number values →
     MergeLeft m number map section values
-merge-left E N = record { answerIs = numbered-by E.answerIs N; mapIs = E.mapIs; sectionIs = E.sectionIs }
+merge_left E N = record { answer_is = numbered_by E.answer_is N; map_is = E.map_is; section_is = E.section_is }

@@ -4,19 +4,19 @@ use mathlib.Core.List.{List}
 use Prim.Native.Nat.{ℕ}
 use Rattle.trellis.specs.Outcome.{Outcome}
 use Rattle.outcomes.specs.Numbered.{Numbered}
-use Rattle.outcomes.proofs.Numbering.{numbered-by}
+use Rattle.outcomes.proofs.Numbering.{numbered_by}
 use Rattle.merging_rows.specs.MergingRows as rows
 use Rattle.merging_rows.specs.MergingRows.{MergeRowsLeft}
 
-pub merge-rows-left :
+pub merge_rows_left :
     {o : Outcome} {m : rows.MergingRows} {number : ℕ} {file map section values : List ℕ} →
     rows.left o file map section ≡ m →
     Numbered o number values →
     MergeRowsLeft m number file map section values
-merge-rows-left e N =
+merge_rows_left e N =
     record {
-      answerIs = numbered-by (ap (λ m. m.answer) e) N;
-      fileIs = ap (λ m. m.file) e;
-      mapIs = ap (λ m. m.map) e;
-      sectionIs = ap (λ m. m.section) e;
+      answer_is = numbered_by (ap (λ m. m.answer) e) N;
+      file_is = ap (λ m. m.file) e;
+      map_is = ap (λ m. m.map) e;
+      section_is = ap (λ m. m.section) e;
     }

@@ -1,5 +1,5 @@
 // Merging generator rows, for C and Rust: the answer in plain numbers.
-ghost use Rattle.merging_rows.specs.MergingRows.{mergingRows, MergeRowsLeft};
+ghost use Rattle.merging_rows.specs.MergingRows.{merging_rows, MergeRowsLeft};
 
 // Merges the table of all sums of generator rows.
 pub fn merge_rows_numbered(
@@ -12,7 +12,7 @@ pub fn merge_rows_numbered(
     values: &mut [u32; 4],
 ) -> u32
     ensures { MergeRowsLeft
-        (mergingRows bits n rows.now file.old map.old section.old) result
+        (merging_rows bits n rows.now file.old map.old section.old) result
         file.new map.new section.new values.new }
 {
     let answer = merge_rows::merge_rows(bits, n, rows, file, map, section);

@@ -4,13 +4,13 @@ use mathlib.Core.List.{List}
 use Prim.Native.Nat.{ℕ}
 use Rattle.trellis.specs.Outcome.{Outcome}
 use Rattle.outcomes.specs.Numbered.{Numbered}
-use Rattle.outcomes.proofs.Numbering.{numbered-by}
+use Rattle.outcomes.proofs.Numbering.{numbered_by}
 use Rattle.read_back.specs.ReadingBack as reading
 use Rattle.read_back.specs.ReadingBack.{ReadBackLeft}
 
-pub read-back-left :
+pub read_back_left :
     {o : Outcome} {m : reading.ReadingBack} {number : ℕ} {file values : List ℕ} →
     reading.left o file ≡ m →
     Numbered o number values →
     ReadBackLeft m number file values
-read-back-left e N = record { answerIs = numbered-by (ap (λ m. m.outcome) e) N; fileIs = ap (λ m. m.file) e }
+read_back_left e N = record { answer_is = numbered_by (ap (λ m. m.outcome) e) N; file_is = ap (λ m. m.file) e }

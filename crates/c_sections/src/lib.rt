@@ -1,11 +1,11 @@
 // Reading a section back and comparing two sections, for C and Rust: the answer in plain numbers.
 ghost use Rattle.outcomes.specs.Numbered.{Numbered};
-ghost use Rattle.read_back.specs.ReadingBack.{readingBack, ReadBackLeft};
+ghost use Rattle.read_back.specs.ReadingBack.{reading_back, ReadBackLeft};
 ghost use Rattle.same_section.specs.Comparing.{comparing};
 
 // Writes the table file of a section's words into `file`.
 pub fn read_back_numbered(section: &[u16], file: &mut [u8], values: &mut [u32; 4]) -> u32
-    ensures { ReadBackLeft (readingBack section.now file.old) result file.new values.new }
+    ensures { ReadBackLeft (reading_back section.now file.old) result file.new values.new }
 {
     let answer = read_back::read_back(section, file);
     outcomes::store(answers::read_back::outcome(answer), values)

@@ -4,13 +4,13 @@ use mathlib.Core.List.{List}
 use Prim.Native.Nat.{ℕ}
 use Rattle.trellis.specs.Outcome.{Outcome}
 use Rattle.outcomes.specs.Numbered.{Numbered}
-use Rattle.outcomes.proofs.Numbering.{numbered-by}
+use Rattle.outcomes.proofs.Numbering.{numbered_by}
 use Rattle.text_buffer.specs.Listing as printing
 use Rattle.text_buffer.specs.Listing.{ListingLeft}
 
-pub listing-left :
+pub listing_left :
     {o : Outcome} {m : printing.Listing} {number : ℕ} {text values : List ℕ} →
     printing.left o text ≡ m →
     Numbered o number values →
     ListingLeft m number text values
-listing-left e N = record { answerIs = numbered-by (ap (λ m. m.outcome) e) N; textIs = ap (λ m. m.text) e }
+listing_left e N = record { answer_is = numbered_by (ap (λ m. m.outcome) e) N; text_is = ap (λ m. m.text) e }

@@ -2,7 +2,7 @@
 // end state. `decode` answers for all arguments, by an equation with `decoding`: the outcome of document 01 and the whole content of
 // the four buffers.
 ghost use Rattle.std.specs.Prelude.{◌≡◌};
-ghost use Rattle.answers.specs.Answers.{decodedOutcome};
+ghost use Rattle.answers.specs.Answers.{decoded_outcome};
 ghost use Rattle.frame.specs.Frame.{frame};
 ghost use Rattle.decoding.specs.Decoding.{left, decoding};
 
@@ -27,7 +27,7 @@ pub fn decode(
     goals: &mut [u8],
     masks: &mut [u8],
 ) -> Decoded
-    ensures { left (decodedOutcome result) costs.new labels.new goals.new masks.new
+    ensures { left (decoded_outcome result) costs.new labels.new goals.new masks.new
         ≡ decoding (frame sections.now k indices.now received.now erased.now start end)
         costs.old labels.old goals.old masks.old }
 {

@@ -2,12 +2,12 @@
 // outcome and the whole content of the four buffers. The cost table is that of decoding; with what is left to pay known from every state,
 // the paths grow from the first block on, and no more beginnings are kept than paths are asked for.
 ghost use Rattle.std.specs.Prelude.{◌≡◌};
-ghost use Rattle.answers.specs.Answers.{decodedListOutcome};
-ghost use Rattle.sections.specs.inner.Found.{AllFound};
+ghost use Rattle.answers.specs.Answers.{decoded_list_outcome};
+ghost use Rattle.sections.specs.Inner.Found.{AllFound};
 ghost use Rattle.frame.specs.Frame.{frame};
 ghost use Rattle.path_list.specs.Listing.{left, framed, listing};
 
-use answers::decode_list::DecodedList;
+use answers::decode_list::Decoded_list;
 use frame::{first_bad, frame_bad};
 use list_room::list_blocks;
 use section_file::View;
@@ -31,7 +31,7 @@ fn list_frame(
     goals: &mut [u8],
 ) -> DecodedList
     requires { AllFound sections.now starts.now views k }
-    ensures { left (decodedListOutcome result) costs.new distances.new labels.new goals.new
+    ensures { left (decoded_list_outcome result) costs.new distances.new labels.new goals.new
         ≡ framed (frame sections.now k indices.now received.now erased.now start end) paths
         costs.old distances.old labels.old goals.old }
 {
@@ -67,7 +67,7 @@ pub fn decode_list(
     labels: &mut [u16],
     goals: &mut [u8],
 ) -> DecodedList
-    ensures { left (decodedListOutcome result) costs.new distances.new labels.new goals.new
+    ensures { left (decoded_list_outcome result) costs.new distances.new labels.new goals.new
         ≡ listing (frame sections.now k indices.now received.now erased.now start end) paths
         costs.old distances.old labels.old goals.old }
 {

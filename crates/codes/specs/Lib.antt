@@ -1,2 +1,2 @@
 -- Three fields in one number.
-pub mod inner
+pub mod Inner

@@ -9,12 +9,12 @@ use native.Mathlib.Nat.{lt_of_lt_of_le, lt_of_le_of_lt}
 use lib.Arith.{digits_div, digits_mod}
 use lib.Bits.{bit_and, bit_or, and_zero_r, and_le_r, and_block, and_mask, or_shr, or_mod, or_shifted_r}
 use lib.Pow.{pow_pos, pow_mono, pow-add, split, shl_lt, shr-shr, mod-mod-pow, mod-pow-add, ones_lt}
-use Rattle.comparing.specs.inner.Masks.{MaskedOr}
+use Rattle.comparing.specs.Inner.Masks.{MaskedOr}
 
 -- the mask of the low half of each of the last m fields of k + k bits
-unfoldable pub lowHalves : ℕ → ℕ → ℕ
-lowHalves k zero = 0
-lowHalves k (suc m) = lowHalves k m * 2 ^ (k + k) + (2 ^ k - 1)
+unfoldable pub low_halves : ℕ → ℕ → ℕ
+low_halves k zero = 0
+low_halves k (suc m) = low_halves k m * 2 ^ (k + k) + (2 ^ k - 1)
 
 -- the last m parts of v, of k bits each, in the low halves of m fields of k + k bits
 unfoldable pub spread : ℕ → ℕ → ℕ → ℕ
@@ -28,13 +28,13 @@ module _ (k : ℕ) where
 
   -- the mask keeps the low half of the last field, and its rest meets the rest of x
   pub kept : (m x : ℕ)
-      → bit_and x (lowHalves k (suc m)) ≡ bit_and (x / 2 ^ (k + k)) (lowHalves k m) * 2 ^ (k + k) + x % 2 ^ k
-  unfolding lowHalves
+      → bit_and x (low_halves k (suc m)) ≡ bit_and (x / 2 ^ (k + k)) (low_halves k m) * 2 ^ (k + k) + x % 2 ^ k
+  unfolding low_halves
   kept m x =
-      let mask = lowHalves k m * 2 ^ (k + k) + (2 ^ k - 1) in
+      let mask = low_halves k m * 2 ^ (k + k) + (2 ^ k - 1) in
       ap (λ w. bit_and w mask) (sym (split x (k + k)))
-      ∙ and_block (k + k) (x / 2 ^ (k + k)) (lowHalves k m) (x % 2 ^ (k + k)) (2 ^ k - 1) (mod-lt x (pow_pos (k + k))) (half (ones_lt k))
-      ∙ ap (λ w. bit_and (x / 2 ^ (k + k)) (lowHalves k m) * 2 ^ (k + k) + w)
+      ∙ and_block (k + k) (x / 2 ^ (k + k)) (low_halves k m) (x % 2 ^ (k + k)) (2 ^ k - 1) (mod-lt x (pow_pos (k + k))) (half (ones_lt k))
+      ∙ ap (λ w. bit_and (x / 2 ^ (k + k)) (low_halves k m) * 2 ^ (k + k) + w)
       (and_mask (x % 2 ^ (k + k)) k ∙ mod-mod-pow x k k)
 
   -- shifts by k and by j, in either order
@@ -46,31 +46,31 @@ module _ (k : ℕ) where
     abbrev pair : ℕ
     pair = (front * 2 ^ (k + k) + high) * 2 ^ (k + k) + low
 
-    pair-front : pair / 2 ^ ((k + k) + (k + k)) ≡ front
-    pair-front =
+    pair_front : pair / 2 ^ ((k + k) + (k + k)) ≡ front
+    pair_front =
         sym (shr-shr pair (k + k) (k + k))
         ∙ ap (λ w. w / 2 ^ (k + k)) (digits_div (front * 2 ^ (k + k) + high) (half b)) ∙ digits_div front (half a)
 
     -- shifted by k, the higher part is where the lower one has an empty half
-    pair-shifted : pair / 2 ^ k % 2 ^ (k + k) ≡ high * 2 ^ k
-    pair-shifted =
+    pair_shifted : pair / 2 ^ k % 2 ^ (k + k) ≡ high * 2 ^ k
+    pair_shifted =
         let w = front * 2 ^ (k + k) + high in
-        let by-halves : w * 2 ^ (k + k) ≡ w * 2 ^ k * 2 ^ k = ap (λ p. w * p) (pow-add 2 k k) ∙ sym (mul_assoc w (2 ^ k) (2 ^ k)) in
-        ap (λ p. (p + low) / 2 ^ k % 2 ^ (k + k)) by-halves
+        let by_halves : w * 2 ^ (k + k) ≡ w * 2 ^ k * 2 ^ k = ap (λ p. w * p) (pow-add 2 k k) ∙ sym (mul_assoc w (2 ^ k) (2 ^ k)) in
+        ap (λ p. (p + low) / 2 ^ k % 2 ^ (k + k)) by_halves
         ∙ ap (λ p. p % 2 ^ (k + k)) (digits_div (w * 2 ^ k) b ∙ add-mul (front * 2 ^ (k + k)) high (2 ^ k)
         ∙ ap (λ p. p + high * 2 ^ k) (mul_right_comm front (2 ^ (k + k)) (2 ^ k)))
         ∙ digits_mod (front * 2 ^ k) (shl_lt k k a)
 
-    pair-last : bit_or pair (pair / 2 ^ k) % 2 ^ (k + k) ≡ high * 2 ^ k + low
-    pair-last =
-        or_mod pair (pair / 2 ^ k) (k + k) ∙ ap₂ bit_or (digits_mod (front * 2 ^ (k + k) + high) (half b)) pair-shifted
+    pair_last : bit_or pair (pair / 2 ^ k) % 2 ^ (k + k) ≡ high * 2 ^ k + low
+    pair_last =
+        or_mod pair (pair / 2 ^ k) (k + k) ∙ ap₂ bit_or (digits_mod (front * 2 ^ (k + k) + high) (half b)) pair_shifted
         ∙ or_shifted_r high k low b
 
 abbrev joined : ℕ → ℕ → ℕ → ℕ
-joined k m x = bit_and (bit_or x (x / 2 ^ k)) (lowHalves (k + k) m)
+joined k m x = bit_and (bit_or x (x / 2 ^ k)) (low_halves (k + k) m)
 
 drawn : (k m v : ℕ) → joined k m (spread k (m + m) v) ≡ spread (k + k) m v
-unfolding spread lowHalves
+unfolding spread low_halves
 drawn k zero v = and_zero_r (bit_or 0 (0 / 2 ^ k))
 drawn k (suc m) v =
     let front = spread k (m + m) (v / 2 ^ k / 2 ^ k) in
@@ -83,17 +83,17 @@ drawn k (suc m) v =
     let two : suc m + suc m ≡ suc (suc (m + m)) = omega arith in
     let rest : bit_or x (x / 2 ^ k) / 2 ^ four ≡ bit_or front (front / 2 ^ k) =
     or_shr x (x / 2 ^ k) four ∙ ap (bit_or (x / 2 ^ four)) (swapped k four x)
-    ∙ ap (λ w. bit_or w (w / 2 ^ k)) (pair-front k front high low a b) in
+    ∙ ap (λ w. bit_or w (w / 2 ^ k)) (pair_front k front high low a b) in
     ap (λ fields. joined k (suc m) (spread k fields v)) two
     ∙ kept (k + k) m (bit_or x (x / 2 ^ k))
     ∙ ap₂ (λ w last. w * 2 ^ four + last)
-    (ap (λ w. bit_and w (lowHalves (k + k) m)) rest ∙ drawn k m (v / 2 ^ k / 2 ^ k) ∙ ap (spread (k + k) m) (shr-shr v k k))
-    (pair-last k front high low a b ∙ sym (mod-pow-add v k k))
+    (ap (λ w. bit_and w (low_halves (k + k) m)) rest ∙ drawn k m (v / 2 ^ k / 2 ^ k) ∙ ap (spread (k + k) m) (shr-shr v k k))
+    (pair_last k front high low a b ∙ sym (mod-pow-add v k k))
 
 -- as the code has it, with its shift and its mask
-pub drawn-together : (k m v : ℕ) {x y mask r : ℕ} → MaskedOr x y mask r → x ≡ spread k (m + m) v → y ≡ x / 2 ^ k
-    → mask ≡ lowHalves (k + k) m → r ≡ spread (k + k) m v
-drawn-together k m v {x} s e shifted low =
+pub drawn_together : (k m v : ℕ) {x y mask r : ℕ} → MaskedOr x y mask r → x ≡ spread k (m + m) v → y ≡ x / 2 ^ k
+    → mask ≡ low_halves (k + k) m → r ≡ spread (k + k) m v
+drawn_together k m v {x} s e shifted low =
     s.is ∙ ap₂ (λ y mask. bit_and (bit_or x y) mask) shifted low ∙ ap (joined k m) e ∙ drawn k m v
 
 -- one field holds all of v
@@ -102,5 +102,5 @@ unfolding spread
 one_field k {v} h = ap (λ w. w + v % 2 ^ k) (zero-mul (2 ^ (k + k))) ∙ zero-add (v % 2 ^ k) ∙ mod-eq_of_lt h
 
 -- what a mask keeps is not above it
-pub kept-below : (k : ℕ) {x y mask r : ℕ} → MaskedOr x y mask r → mask < 2 ^ k → r < 2 ^ k
-kept-below k {x} {y} {mask} s h = rw s.is (lt_of_le_of_lt (and_le_r (bit_or x y) mask) h)
+pub kept_below : (k : ℕ) {x y mask r : ℕ} → MaskedOr x y mask r → mask < 2 ^ k → r < 2 ^ k
+kept_below k {x} {y} {mask} s h = rw s.is (lt_of_le_of_lt (and_le_r (bit_or x y) mask) h)

@@ -1,2 +1,2 @@
 -- Labels held against each other.
-pub mod inner
+pub mod Inner

@@ -1,8 +1,8 @@
 // Two packed labels compared under an erasure mask, all symbols at once: the mask of those that differ, and their number, the distance.
 ghost use Rattle.std.specs.Prelude.{◌≡◌, ℕ, ◌-◌, ◌^◌, ◌<◌, ◌≤◌};
-ghost use Rattle.trellis.specs.Bounds.{mostSymbols};
+ghost use Rattle.trellis.specs.Bounds.{most_symbols};
 ghost use Rattle.trellis.specs.Comparing.{differing, Compared};
-ghost use Rattle.comparing.specs.inner.Masks.{MaskedOr};
+ghost use Rattle.comparing.specs.Inner.Masks.{MaskedOr};
 
 // What a mask keeps of x and of y.
 fn masked_or(x: u16, y: u16, mask: u16) -> u16
@@ -34,7 +34,7 @@ pub struct Comparison {
 // The labels x and y compared under an erasure mask. As the last symbol is lowest in labels and masks, what it says is true for labels of
 // any number of symbols.
 pub fn compare(x: u16, y: u16, erased: u8) -> Comparison
-    ensures { (n : ℕ) → n ≤ mostSymbols → x < 4 ^ n → y < 4 ^ n → Compared n x erased y result.mask result.distance }
+    ensures { (n : ℕ) → n ≤ most_symbols → x < 4 ^ n → y < 4 ^ n → Compared n x erased y result.mask result.distance }
 {
     let mask = differences(x, y) & !erased;
     Comparison {

@@ -1,2 +1,2 @@
 -- What filling the cost table asks and leaves.
-pub mod inner
+pub mod Inner

@@ -1,9 +1,9 @@
 // The pass over the blocks of a frame, from the last to the first. It leaves a note in each place of the cost table, by which the words of
 // the best path are found. The blocks' sections are found and the frame is checked; where a path may end is the caller's.
 ghost use Rattle.std.specs.Prelude.{◌≡◌, ◌*◌, ◌<◌, ◌≤◌, length};
-ghost use Rattle.trellis.specs.Bounds.{mostStates, costsABlock};
-ghost use Rattle.section_file.specs.inner.View.{Seen};
-ghost use Rattle.cost_table.specs.inner.Filled.{EndRow, Working, BlockFilled, heldBlocks, Ready, Filled};
+ghost use Rattle.trellis.specs.Bounds.{most_states, costs_aBlock};
+ghost use Rattle.section_file.specs.Inner.View.{Seen};
+ghost use Rattle.cost_table.specs.Inner.Filled.{EndRow, Working, BlockFilled, held_blocks, Ready, Filled};
 
 use block::put_prices;
 use numbers::widened;
@@ -13,7 +13,7 @@ use trellis::{COSTS_A_BLOCK, MOST_Q, MOST_SECTIONS, MOST_SYMBOLS, MOST_WORDS};
 
 // Nothing is left to pay in the end state, and there is no path from any other.
 pub fn ends_in(end: usize) -> [u32; COSTS_A_BLOCK]
-    requires { end < mostStates }
+    requires { end < most_states }
     ensures { EndRow end result }
 {
     let mut ends = [NO_PATH; COSTS_A_BLOCK];
@@ -34,7 +34,7 @@ fn fill_block(
     even: &mut [u64; MOST_WORDS],
     odd: &mut [u64; MOST_WORDS],
 )
-    requires { Seen l.now at × (length notes.old ≡ mostStates) × Working left.old prices.old even.old odd.old }
+    requires { Seen l.now at × (length notes.old ≡ most_states) × Working left.old prices.old even.old odd.old }
     ensures { BlockFilled l.now received mask left.old left.new notes.new
         × Working left.new prices.new even.new odd.new }
 {
@@ -54,9 +54,9 @@ pub fn fill(
     ends: [u32; COSTS_A_BLOCK],
     costs: &mut [u32],
 ) -> [u32; COSTS_A_BLOCK]
-    requires { Ready (heldBlocks sections.now starts.now views indices.now received.now erased.now)
-        × (length ends ≡ mostStates) × (costsABlock * length indices.now ≤ length costs.old) }
-    ensures { Filled (heldBlocks sections.now starts.now views indices.now received.now
+    requires { Ready (held_blocks sections.now starts.now views indices.now received.now erased.now)
+        × (length ends ≡ most_states) × (costs_aBlock * length indices.now ≤ length costs.old) }
+    ensures { Filled (held_blocks sections.now starts.now views indices.now received.now
         erased.now) ends result costs.old costs.new }
 {
     let mut left = ends;

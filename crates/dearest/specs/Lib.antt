@@ -1,2 +1,2 @@
 -- Items as numbers.
-pub mod inner
+pub mod Inner

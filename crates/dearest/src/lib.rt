@@ -1,15 +1,15 @@
 // Items as numbers, a cost above 32 bits that are the caller's; and the last dearest of those in an array.
 ghost use Rattle.std.specs.Prelude.{◌≡◌, ◌<◌, ◌≤◌, length};
-ghost use Rattle.trellis.specs.Bounds.{mostPaths};
-ghost use Rattle.dearest.specs.inner.Items.{costUnit, costIn, code_in, item_of, LastDearest};
-ghost use Rattle.dearest.specs.inner.Loops.{Later, CheaperFrom};
+ghost use Rattle.trellis.specs.Bounds.{most_paths};
+ghost use Rattle.dearest.specs.Inner.Items.{cost_unit, cost_in, code_in, item_of, LastDearest};
+ghost use Rattle.dearest.specs.Inner.Loops.{Later, CheaperFrom};
 
 use trellis::MOST_PATHS;
 
 const COST_UNIT: u64 = 4294967296;
 
 pub fn cost_of(item: u64) -> u64
-    ensures { (result ≡ costIn item) × (result < costUnit) }
+    ensures { (result ≡ cost_in item) × (result < cost_unit) }
 {
     item / COST_UNIT
 }
@@ -21,7 +21,7 @@ pub fn code_of(item: u64) -> u32
 }
 
 pub fn item(cost: u64, code: u32) -> u64
-    requires { cost < costUnit }
+    requires { cost < cost_unit }
     ensures { result ≡ item_of cost code }
 {
     cost * COST_UNIT + (code as u64)
@@ -47,7 +47,7 @@ fn dearer(found: Found, i: usize, cost: u64) -> Found
 
 // The place of the last dearest of the first `count` items.
 pub fn last_dearest(items: &[u64; MOST_PATHS], count: usize) -> usize
-    requires { (0 < count) × (count ≤ mostPaths) × (length items.now ≡ mostPaths) }
+    requires { (0 < count) × (count ≤ most_paths) × (length items.now ≡ most_paths) }
     ensures { LastDearest items.now count result }
 {
     let mut found = Found {
@@ -64,7 +64,7 @@ pub fn last_dearest(items: &[u64; MOST_PATHS], count: usize) -> usize
 
 // The place of the last dearest of the first `count` items, where none costs more than `cost`, and those from place `at` on cost less.
 pub fn dearest_before(items: &[u64; MOST_PATHS], count: usize, at: usize, cost: u64) -> usize
-    requires { CheaperFrom items.now count at cost × (count ≤ mostPaths) × (length items.now ≡ mostPaths) }
+    requires { CheaperFrom items.now count at cost × (count ≤ most_paths) × (length items.now ≡ most_paths) }
     ensures { LastDearest items.now count result }
 {
     let mut i = at;

@@ -7,56 +7,56 @@ use Prim.Native.Nat.{ℕ, ◌≤◌, ◌<◌}
 use lib.ListN.{length}
 use borrow.Author.Tests.{lt-ltb, le-ltb}
 use Rattle.trellis.specs.Lists.{first}
-use Rattle.trellis.specs.Outcome.{badSection, badBlock, shortBuffer}
-use Rattle.sections.specs.Sections.{sectionsBad, badSectionOf}
-use Rattle.frame.specs.Frame.{Frame, blockCount, frameBad, blockBad}
+use Rattle.trellis.specs.Outcome.{bad_section, bad_block, short_buffer}
+use Rattle.sections.specs.Sections.{sections_bad, bad_section_of}
+use Rattle.frame.specs.Frame.{Frame, block_count, frame_bad, block_bad}
 use Rattle.frame.proofs.Checks.{FramePassed}
-use Rattle.room.specs.Room.{neededToDecode}
-use Rattle.decoding.specs.Decoding.{Decoding, left, bestOf, found, fitted, framed, decoding}
+use Rattle.room.specs.Room.{needed_to_decode}
+use Rattle.decoding.specs.Decoding.{Decoding, left, best_of, found, fitted, framed, decoding}
 
 module _ (f : Frame) (costs labels goals masks : List ℕ) where
-  pub ends-section : {i : ℕ} → sectionsBad f.sections f.k ≡ true → badSectionOf f.sections f.k ≡ i
-      → left (badSection i) costs labels goals masks ≡ decoding f costs labels goals masks
+  pub ends_section : {i : ℕ} → sections_bad f.sections f.k ≡ true → bad_section_of f.sections f.k ≡ i
+      → left (bad_section i) costs labels goals masks ≡ decoding f costs labels goals masks
   unfolding decoding
-  ends-section b e = simp (b, e)
+  ends_section b e = simp (b, e)
 
-  pub ends-frame : {bad : Bool} → bad ≡ frameBad f → bad ≡ true
-      → left (badBlock (blockCount f)) costs labels goals masks ≡ framed f costs labels goals masks
+  pub ends_frame : {bad : Bool} → bad ≡ frame_bad f → bad ≡ true
+      → left (bad_block (block_count f)) costs labels goals masks ≡ framed f costs labels goals masks
   unfolding framed
-  ends-frame e h = simp (sym e, h)
+  ends_frame e h = simp (sym e, h)
 
-  pub ends-block : {bad : Bool} {b : ℕ} → bad ≡ frameBad f → bad ≡ false
-      → b ≡ first (blockBad f) (blockCount f) → b < blockCount f
-      → left (badBlock b) costs labels goals masks ≡ framed f costs labels goals masks
+  pub ends_block : {bad : Bool} {b : ℕ} → bad ≡ frame_bad f → bad ≡ false
+      → b ≡ first (block_bad f) (block_count f) → b < block_count f
+      → left (bad_block b) costs labels goals masks ≡ framed f costs labels goals masks
   unfolding framed
-  ends-block {b = b} e h p l = simp (sym e, h, sym p, lt-ltb b (blockCount f) l)
+  ends_block {b = b} e h p l = simp (sym e, h, sym p, lt-ltb b (block_count f) l)
 
-  pub ends-short : {n : ℕ} → n ≡ neededToDecode (blockCount f) (length costs) (length labels) (length goals) (length masks) → 0 < n
-      → left (shortBuffer n) costs labels goals masks ≡ fitted f costs labels goals masks
+  pub ends_short : {n : ℕ} → n ≡ needed_to_decode (block_count f) (length costs) (length labels) (length goals) (length masks) → 0 < n
+      → left (short_buffer n) costs labels goals masks ≡ fitted f costs labels goals masks
   unfolding fitted
-  ends-short {n} q m = simp (sym q, lt-ltb 0 n m)
+  ends_short {n} q m = simp (sym q, lt-ltb 0 n m)
 
   -- ---- where there is no fault
 
   module _ {m : Decoding} where
-    pub past-sections : sectionsBad f.sections f.k ≡ false
+    pub past_sections : sections_bad f.sections f.k ≡ false
         → m ≡ framed f costs labels goals masks
         → m ≡ decoding f costs labels goals masks
     unfolding decoding
-    past-sections g e = e ∙ simp g
+    past_sections g e = e ∙ simp g
 
-    pub past-frame : FramePassed f
+    pub past_frame : FramePassed f
         → m ≡ fitted f costs labels goals masks
         → m ≡ framed f costs labels goals masks
     unfolding framed
-    past-frame P e =
+    past_frame P e =
         e ∙ simp (
-          P.frameGood,
-          le-ltb (first (blockBad f) (blockCount f)) (blockCount f) P.blocksGood,
+          P.frame_good,
+          le-ltb (first (block_bad f) (block_count f)) (block_count f) P.blocks_good,
         )
 
-    pub past_room : neededToDecode (blockCount f) (length costs) (length labels) (length goals) (length masks) ≤ 0
-        → m ≡ found f costs labels goals masks (bestOf f)
+    pub past_room : needed_to_decode (block_count f) (length costs) (length labels) (length goals) (length masks) ≤ 0
+        → m ≡ found f costs labels goals masks (best_of f)
         → m ≡ fitted f costs labels goals masks
     unfolding fitted
-    past_room h e = e ∙ simp (le-ltb 0 (neededToDecode (blockCount f) (length costs) (length labels) (length goals) (length masks)) h)
+    past_room h e = e ∙ simp (le-ltb 0 (needed_to_decode (block_count f) (length costs) (length labels) (length goals) (length masks)) h)

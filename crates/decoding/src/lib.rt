@@ -1,10 +1,10 @@
 // What decoding a frame leaves, as definitions, and its last stage, for a frame and buffers that passed their checks: backward over the
 // blocks to the distance, forward to the words and their masks, and the cost table.
 ghost use Rattle.std.specs.Prelude.{◌≡◌, ℕ};
-ghost use Rattle.answers.specs.Answers.{decodedOutcome};
+ghost use Rattle.answers.specs.Answers.{decoded_outcome};
 ghost use Rattle.frame.specs.Frame.{frame};
-ghost use Rattle.frame.specs.inner.Checked.{Checked};
-ghost use Rattle.room.specs.inner.Fitting.{RoomToDecode};
+ghost use Rattle.frame.specs.Inner.Checked.{Checked};
+ghost use Rattle.room.specs.Inner.Fitting.{RoomToDecode};
 ghost use Rattle.decoding.specs.Decoding.{left, fitted};
 
 use answers::decode::Decoded;
@@ -34,7 +34,7 @@ pub fn decode_with(
 ) -> Decoded
     requires { Checked sections.now starts.now views indices.now received.now erased.now start end
         × RoomToDecode indices.now costs.old labels.old goals.old masks.old }
-    ensures { (k : ℕ) → left (decodedOutcome result) costs.new labels.new goals.new masks.new
+    ensures { (k : ℕ) → left (decoded_outcome result) costs.new labels.new goals.new masks.new
         ≡ fitted (frame sections.now k indices.now received.now erased.now start end)
         costs.old labels.old goals.old masks.old }
 {

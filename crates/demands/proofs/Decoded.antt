@@ -9,30 +9,30 @@ use native.Mathlib.Nat.{zero-add}
 use native.Mathlib.Decide.{dec_lt}
 use native.Mathlib.Omega.{arith}
 use lib.ListN.{length, get_or, length-map, get_or-map}
-use Rattle.trellis.specs.Bounds.{mostStates, costsABlock}
+use Rattle.trellis.specs.Bounds.{most_states, costs_aBlock}
 use Rattle.trellis.specs.Lists.{◌∈◌, sum, first, over}
 use Rattle.trellis.specs.Word.{Word, word, word_at, Before}
-use Rattle.trellis.specs.Comparing.{markedIn, Compared}
-use Rattle.trellis.specs.Layout.{n_of, sectionWords}
-use Rattle.trellis.specs.Outcome.{Outcome, success, noPath}
-use Rattle.trellis.proofs.Lists.{length_run, each_at, sum-eq}
-use Rattle.trellis.proofs.Buffers.{over-front}
+use Rattle.trellis.specs.Comparing.{marked_in, Compared}
+use Rattle.trellis.specs.Layout.{n_of, section_words}
+use Rattle.trellis.specs.Outcome.{Outcome, success, no_path}
+use Rattle.trellis.proofs.Lists.{length_run, each_at, sum_eq}
+use Rattle.trellis.proofs.Buffers.{over_front}
 use Rattle.trellis.proofs.Comparing.{compares}
 use Rattle.paths.specs.Choice.{Choice, none, some}
-use Rattle.paths.specs.Chain.{endsIn, pathDistance, costTable}
-use Rattle.paths.specs.inner.Ordered.{Ordered}
-use Rattle.paths.proofs.Chain.{none-listed}
-use Rattle.paths.proofs.Winner.{of-paths, in-paths, word-of, best-right, best-wins, table-drops, distance-sum}
-use Rattle.section_file.proofs.Usable.{usable-sound}
-use Rattle.section_file.proofs.Words.{words-ascend}
-use Rattle.sections.specs.Sections.{sectionsBad}
-use Rattle.sections.proofs.Sections.{sections-usable}
-use Rattle.frame.specs.Frame.{Frame, blockCount, frameBad, blockSection, blockWords, wordDistanceBy, wordDistance, wordMask, blockBad}
-use Rattle.frame.proofs.Checks.{FramePassed, index-good}
-use Rattle.room.specs.Room.{neededToDecode}
-use Rattle.decoding.specs.Decoding.{Decoding, bestBy, bestOf, table_of, masksOf, found, decoding}
-use Rattle.decoding.proofs.Faults.{ends-section, ends-frame, ends-block, ends-short, past-sections, past-frame, past_room}
-use Rattle.demands.specs.Decoded.{leastDistance, Tabled, NoneFound, Won, Meaning}
+use Rattle.paths.specs.Chain.{ends_in, path_distance, cost_table}
+use Rattle.paths.specs.Inner.Ordered.{Ordered}
+use Rattle.paths.proofs.Chain.{none_listed}
+use Rattle.paths.proofs.Winner.{of_paths, in_paths, word_of_lem, best_right, best_wins, table_drops, distance_sum}
+use Rattle.section_file.proofs.Usable.{usable_sound}
+use Rattle.section_file.proofs.Words.{words_ascend}
+use Rattle.sections.specs.Sections.{sections_bad}
+use Rattle.sections.proofs.Sections.{sections_usable}
+use Rattle.frame.specs.Frame.{Frame, block_count, frame_bad, block_section, block_words, word_distance_by, word_distance, word_mask, block_bad}
+use Rattle.frame.proofs.Checks.{FramePassed, index_good}
+use Rattle.room.specs.Room.{needed_to_decode}
+use Rattle.decoding.specs.Decoding.{Decoding, best_by, best_of, table_of, masks_of, found, decoding}
+use Rattle.decoding.proofs.Faults.{ends_section, ends_frame, ends_block, ends_short, past_sections, past_frame, past_room}
+use Rattle.demands.specs.Decoded.{least_distance, Tabled, NoneFound, Won, Meaning}
 
 -- the cost table stands in front of its buffer
 pub tabled : (f : Frame) (costs : List ℕ) → Tabled f (over (table_of f) costs)
@@ -40,102 +40,102 @@ unfolding table_of
 tabled f costs = record { at = at }
   where
     place : ℕ → ℕ
-    place i = leastDistance f (i / costsABlock) (i % costsABlock)
+    place i = least_distance f (i / costs_aBlock) (i % costs_aBlock)
 
-    at : (b s : ℕ) → b < blockCount f → s < mostStates
-        → get_or (over (table_of f) costs) (costsABlock * b + s) 0
-        ≡ leastDistance f b s
+    at : (b s : ℕ) → b < block_count f → s < most_states
+        → get_or (over (table_of f) costs) (costs_aBlock * b + s) 0
+        ≡ least_distance f b s
     at b s h l =
-        let n = length_run place 0 (costsABlock * blockCount f) in
-        let e : (costsABlock * b + s) / costsABlock ≡ b = omega arith in
-        let r : (costsABlock * b + s) % costsABlock ≡ s = omega arith in
-        over-front (table_of f) costs (costsABlock * b + s) (omega arith)
-        ∙ each_at place (costsABlock * blockCount f) (costsABlock * b + s) 0 (omega arith)
-        ∙ ap₂ (leastDistance f) e r
+        let n = length_run place 0 (costs_aBlock * block_count f) in
+        let e : (costs_aBlock * b + s) / costs_aBlock ≡ b = omega arith in
+        let r : (costs_aBlock * b + s) % costs_aBlock ≡ s = omega arith in
+        over_front (table_of f) costs (costs_aBlock * b + s) (omega arith)
+        ∙ each_at place (costs_aBlock * block_count f) (costs_aBlock * b + s) 0 (omega arith)
+        ∙ ap₂ (least_distance f) e r
 
 -- the words of a block stand in order, since its section is usable
-pub words-ordered : (f : Frame) → sectionsBad f.sections f.k ≡ false → FramePassed f → (b : ℕ) → b < blockCount f
-    → Ordered Before (blockWords f b)
-unfolding blockWords
-words-ordered f s P b h =
-    words-ascend (usable-sound (blockSection f b)
-    (sections-usable f.sections f.k s (get_or f.indices b 0) (index-good P b h)))
+pub words_ordered : (f : Frame) → sections_bad f.sections f.k ≡ false → FramePassed f → (b : ℕ) → b < block_count f
+    → Ordered Before (block_words f b)
+unfolding block_words
+words_ordered f s P b h =
+    words_ascend (usable_sound (block_section f b)
+    (sections_usable f.sections f.k s (get_or f.indices b 0) (index_good P b h)))
 
 module _ (f : Frame) (costs labels goals masks : List ℕ) where
   abbrev decoded : Decoding
   decoded = decoding f costs labels goals masks
 
   abbrev best : Choice (List Word)
-  best = bestOf f
+  best = best_of f
 
-  abbrev foundWith : Choice (List Word) → Decoding
-  foundWith = found f costs labels goals masks
+  abbrev found_with : Choice (List Word) → Decoding
+  found_with = found f costs labels goals masks
 
   abbrev words : ℕ → List Word
-  words = blockWords f
+  words = block_words f
 
   abbrev dist : ℕ → Word → ℕ
-  dist = wordDistance f
+  dist = word_distance f
 
   -- ---- behind all checks
 
   record Passed : Type 0 where
-    sectionsGood : sectionsBad f.sections f.k ≡ false
-    framePassed : FramePassed f
-    is : decoded ≡ foundWith best
+    sections_good : sections_bad f.sections f.k ≡ false
+    frame_passed : FramePassed f
+    is : decoded ≡ found_with best
 
   passed : ((n : ℕ) → 8 ≤ n → n ≤ 10 → n ≡ decoded.answer.number → ⊥) → Passed
-  passed clear = by-sections (sectionsBad f.sections f.k) refl
+  passed clear = by_sections (sections_bad f.sections f.k) refl
     where
       number : Decoding → ℕ
       number m = m.answer.number
 
-      by-room : sectionsBad f.sections f.k ≡ false → FramePassed f
-          → Dec (0 < neededToDecode (blockCount f) (length costs) (length labels) (length goals) (length masks)) → Passed
-      by-room s P (yes h) =
+      by_room : sections_bad f.sections f.k ≡ false → FramePassed f
+          → Dec (0 < needed_to_decode (block_count f) (length costs) (length labels) (length goals) (length masks)) → Passed
+      by_room s P (yes h) =
           absurd (clear 10 (omega arith) (omega arith) (ap number
-          (past-sections f costs labels goals masks s
-          (past-frame f costs labels goals masks P
-          (ends-short f costs labels goals masks refl h)))))
-      by-room s P (no h) = record {
-        sectionsGood = s;
-        framePassed = P;
-        is = sym (past-sections f costs labels goals masks s
-            (past-frame f costs labels goals masks P
+          (past_sections f costs labels goals masks s
+          (past_frame f costs labels goals masks P
+          (ends_short f costs labels goals masks refl h)))))
+      by_room s P (no h) = record {
+        sections_good = s;
+        frame_passed = P;
+        is = sym (past_sections f costs labels goals masks s
+            (past_frame f costs labels goals masks P
             (past_room f costs labels goals masks (omega arith) refl)));
       }
 
-      by_blocks : sectionsBad f.sections f.k ≡ false → frameBad f ≡ false
-          → Dec (first (blockBad f) (blockCount f) < blockCount f) → Passed
+      by_blocks : sections_bad f.sections f.k ≡ false → frame_bad f ≡ false
+          → Dec (first (block_bad f) (block_count f) < block_count f) → Passed
       by_blocks s g (yes h) =
           absurd (clear 9 (omega arith) (omega arith) (ap number
-          (past-sections f costs labels goals masks s
-          (ends-block f costs labels goals masks refl g refl h))))
+          (past_sections f costs labels goals masks s
+          (ends_block f costs labels goals masks refl g refl h))))
       by_blocks s g (no h) =
-          by-room s (record { frameGood = g; blocksGood = omega arith })
-          (dec_lt 0 (neededToDecode (blockCount f) (length costs) (length labels) (length goals) (length masks)))
+          by_room s (record { frame_good = g; blocks_good = omega arith })
+          (dec_lt 0 (needed_to_decode (block_count f) (length costs) (length labels) (length goals) (length masks)))
 
-      by-frame : sectionsBad f.sections f.k ≡ false → (b : Bool) → frameBad f ≡ b → Passed
-      by-frame s true e =
+      by_frame : sections_bad f.sections f.k ≡ false → (b : Bool) → frame_bad f ≡ b → Passed
+      by_frame s true e =
           absurd (clear 9 (omega arith) (omega arith) (ap number
-          (past-sections f costs labels goals masks s
-          (ends-frame f costs labels goals masks refl e))))
-      by-frame s false e = by_blocks s e (dec_lt (first (blockBad f) (blockCount f)) (blockCount f))
+          (past_sections f costs labels goals masks s
+          (ends_frame f costs labels goals masks refl e))))
+      by_frame s false e = by_blocks s e (dec_lt (first (block_bad f) (block_count f)) (block_count f))
 
-      by-sections : (b : Bool) → sectionsBad f.sections f.k ≡ b → Passed
-      by-sections true e =
+      by_sections : (b : Bool) → sections_bad f.sections f.k ≡ b → Passed
+      by_sections true e =
           absurd (clear 8 (omega arith) (omega arith) (ap number
-          (ends-section f costs labels goals masks e refl)))
-      by-sections false e = by-frame e (frameBad f) refl
+          (ends_section f costs labels goals masks e refl)))
+      by_sections false e = by_frame e (frame_bad f) refl
 
   -- ---- no path
 
-  none_right : best ≡ none → NoneFound f (foundWith none)
-  unfolding found bestBy
+  none_right : best ≡ none → NoneFound f (found_with none)
+  unfolding found best_by
   none_right e = record {
     none = λ p I.
-        let a = none-listed words (endsIn f.end) dist (blockCount f) 0 f.start e in
-        Memᴰ.not-nil (subst (λ ps. p ∈ ps) a (in-paths words (endsIn f.end) (blockCount f) 0 f.start p I));
+        let a = none_listed words (ends_in f.end) dist (block_count f) 0 f.start e in
+        Memᴰ.not-nil (subst (λ ps. p ∈ ps) a (in_paths words (ends_in f.end) (block_count f) 0 f.start p I));
     table = tabled f costs;
   }
 
@@ -146,60 +146,60 @@ module _ (f : Frame) (costs labels goals masks : List ℕ) where
       → get_or (over (map f ws) old) b 0 ≡ f (word_at ws b)
   written f blank ws old b h =
       let l = length-map ws f in
-      over-front (map f ws) old b (omega arith) ∙ ap (get_or (map f ws) b) (sym blank) ∙ get_or-map f ws b (word 0 0 0)
+      over_front (map f ws) old b (omega arith) ∙ ap (get_or (map f ws) b) (sym blank) ∙ get_or-map f ws b (word 0 0 0)
 
   -- the mask written for a block compares its word with what was received
-  mask_at : (ws : List Word) (b : ℕ) → b < blockCount f
-      → Compared (n_of (blockSection f b)) (get_or f.received b 0) (get_or f.erased b 0) (word_at ws b).label
-      (get_or (over (masksOf f ws) masks) b 0) (wordDistance f b (word_at ws b))
-  unfolding masksOf wordMask wordDistanceBy
-  mask_at ws b h =
-      let l = length_run (λ b. wordMask f b (word_at ws b)) 0 (blockCount f) in
-      let e = over-front (masksOf f ws) masks b (omega arith) ∙ each_at (λ b. wordMask f b (word_at ws b)) (blockCount f) b 0 h in
+  mask_at_lem : (ws : List Word) (b : ℕ) → b < block_count f
+      → Compared (n_of (block_section f b)) (get_or f.received b 0) (get_or f.erased b 0) (word_at ws b).label
+      (get_or (over (masks_of f ws) masks) b 0) (word_distance f b (word_at ws b))
+  unfolding masks_of word_mask word_distance_by
+  mask_at_lem ws b h =
+      let l = length_run (λ b. word_mask f b (word_at ws b)) 0 (block_count f) in
+      let e = over_front (masks_of f ws) masks b (omega arith) ∙ each_at (λ b. word_mask f b (word_at ws b)) (block_count f) b 0 h in
       let x = get_or f.received b 0 in
       let erased = get_or f.erased b 0 in
       let label = (word_at ws b).label in
-      subst (λ m. Compared (n_of (blockSection f b)) x erased label m (wordDistance f b (word_at ws b))) (sym e)
-      (compares (n_of (blockSection f b)) x erased label)
+      subst (λ m. Compared (n_of (block_section f b)) x erased label m (word_distance f b (word_at ws b))) (sym e)
+      (compares (n_of (block_section f b)) x erased label)
 
   -- so the ones in all masks are the distance of the path
-  ones-are : (ws : List Word) → length ws ≡ blockCount f
-      → sum (λ b. markedIn (n_of (blockSection f b)) (get_or (over (masksOf f ws) masks) b 0)) 0 (blockCount f) ≡ pathDistance dist 0 ws
-  ones-are ws l =
-      let marked : ℕ → ℕ = λ b. markedIn (n_of (blockSection f b)) (get_or (over (masksOf f ws) masks) b 0) in
-      sum-eq marked (λ b. dist (0 + b) (word_at ws b)) 0 (blockCount f)
-      (λ b k h. (mask_at ws b (omega arith)).ones ∙ ap (λ c. dist c (word_at ws b)) (sym (zero-add b)))
-      ∙ ap (sum (λ b. dist (0 + b) (word_at ws b)) 0) (sym l) ∙ sym (distance-sum dist 0 ws)
+  ones_are : (ws : List Word) → length ws ≡ block_count f
+      → sum (λ b. marked_in (n_of (block_section f b)) (get_or (over (masks_of f ws) masks) b 0)) 0 (block_count f) ≡ path_distance dist 0 ws
+  ones_are ws l =
+      let marked : ℕ → ℕ = λ b. marked_in (n_of (block_section f b)) (get_or (over (masks_of f ws) masks) b 0) in
+      sum_eq marked (λ b. dist (0 + b) (word_at ws b)) 0 (block_count f)
+      (λ b k h. (mask_at_lem ws b (omega arith)).ones ∙ ap (λ c. dist c (word_at ws b)) (sym (zero-add b)))
+      ∙ ap (sum (λ b. dist (0 + b) (word_at ws b)) 0) (sym l) ∙ sym (distance_sum dist 0 ws)
 
   some_right : Passed → {d : ℕ} {ws : List Word} → best ≡ some d ws
-      → Won f d (foundWith (some d ws))
-  unfolding found bestBy blockWords
+      → Won f d (found_with (some d ws))
+  unfolding found best_by block_words
   some_right P {d} {ws} e =
-      let I = best-right words (endsIn f.end) dist (blockCount f) 0 f.start e in
+      let I = best_right words (ends_in f.end) dist (block_count f) 0 f.start e in
       let l = I.long in
-      let B = best-wins words (endsIn f.end) (blockCount f) (words-ordered f P.sectionsGood P.framePassed) dist (blockCount f) 0 f.start (omega arith) e in
+      let B = best_wins words (ends_in f.end) (block_count f) (words_ordered f P.sections_good P.frame_passed) dist (block_count f) 0 f.start (omega arith) e in
       record {
         words = ws;
         wins = B.0;
-        distanceIs = B.1;
+        distance_is = B.1;
         label_at = λ b h. written (λ w. w.label) refl ws labels b (omega arith);
-        goalAt = λ b h. written (λ w. w.goal) refl ws goals b (omega arith);
-        maskAt = mask_at ws;
-        ones = ones-are ws l ∙ sym B.1;
-        inSection = λ b h. subst (λ x. word_at ws b ∈ sectionWords (blockSection f x)) (zero-add b)
-            (word-of words (endsIn f.end) 0 f.start ws I.linked b (omega arith));
+        goal_at = λ b h. written (λ w. w.goal) refl ws goals b (omega arith);
+        mask_at = mask_at_lem ws;
+        ones = ones_are ws l ∙ sym B.1;
+        in_section = λ b h. subst (λ x. word_at ws b ∈ section_words (block_section f x)) (zero-add b)
+            (word_of_lem words (ends_in f.end) 0 f.start ws I.linked b (omega arith));
         table = tabled f costs;
         drops = λ b h.
-            let j : blockCount f - b ≡ suc (blockCount f - suc b) = omega arith in
-            ap (λ x. costTable words (endsIn f.end) dist x b (word_at ws b).root) j
-            ∙ table-drops words (endsIn f.end) dist (blockCount f) 0 f.start e b (blockCount f - suc b) b (omega arith) (zero-add b);
+            let j : block_count f - b ≡ suc (block_count f - suc b) = omega arith in
+            ap (λ x. cost_table words (ends_in f.end) dist x b (word_at ws b).root) j
+            ∙ table_drops words (ends_in f.end) dist (block_count f) 0 f.start e b (block_count f - suc b) b (omega arith) (zero-add b);
       }
 
   -- ---- by the answer
 
-  none-means : decoded.answer ≡ noPath → NoneFound f decoded
+  none_means : decoded.answer ≡ no_path → NoneFound f decoded
   unfolding found
-  none-means a = go best refl
+  none_means a = go best refl
     where
       eleven : decoded.answer.number ≡ 11
       eleven = ap (λ (o : Outcome). o.number) a
@@ -208,14 +208,14 @@ module _ (f : Frame) (costs labels goals masks : List ℕ) where
       P = passed (λ n x y e. absurd (omega (arith, eleven)))
 
       go : (o : Choice (List Word)) → best ≡ o → NoneFound f decoded
-      go none e = subst (NoneFound f) (sym (P.is ∙ ap foundWith e)) (none_right e)
+      go none e = subst (NoneFound f) (sym (P.is ∙ ap found_with e)) (none_right e)
       go (some d ws) e =
-          let z : ◌≡◌ {A = ℕ} 0 11 = ap (λ (m : Decoding). m.answer.number) (sym (P.is ∙ ap foundWith e)) ∙ eleven in
+          let z : ◌≡◌ {A = ℕ} 0 11 = ap (λ (m : Decoding). m.answer.number) (sym (P.is ∙ ap found_with e)) ∙ eleven in
           absurd (omega arith)
 
-  best-means : (d : ℕ) → decoded.answer ≡ success d → Won f d decoded
+  best_means : (d : ℕ) → decoded.answer ≡ success d → Won f d decoded
   unfolding found
-  best-means d a = go best refl
+  best_means d a = go best refl
     where
       naught : decoded.answer.number ≡ 0
       naught = ap (λ (o : Outcome). o.number) a
@@ -225,21 +225,21 @@ module _ (f : Frame) (costs labels goals masks : List ℕ) where
 
       go : (o : Choice (List Word)) → best ≡ o → Won f d decoded
       go none e =
-          let z : ◌≡◌ {A = ℕ} 11 0 = ap (λ (m : Decoding). m.answer.number) (sym (P.is ∙ ap foundWith e)) ∙ naught in
+          let z : ◌≡◌ {A = ℕ} 11 0 = ap (λ (m : Decoding). m.answer.number) (sym (P.is ∙ ap found_with e)) ∙ naught in
           absurd (omega arith)
       go (some c ws) e =
-          let i = P.is ∙ ap foundWith e in
+          let i = P.is ∙ ap found_with e in
           let z : c ≡ d = ap (λ (m : Decoding). get_or m.answer.values 0 0) (sym i) ∙ ap (λ (o : Outcome). get_or o.values 0 0) a in
           subst (Won f d) (sym i)
-          (subst (λ x. Won f x (foundWith (some c ws))) z (some_right P e))
+          (subst (λ x. Won f x (found_with (some c ws))) z (some_right P e))
 
   pub meaning : Meaning f decoded
   meaning = record {
     paths = λ p. (
-      in-paths words (endsIn f.end) (blockCount f) 0 f.start p,
-      of-paths words (endsIn f.end) (blockCount f) 0
+      in_paths words (ends_in f.end) (block_count f) 0 f.start p,
+      of_paths words (ends_in f.end) (block_count f) 0
           f.start p,
     );
-    none = none-means;
-    best = best-means;
+    none = none_means;
+    best = best_means;
   }

@@ -4,35 +4,35 @@
 use mathlib.Core.Path.{◌≡◌, refl, ap, ◌∙◌}
 use Prim.Native.Nat.{ℕ, ◌+◌, ◌*◌}
 use lib.ListN.{get_or}
-use Rattle.trellis.specs.Comparing.{markedIn}
+use Rattle.trellis.specs.Comparing.{marked_in}
 use Rattle.trellis.specs.Word.{Word}
 use Rattle.trellis.specs.Layout.{n_of}
-use Rattle.trellis.proofs.Lists.{sum-mul}
-use Rattle.trellis.proofs.Erasures.{distance-by}
+use Rattle.trellis.proofs.Lists.{sum_mul}
+use Rattle.trellis.proofs.Erasures.{distance_by_lem}
 use Rattle.paths.specs.Choice.{Choice, none, some}
-use Rattle.paths.specs.Chain.{endsIn}
+use Rattle.paths.specs.Chain.{ends_in}
 use Rattle.paths.proofs.Choose.{extend}
-use Rattle.paths.proofs.Dearer.{best-path-dearer}
-use Rattle.frame.specs.Frame.{Frame, blockCount, blockSection, blockWords, wordDistanceBy, wordDistance}
-use Rattle.decoding.specs.Decoding.{bestBy, bestOf}
+use Rattle.paths.proofs.Dearer.{best_path_dearer}
+use Rattle.frame.specs.Frame.{Frame, block_count, block_section, block_words, word_distance_by, word_distance}
+use Rattle.decoding.specs.Decoding.{best_by, best_of}
 use Rattle.demands.specs.Decoded.{dearer, erasures, Untouched}
 
-dearer-is : {P : Type 0} (d : ℕ) (a : Choice P) → extend d (λ p. p) a ≡ dearer d a
+dearer_is : {P : Type 0} (d : ℕ) (a : Choice P) → extend d (λ p. p) a ≡ dearer d a
 unfolding dearer extend
-dearer-is d none = refl
-dearer-is d (some c p) = refl
+dearer_is d none = refl
+dearer_is d (some c p) = refl
 
 module _ (f : Frame) where
-  abbrev erasedOf : ℕ → ℕ
-  erasedOf b = markedIn (n_of (blockSection f b)) (get_or f.erased b 0)
+  abbrev erased_of : ℕ → ℕ
+  erased_of b = marked_in (n_of (block_section f b)) (get_or f.erased b 0)
 
-  word-by : (c b : ℕ) (w : Word) → wordDistanceBy f c b w ≡ c * erasedOf b + wordDistance f b w
-  unfolding wordDistanceBy
-  word-by c b w = distance-by (n_of (blockSection f b)) (get_or f.received b 0) (get_or f.erased b 0) c w.label
+  word_by : (c b : ℕ) (w : Word) → word_distance_by f c b w ≡ c * erased_of b + word_distance f b w
+  unfolding word_distance_by
+  word_by c b w = distance_by_lem (n_of (block_section f b)) (get_or f.received b 0) (get_or f.erased b 0) c w.label
 
   pub untouched : Untouched f
-  unfolding bestBy erasures
+  unfolding best_by erasures
   untouched c =
-      best-path-dearer (wordDistance f) (wordDistanceBy f c) (λ b. c * erasedOf b) (word-by c)
-      (blockWords f) (endsIn f.end) (blockCount f) 0 f.start
-      ∙ dearer-is _ (bestOf f) ∙ ap (λ d. dearer d (bestOf f)) (sum-mul c erasedOf 0 (blockCount f))
+      best_path_dearer (word_distance f) (word_distance_by f c) (λ b. c * erased_of b) (word_by c)
+      (block_words f) (ends_in f.end) (block_count f) 0 f.start
+      ∙ dearer_is _ (best_of f) ∙ ap (λ d. dearer d (best_of f)) (sum_mul c erased_of 0 (block_count f))

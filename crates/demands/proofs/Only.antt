@@ -7,22 +7,22 @@ use mathlib.Core.List.{List}
 use Prim.Native.Nat.{ℕ}
 use native.Mathlib.Omega.{arith}
 use lib.ListN.{get_or}
-use Rattle.trellis.specs.Lists.{◌∈◌, one-if}
+use Rattle.trellis.specs.Lists.{◌∈◌, one_if}
 use Rattle.trellis.specs.Word.{Word}
-use Rattle.trellis.specs.Layout.{sectionOf}
-use Rattle.trellis.specs.Outcome.{Outcome, success, badSection}
-use Rattle.trellis.proofs.OwnLaid.{own-q, own-n, own-states}
-use Rattle.table.proofs.Accepted.{accepted-good}
+use Rattle.trellis.specs.Layout.{section_of}
+use Rattle.trellis.specs.Outcome.{Outcome, success, bad_section}
+use Rattle.trellis.proofs.OwnLaid.{own_q, own_n, own_states}
+use Rattle.table.proofs.Accepted.{accepted_good}
 use Rattle.merging.specs.Merging.{merging}
-use Rattle.section_file.specs.Usable.{usable, isSection}
+use Rattle.section_file.specs.Usable.{usable, is_section}
 use Rattle.section_file.proofs.Own.{Fitting}
-use Rattle.section_file.proofs.OwnWords.{own-section-words}
-use Rattle.read_back.proofs.Again.{good-fits, own-is-section}
+use Rattle.section_file.proofs.OwnWords.{own_section_words}
+use Rattle.read_back.proofs.Again.{good_fits, own_is_section}
 use Rattle.matching.specs.Matching.{Renumbered}
-use Rattle.same_section.specs.Comparing.{sameCode, comparing}
-use Rattle.same_section.proofs.Comparing.{same-words, code_of, same-renumbered}
+use Rattle.same_section.specs.Comparing.{same_code, comparing}
+use Rattle.same_section.proofs.Comparing.{same_words_lem, code_of, same_renumbered}
 use Rattle.demands.specs.Only.{SectionFor, Only, Agreeing, ComparingMeaning}
-use Rattle.demands.specs.Demands.{Fair, IsAccepted, sectionLeft}
+use Rattle.demands.specs.Demands.{Fair, IsAccepted, section_left}
 use Rattle.demands.proofs.Demanded.{decided, is_ours}
 
 -- ---- two lists of numbers
@@ -34,7 +34,7 @@ record Passed (a b same : Bool) : Type 0 where
   code : same ≡ true
 
 passed : (a b same : Bool)
-    → cond (not a) (badSection 0) (cond (not b) (badSection 1) (success (one-if same))) ≡ success 1
+    → cond (not a) (bad_section 0) (cond (not b) (bad_section 1) (success (one_if same))) ≡ success 1
     → Passed a b same
 passed true true true e = record { first = refl; second = refl; code = refl }
 passed true true false e = let d : ◌≡◌ {A = ℕ} 0 1 = ap (λ (o : Outcome). get_or o.values 0 0) e in absurd (omega (arith, d))
@@ -42,7 +42,7 @@ passed true false same e = let d : ◌≡◌ {A = ℕ} 8 0 = ap (λ (o : Outcome
 passed false b same e = let d : ◌≡◌ {A = ℕ} 8 0 = ap (λ (o : Outcome). o.number) e in absurd (omega (arith, d))
 
 module _ {a b : List ℕ} where
-  same_code : Agreeing a b → sameCode a b ≡ true
+  same_code : Agreeing a b → same_code a b ≡ true
   same_code K = code_of (record {
     q = K.sizes.0;
     n = K.sizes.1;
@@ -51,42 +51,42 @@ module _ {a b : List ℕ} where
     out = λ w. (K.words w).0;
   })
 
-  agreeing-renumbered : Agreeing a b → Renumbered a b
-  agreeing-renumbered K = same-renumbered K.usable.0 K.usable.1 (same_code K)
+  agreeing_renumbered : Agreeing a b → Renumbered a b
+  agreeing_renumbered K = same_renumbered K.usable.0 K.usable.1 (same_code K)
 
-  agreeing-told : Agreeing a b → comparing a b ≡ success 1
+  agreeing_told : Agreeing a b → comparing a b ≡ success 1
   unfolding comparing
-  agreeing-told K =
+  agreeing_told K =
       let first = K.usable.0 in
       let second = K.usable.1 in
       let code = same_code K in
       rw (first, second, code)
 
-  told-agreeing : comparing a b ≡ success 1 → Agreeing a b
+  told_agreeing : comparing a b ≡ success 1 → Agreeing a b
   unfolding comparing
-  told-agreeing e =
-      let P = passed (isSection a) (isSection b) (sameCode a b) e in
-      let C = same-words P.code in
+  told_agreeing e =
+      let P = passed (is_section a) (is_section b) (same_code a b) e in
+      let C = same_words_lem P.code in
       record { usable = (P.first, P.second); sizes = (C.q, C.n, C.states); words = λ w. (C.out w, C.into w) }
 
-pub comparing-meaning : (a b : List ℕ) → ComparingMeaning a b
-comparing-meaning a b = record { exact = (told-agreeing, agreeing-told); renumbered = λ e. agreeing-renumbered (told-agreeing e) }
+pub comparing_meaning : (a b : List ℕ) → ComparingMeaning a b
+comparing_meaning a b = record { exact = (told_agreeing, agreeing_told); renumbered = λ e. agreeing_renumbered (told_agreeing e) }
 
 -- ---- sections for the same table: here and below the conditions of usable lie open, so that a claim about sections that lack one of them
 -- is refused for the lack of it, and not for how it is written
 
 module _ {q n states : ℕ} {table : List Word} {l m : List ℕ} (L : SectionFor q n states table l) where
-  for-agreeing : SectionFor q n states table m → Agreeing l m
-  unfolding isSection usable
-  for-agreeing M = record {
+  for_agreeing : SectionFor q n states table m → Agreeing l m
+  unfolding is_section usable
+  for_agreeing M = record {
     usable = (L.usable, M.usable);
     sizes = (M.sizes.0 ∙ sym L.sizes.0, M.sizes.1 ∙ sym L.sizes.1, M.sizes.2 ∙ sym L.sizes.2);
     words = λ w. (λ k. (L.words w).1 ((M.words w).0 k), λ k. (M.words w).1 ((L.words w).0 k));
   }
 
-  agreeing-for : Agreeing l m → SectionFor q n states table m
-  unfolding isSection usable
-  agreeing-for K = record {
+  agreeing_for : Agreeing l m → SectionFor q n states table m
+  unfolding is_section usable
+  agreeing_for K = record {
     usable = K.usable.1;
     sizes = (K.sizes.0 ∙ L.sizes.0, K.sizes.1 ∙ L.sizes.1, K.sizes.2 ∙ L.sizes.2);
     words = λ w. (λ k. (L.words w).0 ((K.words w).0 k), λ k. (K.words w).1 ((L.words w).1 k));
@@ -95,25 +95,25 @@ module _ {q n states : ℕ} {table : List Word} {l m : List ℕ} (L : SectionFor
 -- ---- our section
 
 module _ (q n states : ℕ) (table : List Word) (A : Fitting q n states table) where
-  own-for : SectionFor q n states table (sectionOf q n states table)
-  unfolding isSection usable
-  own-for = record {
-    usable = own-is-section q n states table A;
-    sizes = (own-q q n states table, own-n q n states table, own-states q n states table);
+  own_for : SectionFor q n states table (section_of q n states table)
+  unfolding is_section usable
+  own_for = record {
+    usable = own_is_section q n states table A;
+    sizes = (own_q q n states table, own_n q n states table, own_states q n states table);
     words = λ w.
-        let e = own-section-words q n states table A in
+        let e = own_section_words q n states table A in
         (λ k. subst (λ ws. w ∈ ws) e k, λ k. subst (λ ws. w ∈ ws) (sym e) k);
   }
 
-  own-only : Only q n states table (sectionOf q n states table)
-  own-only = record {
-    own = own-for;
-    others = λ m M. agreeing-renumbered (for-agreeing own-for M);
-    told = λ m. (λ e. agreeing-for own-for (told-agreeing e), λ M. agreeing-told (for-agreeing own-for M));
+  own_only : Only q n states table (section_of q n states table)
+  own_only = record {
+    own = own_for;
+    others = λ m M. agreeing_renumbered (for_agreeing own_for M);
+    told = λ m. (λ e. agreeing_for own_for (told_agreeing e), λ M. agreeing_told (for_agreeing own_for M));
   }
 
 pub only : {file map section : List ℕ} {q n states : ℕ} {table : List Word} → Fair file q n states table map section
-    → IsAccepted (merging file map section) → Only q n states table (sectionLeft (merging file map section))
+    → IsAccepted (merging file map section) → Only q n states table (section_left (merging file map section))
 only {file} {q = q} {n = n} {states = states} {table = table} F A =
     subst (Only q n states table) (sym (is_ours F A))
-    (own-only q n states table (good-fits (accepted-good file F.wellFormed) ((decided F).only A)))
+    (own_only q n states table (good_fits (accepted_good file F.well_formed) ((decided F).only A)))

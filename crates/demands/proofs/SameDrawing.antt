@@ -13,12 +13,12 @@ use Rattle.trellis.specs.Drawn.{Drawing, IsPath, Carries, PathOf, JustOne, Drawn
 pub record Alike (n : ℕ) (D E : Drawing) : Type 0 where
   pub vertices : (t : ℕ) → t ≤ n → D.vertices t ≡ E.vertices t
   pub edges : (t : ℕ) → t < n → D.edges t ≡ E.edges t
-  pub roots : (v : ℕ) → v ∈ D.vertices 0 → D.rootOf v ≡ E.rootOf v
-  pub goals : (v : ℕ) → v ∈ D.vertices n → D.goalOf v ≡ E.goalOf v
+  pub roots : (v : ℕ) → v ∈ D.vertices 0 → D.root_of v ≡ E.root_of v
+  pub goals : (v : ℕ) → v ∈ D.vertices n → D.goal_of v ≡ E.goal_of v
 
-just-one : {table : List Word} {state : Word → ℕ} {l m : List ℕ} {f g : ℕ → ℕ} → l ≡ m → ((v : ℕ) → v ∈ l → f v ≡ g v)
+just_one_lem : {table : List Word} {state : Word → ℕ} {l m : List ℕ} {f g : ℕ → ℕ} → l ≡ m → ((v : ℕ) → v ∈ l → f v ≡ g v)
     → JustOne table state l f → JustOne table state m g
-just-one {table} {state} {l} {m} {f} {g} e s J = record {
+just_one_lem {table} {state} {l} {m} {f} {g} e s J = record {
   at_least = λ w h. let H = J.at_least w h in record {
     vertex = H.vertex;
     listed = subst (λ x. H.vertex ∈ x) e H.listed;
@@ -58,11 +58,11 @@ module _ {n : ℕ} {table : List Word} {D E : Drawing} (some : 0 < n) (A : Alike
     goal = sym (A.goals (x n) (ends p)) ∙ c.goal;
   }
 
-  pub path-new : {w : Word} → PathOf n D w → PathOf n E w
-  path-new P = record { x = P.x; a = P.a; path = new P.path; carries = carried P.path P.carries }
+  pub path_new : {w : Word} → PathOf n D w → PathOf n E w
+  path_new P = record { x = P.x; a = P.a; path = new P.path; carries = carried P.path P.carries }
 
-  pub path-old : {w : Word} → PathOf n E w → PathOf n D w
-  path-old P =
+  pub path_old : {w : Word} → PathOf n E w → PathOf n D w
+  path_old P =
       let p = old P.path in
       record {
         x = P.x;
@@ -75,20 +75,20 @@ module _ {n : ℕ} {table : List Word} {D E : Drawing} (some : 0 < n) (A : Alike
         };
       }
 
-  pub drawn-same : DrawnFor n table E
-  drawn-same = record {
-    noneTwice = λ t h. subst Once (A.vertices t h) (H.noneTwice t h);
+  pub drawn_same : DrawnFor n table E
+  drawn_same = record {
+    none_twice = λ t h. subst Once (A.vertices t h) (H.none_twice t h);
     joins = λ t h e m. (
       subst (λ l. e.from ∈ l) (A.vertices t (omega arith)) (H.joins t h e (subst (λ es. e ∈ es) (sym (A.edges t h)) m)).0,
       subst (λ l. e.to ∈ l) (A.vertices (suc t) (omega arith)) (H.joins t h e (subst (λ es. e ∈ es) (sym (A.edges t h)) m)).1,
     );
-    noRepeat = λ t h. subst Once (A.edges t h) (H.noRepeat t h);
-    roots = just-one (A.vertices 0 (omega arith)) A.roots H.roots;
-    goals = just-one (A.vertices n (omega arith)) A.goals H.goals;
+    no_repeat = λ t h. subst Once (A.edges t h) (H.no_repeat t h);
+    roots = just_one_lem (A.vertices 0 (omega arith)) A.roots H.roots;
+    goals = just_one_lem (A.vertices n (omega arith)) A.goals H.goals;
     on_path = λ t v h m.
         let T = H.on_path t v h (subst (λ l. v ∈ l) (sym (A.vertices t h)) m) in
         record { x = T.x; a = T.a; path = new T.path; passes = T.passes };
     no_more = λ x a p. let W = H.no_more x a (old p) in
         record { word = W.word; listed = W.listed; carried = carried (old p) W.carried };
-    noFewer = λ w m. path-new (H.noFewer w m);
+    no_fewer = λ w m. path_new (H.no_fewer w m);
   }

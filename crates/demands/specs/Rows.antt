@@ -4,20 +4,20 @@
 use Rattle.std.specs.Prelude.{◌≡◌, true, ◌↔◌, List, ℕ, ◌^◌, ◌≤◌, ◌<◌, length, get_or, take}
 use Rattle.trellis.specs.Lists.{◌∈◌}
 use Rattle.trellis.specs.Word.{Word, Rectangular}
-use Rattle.trellis.specs.Own.{vertexOf, vertexCount, edge_count}
-use Rattle.table.specs.File.{tableFile, accepted}
+use Rattle.trellis.specs.Own.{vertex_of, vertex_count, edge_count}
+use Rattle.table.specs.File.{table_file, accepted}
 use Rattle.merging.specs.Merging.{Merging, merging}
 use Rattle.rows.specs.Sums.{IsSum, sums}
-use Rattle.rows.specs.Table.{rowWidth, word_of, table_of, cut_at, sizesFit}
-use Rattle.rows.specs.Check.{ParityCheck, syndromeAt}
+use Rattle.rows.specs.Table.{row_width, word_of, table_of, cut_at, sizes_fit}
+use Rattle.rows.specs.Check.{ParityCheck, syndrome_at}
 use Rattle.rows.specs.Power.{Power}
-use Rattle.merging_rows.specs.MergingRows.{MergingRows, rowsFile, mergingRows}
+use Rattle.merging_rows.specs.MergingRows.{MergingRows, rows_file, merging_rows}
 
 module _ (s n : ℕ) (rows : List ℕ) where
   -- rows that pass 14 and 15: sizes within their bounds, no bits above the width, no row a sum of earlier ones
   pub record Sound : Type 0 where
-    pub fit : sizesFit s n (length rows) ≡ true
-    pub narrow : (j : ℕ) → j < length rows → get_or rows j 0 < 2 ^ rowWidth s n
+    pub fit : sizes_fit s n (length rows) ≡ true
+    pub narrow : (j : ℕ) → j < length rows → get_or rows j 0 < 2 ^ row_width s n
     pub independent : (j : ℕ) → j < length rows → IsSum (take j rows) (get_or rows j 0) → ⊥
 
   -- a word of the table is that of a sum
@@ -33,14 +33,14 @@ module _ (s n : ℕ) (rows : List ℕ) where
 
   -- two words share a vertex at an inner depth exactly if their partial syndromes agree, whatever the parity check; word i is sum i
   abbrev pub BySyndromes : Type 0
-  BySyndromes = (N : ℕ) (columns : List ℕ) → ParityCheck N rows columns → rowWidth s n ≤ N → (t : ℕ) → 0 < t → t < n
+  BySyndromes = (N : ℕ) (columns : List ℕ) → ParityCheck N rows columns → row_width s n ≤ N → (t : ℕ) → 0 < t → t < n
       → (i j : ℕ) → i < length (table_of s n rows) → j < length (table_of s n rows)
-      → (vertexOf n (table_of s n rows) t i ≡ vertexOf n (table_of s n rows) t j)
-      ↔ (syndromeAt columns (cut_at s n t) (get_or (sums rows) i 0) ≡ syndromeAt columns (cut_at s n t) (get_or (sums rows) j 0))
+      → (vertex_of n (table_of s n rows) t i ≡ vertex_of n (table_of s n rows) t j)
+      ↔ (syndrome_at columns (cut_at s n t) (get_or (sums rows) i 0) ≡ syndrome_at columns (cut_at s n t) (get_or (sums rows) j 0))
 
   -- the vertices of each depth and the edges of each step are powers of 2 in number
   pub record Powers : Type 0 where
-    pub vertices : (t : ℕ) → t ≤ n → Power (vertexCount n (table_of s n rows) t)
+    pub vertices : (t : ℕ) → t ≤ n → Power (vertex_count n (table_of s n rows) t)
     pub edges : (t : ℕ) → t < n → Power (edge_count n (table_of s n rows) t)
 
   -- "Map and section are those of merging that table, in every number": m is what merging the table's file leaves, and the file stands in
@@ -49,14 +49,14 @@ module _ (s n : ℕ) (rows : List ℕ) where
     pub answer : r.answer ≡ m.answer
     pub map : r.map ≡ m.map
     pub section : r.section ≡ m.section
-    pub file : r.answer.number ≡ 0 → take (length (rowsFile s n rows)) r.file ≡ rowsFile s n rows
+    pub file : r.answer.number ≡ 0 → take (length (rows_file s n rows)) r.file ≡ rows_file s n rows
 
   -- such a table is rectangular, so 6 never arises; its file is well formed, and merging it leaves the same
   pub record RowsMeaning : Type 0 where
     pub words : ExactlySums
     pub rectangular : Rectangular n (table_of s n rows)
-    pub wellFormed : Sound → tableFile (rowsFile s n rows) ≡ accepted 2 n (2 ^ s) (table_of s n rows)
-    pub asMerged : Sound → (file map section : List ℕ) → length (rowsFile s n rows) ≤ length file
-        → AsMerged (merging (rowsFile s n rows) map section) (mergingRows s n rows file map section)
-    pub bySyndromes : Sound → BySyndromes
+    pub well_formed : Sound → table_file (rows_file s n rows) ≡ accepted 2 n (2 ^ s) (table_of s n rows)
+    pub as_merged : Sound → (file map section : List ℕ) → length (rows_file s n rows) ≤ length file
+        → AsMerged (merging (rows_file s n rows) map section) (merging_rows s n rows file map section)
+    pub by_syndromes : Sound → BySyndromes
     pub powers : Sound → Powers

@@ -9,32 +9,32 @@ use native.Mathlib.Decide.{ℕ_discrete}
 use lib.ListN.{length, set, length-set}
 use lib.Seq.{get_or-set_same}
 use lib.Dec.{eqb}
-use Rattle.trellis.specs.Lists.{one-if}
-use Rattle.runs.specs.inner.Runs.{below, number_of}
-use Rattle.runs.proofs.Counting.{below-le}
-use Rattle.depth_runs.specs.inner.Rows.{at, RowAt, firstWordIn, ToNumber, VerticesNumbered}
+use Rattle.trellis.specs.Lists.{one_if}
+use Rattle.runs.specs.Inner.Runs.{below, number_of}
+use Rattle.runs.proofs.Counting.{below_le}
+use Rattle.depth_runs.specs.Inner.Rows.{at, RowAt, first_word_in, ToNumber, VerticesNumbered}
 use Rattle.depth_runs.proofs.Places.{at_set, upto_next}
 
 pub record InNumbers (place W : ℕ) (first_word : ℕ → ℕ) (old new : List ℕ) (i count : ℕ) : Type 0 where
-  pub iLe : i ≤ W
+  pub i_le : i ≤ W
   pub row : RowAt place i (number_of first_word) old new
   pub counted : count ≡ below (λ j. eqb (first_word j) j) i
 
-pub numbers-own : {W place : ℕ} {starts firsts map : List ℕ} {i own : ℕ} → ToNumber W place starts firsts map
-    → own ≡ firstWordIn starts firsts i → i < W → own ≤ i
-numbers-own {W} {place} {starts} {firsts} {map} {i} N e h = omega (arith, N.backward.wordLe i h, N.backward.startLe i h)
+pub numbers_own : {W place : ℕ} {starts firsts map : List ℕ} {i own : ℕ} → ToNumber W place starts firsts map
+    → own ≡ first_word_in starts firsts i → i < W → own ≤ i
+numbers_own {W} {place} {starts} {firsts} {map} {i} N e h = omega (arith, N.backward.word_le i h, N.backward.start_le i h)
 
-pub numbers-none : (place W : ℕ) (first_word : ℕ → ℕ) (old : List ℕ) → InNumbers place W first_word old old 0 0
+pub numbers_none : (place W : ℕ) (first_word : ℕ → ℕ) (old : List ℕ) → InNumbers place W first_word old old 0 0
 unfolding below
-numbers-none place W first_word old = record {
-  iLe = omega arith;
+numbers_none place W first_word old = record {
+  i_le = omega arith;
   row = record { is = λ i h. absurd (omega arith); before = λ j h. refl; behind = λ j h. refl; len = refl };
   counted = refl;
 }
 
 module _ {place W : ℕ} {first_word : ℕ → ℕ} {old new : List ℕ} {i count : ℕ} (c : InNumbers place W first_word old new i count) where
-  pub numbers-few : count ≤ i
-  numbers-few = omega (arith, c.counted, below-le (λ j. eqb (first_word j) j) i)
+  pub numbers_few : count ≤ i
+  numbers_few = omega (arith, c.counted, below_le (λ j. eqb (first_word j) j) i)
 
   -- the number read back is that of i's vertex
   read_back : (own : ℕ) → own ≡ first_word i → own ≤ i → first_word (first_word i) ≡ first_word i → place + i < length new
@@ -49,12 +49,12 @@ module _ {place W : ℕ} {first_word : ℕ → ℕ} {old new : List ℕ} {i coun
           ∙ ap (below (λ j. eqb (first_word j) j)) (ap first_word e ∙ t)
 
   pub numbers_more : {own count' : ℕ} → own ≡ first_word i → own ≤ i → first_word (first_word i) ≡ first_word i → place + W ≤ length old
-      → count' ≡ count + one-if (eqb own i) → i < W
+      → count' ≡ count + one_if (eqb own i) → i < W
       → InNumbers place W first_word old (set (set new (place + i) count) (place + i) (at (set new (place + i) count) (place + own)))
       (i + 1) count'
   unfolding below
   numbers_more {own} {count'} e l t h f k = record {
-    iLe = omega arith;
+    i_le = omega arith;
     row = record {
       is = upto_next (λ j. at (set (set new (place + i) count) (place + i) v) (place + j) ≡ number_of first_word j) i
           (λ j q. other (place + j) (λ r. omega arith) ∙ c.row.is j q)
@@ -63,7 +63,7 @@ module _ {place W : ℕ} {first_word : ℕ → ℕ} {old new : List ℕ} {i coun
       behind = λ j q. other j (λ r. omega arith) ∙ c.row.behind j (omega arith);
       len = simp length-set c.row.len;
     };
-    counted = rw (add-one i) (f ∙ ap₂ (λ x y. x + one-if (eqb y i)) c.counted e);
+    counted = rw (add-one i) (f ∙ ap₂ (λ x y. x + one_if (eqb y i)) c.counted e);
   }
     where
       v : ℕ
@@ -77,9 +77,9 @@ module _ {place W : ℕ} {first_word : ℕ → ℕ} {old new : List ℕ} {i coun
       other j q = at_set (set new (place + i) count) (place + i) j (at (set new (place + i) count) (place + own)) q
           ∙ at_set new (place + i) j count q
 
-  pub numbers-end : W ≤ i → VerticesNumbered place W first_word old new count
-  numbers-end h =
-      let e : i ≡ W = omega (arith, c.iLe) in
+  pub numbers_end : W ≤ i → VerticesNumbered place W first_word old new count
+  numbers_end h =
+      let e : i ≡ W = omega (arith, c.i_le) in
       record {
         row = subst (λ k. RowAt place k (number_of first_word) old new) e c.row;
         counted = c.counted

@@ -1,2 +1,2 @@
 -- Rows of a depth.
-pub mod inner
+pub mod Inner

@@ -1,26 +1,26 @@
 // Runs of words that share a beginning, at one depth: whether those with a common ending agree, and the numbers of the vertices that they
 // share.
 ghost use Rattle.std.specs.Prelude.{◌≡◌, ◌+◌, ◌-◌, ◌<◌, ◌≤◌, eqb};
-ghost use Rattle.trellis.specs.Bounds.{mostWords};
-ghost use Rattle.trellis.specs.Lists.{one-if};
-ghost use Rattle.runs.specs.inner.Runs.{goesOn};
-ghost use Rattle.depth_runs.specs.inner.Rows.{at, firstWordIn, agreesTest, runsAgreeTest, Backward, ToNumber, VerticesNumbered};
+ghost use Rattle.trellis.specs.Bounds.{most_words};
+ghost use Rattle.trellis.specs.Lists.{one_if};
+ghost use Rattle.runs.specs.Inner.Runs.{goes_on};
+ghost use Rattle.depth_runs.specs.Inner.Rows.{at, first_word_in, agrees_test, runs_agree_test, Backward, ToNumber, VerticesNumbered};
 
 use numbers::wide;
 use trellis::MOST_WORDS;
 
 // Whether the word after i is of i's run.
 fn goes_on(starts: &[u16; MOST_WORDS], w: usize, i: usize) -> bool
-    requires { (i < w) × (w ≤ mostWords) }
-    ensures { result ≡ goesOn w (at starts.now) i }
+    requires { (i < w) × (w ≤ most_words) }
+    ensures { result ≡ goes_on w (at starts.now) i }
 {
     i + 1 < w && starts[i + 1] == starts[i]
 }
 
 // The first word of i's vertex.
 fn first_word(starts: &[u16; MOST_WORDS], firsts: &[u16; MOST_WORDS], w: usize, i: usize) -> usize
-    requires { (i < w) × (w ≤ mostWords) × Backward w starts.now firsts.now }
-    ensures { result ≡ firstWordIn starts.now firsts.now i }
+    requires { (i < w) × (w ≤ most_words) × Backward w starts.now firsts.now }
+    ensures { result ≡ first_word_in starts.now firsts.now i }
 {
     let first = wide(firsts[i]);
     wide(starts[first])
@@ -28,8 +28,8 @@ fn first_word(starts: &[u16; MOST_WORDS], firsts: &[u16; MOST_WORDS], w: usize, 
 
 // Whether i's run agrees at i with the run of its first word.
 fn agrees(starts: &[u16; MOST_WORDS], firsts: &[u16; MOST_WORDS], w: usize, i: usize) -> bool
-    requires { (i < w) × (w ≤ mostWords) × Backward w starts.now firsts.now }
-    ensures { result ≡ agreesTest w (at starts.now) (firstWordIn starts.now firsts.now) i }
+    requires { (i < w) × (w ≤ most_words) × Backward w starts.now firsts.now }
+    ensures { result ≡ agrees_test w (at starts.now) (first_word_in starts.now firsts.now) i }
 {
     let start = wide(starts[i]);
     let own = first_word(starts, firsts, w, i);
@@ -40,8 +40,8 @@ fn agrees(starts: &[u16; MOST_WORDS], firsts: &[u16; MOST_WORDS], w: usize, i: u
 }
 
 pub fn runs_agree(starts: &[u16; MOST_WORDS], firsts: &[u16; MOST_WORDS], w: usize) -> bool
-    requires { (w ≤ mostWords) × Backward w starts.now firsts.now }
-    ensures { result ≡ runsAgreeTest w starts.now firsts.now }
+    requires { (w ≤ most_words) × Backward w starts.now firsts.now }
+    ensures { result ≡ runs_agree_test w starts.now firsts.now }
 {
     let mut i: usize = 0;
     while i < w {
@@ -55,8 +55,8 @@ pub fn runs_agree(starts: &[u16; MOST_WORDS], firsts: &[u16; MOST_WORDS], w: usi
 
 // One number more where i is the first word of its vertex.
 fn numbered(count: u16, first: usize, i: usize) -> u16
-    requires { count ≤ mostWords }
-    ensures { result ≡ count + one-if (eqb first i) }
+    requires { count ≤ most_words }
+    ensures { result ≡ count + one_if (eqb first i) }
 {
     if first == i { count + 1 } else { count }
 }
@@ -70,7 +70,7 @@ pub fn put_numbers(
     place: usize,
 ) -> u16
     requires { ToNumber w place starts.now firsts.now map.old }
-    ensures { VerticesNumbered place w (firstWordIn starts.now firsts.now) map.old
+    ensures { VerticesNumbered place w (first_word_in starts.now firsts.now) map.old
         map.new result }
 {
     let mut i: usize = 0;

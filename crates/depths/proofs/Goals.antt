@@ -4,48 +4,48 @@ use mathlib.Core.List.{List}
 use Prim.Native.Nat.{ℕ, ◌+◌, ◌≤◌, ◌<◌}
 use native.Mathlib.Omega.{arith}
 use lib.ListN.{length, set}
-use Rattle.trellis.specs.Bounds.{mostWords}
+use Rattle.trellis.specs.Bounds.{most_words}
 use Rattle.trellis.specs.Word.{Word, word_at}
-use Rattle.runs.specs.inner.Cuts.{endingAt}
-use Rattle.runs.proofs.Keys.{tells-goals, tells_row}
-use Rattle.depth_runs.specs.inner.Rows.{at, Row, Bytes}
-use Rattle.depth_runs.proofs.Places.{upto_next, row-none, row_more}
-use Rattle.depths.specs.inner.Words.{words, Held}
-use Rattle.depths.specs.inner.Merge.{EndingRow}
-use Rattle.depths.proofs.Words.{held-length, word-goal}
+use Rattle.runs.specs.Inner.Cuts.{ending_at}
+use Rattle.runs.proofs.Keys.{tells_goals, tells_row}
+use Rattle.depth_runs.specs.Inner.Rows.{at, Row, Bytes}
+use Rattle.depth_runs.proofs.Places.{upto_next, row_none, row_more}
+use Rattle.depths.specs.Inner.Words.{words, Held}
+use Rattle.depths.specs.Inner.Merge.{EndingRow}
+use Rattle.depths.proofs.Words.{held_length, word_goal}
 
 pub record InBytes (bytes new : List ℕ) (i : ℕ) : Type 0 where
-  pub iLe : i ≤ length bytes
+  pub i_le : i ≤ length bytes
   pub row : Row i (at bytes) new
   pub byte : (j : ℕ) → j < i → at bytes j < 256
 
-pub bytes-none : (bytes row : List ℕ) → length row ≡ mostWords → InBytes bytes row 0
-bytes-none bytes row h = record { iLe = omega arith; row = row-none (at bytes) row h; byte = λ j k. absurd (omega arith) }
+pub bytes_none : (bytes row : List ℕ) → length row ≡ most_words → InBytes bytes row 0
+bytes_none bytes row h = record { i_le = omega arith; row = row_none (at bytes) row h; byte = λ j k. absurd (omega arith) }
 
-pub bytes-more : {bytes row : List ℕ} {i x : ℕ} → InBytes bytes row i → (x ≡ at bytes i) × (x < 256) → length bytes ≤ mostWords
+pub bytes_more : {bytes row : List ℕ} {i x : ℕ} → InBytes bytes row i → (x ≡ at bytes i) × (x < 256) → length bytes ≤ most_words
     → i < length bytes
     → InBytes bytes (set row i x) (i + 1)
-bytes-more {bytes} {row} {i} {x} c e m h = record {
-  iLe = omega arith;
+bytes_more {bytes} {row} {i} {x} c e m h = record {
+  i_le = omega arith;
   row = row_more x c.row (omega arith) e.0;
   byte = upto_next (λ j. at bytes j < 256) i c.byte (omega (arith, e.0, e.1));
 }
 
-pub bytes-end : {bytes row : List ℕ} {i : ℕ} → InBytes bytes row i → length bytes ≤ i → Bytes bytes row
-bytes-end {bytes} {row} {i} c h =
-    let e : i ≡ length bytes = omega (arith, c.iLe) in
+pub bytes_end : {bytes row : List ℕ} {i : ℕ} → InBytes bytes row i → length bytes ≤ i → Bytes bytes row
+bytes_end {bytes} {row} {i} c h =
+    let e : i ≡ length bytes = omega (arith, c.i_le) in
     record { row = subst (λ k. Row k (at bytes) row) e c.row; byte = λ j k. c.byte j (omega arith) }
 
-pub goal-row : {n : ℕ} {roots labels goals row : List ℕ} → Held n roots labels goals → Bytes goals row
+pub goal_row : {n : ℕ} {roots labels goals row : List ℕ} → Held n roots labels goals → Bytes goals row
     → EndingRow n (words roots labels goals) n row
-goal-row {n} {roots} {labels} {goals} {row} H B = record {
-  small = record { len = B.row.len; lt = λ i h. omega (arith, B.row.is i (in-goals i h), B.byte i (in-goals i h)) };
-  tells = tells_row (length table) (endingAt n table n) (λ i. (word_at table i).goal) (at row)
-      (λ i h. B.row.is i (in-goals i h) ∙ sym (word-goal roots labels goals i h)) (tells-goals H.table);
+goal_row {n} {roots} {labels} {goals} {row} H B = record {
+  small = record { len = B.row.len; lt = λ i h. omega (arith, B.row.is i (in_goals i h), B.byte i (in_goals i h)) };
+  tells = tells_row (length table) (ending_at n table n) (λ i. (word_at table i).goal) (at row)
+      (λ i h. B.row.is i (in_goals i h) ∙ sym (word_goal roots labels goals i h)) (tells_goals H.table);
 }
   where
     table : List Word
     table = words roots labels goals
 
-    in-goals : (i : ℕ) → i < length (words roots labels goals) → i < length goals
-    in-goals i h = omega (arith, held-length H, H.aimed)
+    in_goals : (i : ℕ) → i < length (words roots labels goals) → i < length goals
+    in_goals i h = omega (arith, held_length H, H.aimed)

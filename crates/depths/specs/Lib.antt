@@ -1,2 +1,2 @@
 -- What a pass over a table computes, and what merging asks and leaves.
-pub mod inner
+pub mod Inner

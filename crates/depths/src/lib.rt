@@ -1,11 +1,11 @@
 // One inner depth of a table, in one pass over the words, which are lent as three parallel slices. Promised: whether the table is
 // rectangular there, and if so the vertex of every word.
 ghost use Rattle.std.specs.Prelude.{◌≡◌, cond, ◌+◌, ◌-◌, ◌<◌, ◌≤◌, length, eqb};
-ghost use Rattle.trellis.specs.Bounds.{mostWords};
-ghost use Rattle.runs.specs.inner.Runs.{firstLike};
-ghost use Rattle.depth_runs.specs.inner.Rows.{Row, Small, Bytes, beginAlike, joins, start_by, runStart, rowKey};
-ghost use Rattle.depths.specs.inner.Words.{words};
-ghost use Rattle.depths.specs.inner.Merge.{DepthAsked, DepthDone};
+ghost use Rattle.trellis.specs.Bounds.{most_words};
+ghost use Rattle.runs.specs.Inner.Runs.{first_like};
+ghost use Rattle.depth_runs.specs.Inner.Rows.{Row, Small, Bytes, begin_alike, joins, start_by, run_start, row_key};
+ghost use Rattle.depths.specs.Inner.Words.{words};
+ghost use Rattle.depths.specs.Inner.Merge.{DepthAsked, DepthDone};
 
 use depth_runs::{put_numbers, runs_agree};
 use numbers::wide;
@@ -14,14 +14,14 @@ use trellis::{MOST_Q, MOST_WORDS};
 // Whether words i and j have the same beginning at depth t.
 fn begin_alike(roots: &[u8], labels: &[u16], n: usize, t: usize, i: usize, j: usize) -> bool
     requires { (i < length roots.now) × (j < length roots.now) × (length labels.now ≡ length roots.now) }
-    ensures { result ≡ beginAlike roots.now labels.now n t i j }
+    ensures { result ≡ begin_alike roots.now labels.now n t i j }
 {
     roots[i] == roots[j] && label::front(labels[i], n, t) == label::front(labels[j], n, t)
 }
 
 // The start of i's run, where `before` is the start of the run of the word before i.
 fn run_start(roots: &[u8], labels: &[u16], n: usize, t: usize, i: usize, before: u16) -> u16
-    requires { (i < length roots.now) × (length roots.now ≤ mostWords) × (length labels.now ≡ length roots.now) }
+    requires { (i < length roots.now) × (length roots.now ≤ most_words) × (length labels.now ≡ length roots.now) }
     ensures { result ≡ start_by (joins roots.now labels.now n t) i before }
 {
     if i == 0 {
@@ -36,8 +36,8 @@ fn run_start(roots: &[u8], labels: &[u16], n: usize, t: usize, i: usize, before:
 
 // The start of each word's run at depth t.
 pub fn put_starts(roots: &[u8], labels: &[u16], n: usize, t: usize, starts: &mut [u16; MOST_WORDS])
-    requires { (length roots.now ≤ mostWords) × (length labels.now ≡ length roots.now) × (length starts.old ≡ mostWords) }
-    ensures { Row (length roots.now) (runStart (joins roots.now labels.now n t))
+    requires { (length roots.now ≤ most_words) × (length labels.now ≡ length roots.now) × (length starts.old ≡ most_words) }
+    ensures { Row (length roots.now) (run_start (joins roots.now labels.now n t))
         starts.new }
 {
     let mut i: usize = 0;
@@ -54,15 +54,15 @@ const NOTHING: u16 = MOST_WORDS as u16;
 
 // What was noted for a key, or i where nothing was.
 fn noted(old: u16, i: u16) -> u16
-    ensures { result ≡ cond (eqb old mostWords) i old }
+    ensures { result ≡ cond (eqb old most_words) i old }
 {
     if old == NOTHING { i } else { old }
 }
 
 // The row becomes, for each word, the first word with its symbol t and its number in the row.
 pub fn put_firsts(labels: &[u16], n: usize, t: usize, row: &mut [u16; MOST_WORDS])
-    requires { (length labels.now ≤ mostWords) × Small (length labels.now) row.old }
-    ensures { Row (length labels.now) (firstLike (rowKey labels.now n t row.old))
+    requires { (length labels.now ≤ most_words) × Small (length labels.now) row.old }
+    ensures { Row (length labels.now) (first_like (row_key labels.now n t row.old))
         row.new }
 {
     let mut seen = [NOTHING; MOST_Q * MOST_WORDS];
@@ -115,7 +115,7 @@ fn widen(x: u8) -> u16
 
 // The goals as a row: they tell the endings at depth n apart.
 pub fn put_goals(goals: &[u8], row: &mut [u16; MOST_WORDS])
-    requires { (length goals.now ≤ mostWords) × (length row.old ≡ mostWords) }
+    requires { (length goals.now ≤ most_words) × (length row.old ≡ most_words) }
     ensures { Bytes goals.now row.new }
 {
     let mut i: usize = 0;

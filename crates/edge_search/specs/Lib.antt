@@ -1,2 +1,2 @@
 -- Edges in the order of their vertices.
-pub mod inner
+pub mod Inner

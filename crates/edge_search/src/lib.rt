@@ -1,7 +1,7 @@
 // The first edge that leaves a vertex, among the edges of a step, which stand in the order of their vertices.
 ghost use Rattle.std.specs.Prelude.{◌≡◌, ◌+◌, ◌*◌, ◌<◌, ◌≤◌, length, get_or};
-ghost use Rattle.trellis.specs.Bounds.{mostWords, mostSymbols};
-ghost use Rattle.edge_search.specs.inner.FirstEdge.{FromsRise, FirstFrom, isFirst};
+ghost use Rattle.trellis.specs.Bounds.{most_words, most_symbols};
+ghost use Rattle.edge_search.specs.Inner.FirstEdge.{FromsRise, FirstFrom, is_first};
 
 use numbers::wide;
 
@@ -26,7 +26,7 @@ fn search_edge(pairs: &[u16], count: usize, vertex: usize) -> usize
 // Whether the edge at a place is the first that leaves the vertex or a later one.
 fn is_first(pairs: &[u16], count: usize, place: usize, vertex: usize) -> bool
     requires { FromsRise pairs.now count }
-    ensures { result ≡ isFirst (λ j. get_or pairs.now (2 * j) 0) count vertex place }
+    ensures { result ≡ is_first (λ j. get_or pairs.now (2 * j) 0) count vertex place }
 {
     if place >= count {
         return false;
@@ -43,7 +43,7 @@ fn is_first(pairs: &[u16], count: usize, place: usize, vertex: usize) -> bool
 // The first of a step's edges that leaves the vertex or a later one. Where as many edges leave each vertex, as in every linear code, its
 // place follows from the vertex; elsewhere it is searched for.
 pub fn first_edge(pairs: &[u16], count: usize, each: usize, vertex: usize) -> usize
-    requires { FromsRise pairs.now count × (each ≤ mostWords) × (vertex < mostWords) }
+    requires { FromsRise pairs.now count × (each ≤ most_words) × (vertex < most_words) }
     ensures { FirstFrom (λ j. get_or pairs.now (2 * j) 0) count vertex result }
 {
     let guess = vertex * each;
@@ -55,8 +55,8 @@ pub fn first_edge(pairs: &[u16], count: usize, each: usize, vertex: usize) -> us
 
 // How many edges leave each vertex of depth t, where as many leave each.
 pub fn edges_each(l: &[u16], t: usize, edges: usize) -> usize
-    requires { (t < mostSymbols) × (3 + t < length l.now) × (0 < get_or l.now (3 + t) 0) × (edges ≤ mostWords) }
-    ensures { result ≤ mostWords }
+    requires { (t < most_symbols) × (3 + t < length l.now) × (0 < get_or l.now (3 + t) 0) × (edges ≤ most_words) }
+    ensures { result ≤ most_words }
 {
     edges / wide(l[3 + t])
 }

@@ -1,2 +1,2 @@
 -- The edges of a step.
-pub mod inner
+pub mod Inner

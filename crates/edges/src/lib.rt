@@ -1,9 +1,9 @@
 // The edges of one step, in the two slices where their pairs (from, to) and their symbols begin: an edge read, whether all are within
 // bounds, and whether they ascend.
 ghost use Rattle.std.specs.Prelude.{◌≡◌, ◌+◌, ◌*◌, ◌<◌, length};
-ghost use Rattle.trellis.specs.Own.{edgeLess};
+ghost use Rattle.trellis.specs.Own.{edge_less};
 ghost use Rattle.trellis.specs.Lists.{all};
-ghost use Rattle.edges.specs.inner.Edges.{inside, above, EdgesThere, edgeIn, heldEdge, meantEdge};
+ghost use Rattle.edges.specs.Inner.Edges.{inside, above, EdgesThere, edge_in, held_edge, meant_edge};
 
 use numbers::wide;
 
@@ -18,7 +18,7 @@ pub struct Edge {
 // Edge k of those whose pairs (from, to) and symbols begin at the front of two slices.
 pub fn edge_at(pairs: &[u16], symbols: &[u16], k: usize) -> Edge
     requires { (2 * k + 1 < length pairs.now) × (k < length symbols.now) }
-    ensures { result ≡ heldEdge (edgeIn pairs.now symbols.now k) }
+    ensures { result ≡ held_edge (edge_in pairs.now symbols.now k) }
 {
     Edge {
         from: wide(pairs[2 * k]),
@@ -29,7 +29,7 @@ pub fn edge_at(pairs: &[u16], symbols: &[u16], k: usize) -> Edge
 
 fn is_inside(pairs: &[u16], symbols: &[u16], k: usize, q: usize, froms: usize, tos: usize) -> bool
     requires { (2 * k + 1 < length pairs.now) × (k < length symbols.now) }
-    ensures { result ≡ inside (edgeIn pairs.now symbols.now) q froms tos k }
+    ensures { result ≡ inside (edge_in pairs.now symbols.now) q froms tos k }
 {
     let e = edge_at(pairs, symbols, k);
     if e.from >= froms {
@@ -50,7 +50,7 @@ pub fn all_inside(
     tos: usize,
 ) -> bool
     requires { EdgesThere pairs.now symbols.now count }
-    ensures { result ≡ all (inside (edgeIn pairs.now symbols.now) q froms tos) count }
+    ensures { result ≡ all (inside (edge_in pairs.now symbols.now) q froms tos) count }
 {
     let mut k: usize = 0;
     while k < count {
@@ -63,7 +63,7 @@ pub fn all_inside(
 }
 
 fn is_less(e: Edge, f: Edge) -> bool
-    ensures { result ≡ edgeLess (meantEdge e) (meantEdge f) }
+    ensures { result ≡ edge_less (meant_edge e) (meant_edge f) }
 {
     if e.from < f.from {
         return true;
@@ -83,7 +83,7 @@ fn is_less(e: Edge, f: Edge) -> bool
 // Whether edge k is above the edge before it.
 fn is_above(pairs: &[u16], symbols: &[u16], k: usize) -> bool
     requires { (2 * k + 1 < length pairs.now) × (k < length symbols.now) }
-    ensures { result ≡ above (edgeIn pairs.now symbols.now) k }
+    ensures { result ≡ above (edge_in pairs.now symbols.now) k }
 {
     if k == 0 {
         return true;
@@ -93,7 +93,7 @@ fn is_above(pairs: &[u16], symbols: &[u16], k: usize) -> bool
 
 pub fn all_above(pairs: &[u16], symbols: &[u16], count: usize) -> bool
     requires { EdgesThere pairs.now symbols.now count }
-    ensures { result ≡ all (above (edgeIn pairs.now symbols.now)) count }
+    ensures { result ≡ all (above (edge_in pairs.now symbols.now)) count }
 {
     let mut k: usize = 0;
     while k < count {

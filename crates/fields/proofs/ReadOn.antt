@@ -8,33 +8,33 @@ use native.Mathlib.Omega.{arith}
 use native.Mathlib.Nat.{le_refl}
 use lib.Dec.{ltb}
 use borrow.Author.Tests.{ltb-true, ltb-false}
-use Rattle.fields.specs.Fields.{wordCount, lengthBad}
-use Rattle.fields.specs.inner.Answer.{foundAt}
-use Rattle.fields.specs.inner.ReadOn.{placeAfter, place_of, ReadsAll}
-use Rattle.fields.proofs.Reading.{nothing-past, here, stays-past, goes_on}
+use Rattle.fields.specs.Fields.{word_count, length_bad}
+use Rattle.fields.specs.Inner.Answer.{found_at}
+use Rattle.fields.specs.Inner.ReadOn.{place_after, place_of, ReadsAll}
+use Rattle.fields.proofs.Reading.{nothing_past, here, stays_past, goes_on}
 
-module _ (file : List ℕ) (right : lengthBad file ≡ false) where
-  place-within : (k : ℕ) → k ≤ wordCount file → place_of file k ≡ k
+module _ (file : List ℕ) (right : length_bad file ≡ false) where
+  place_within : (k : ℕ) → k ≤ word_count file → place_of file k ≡ k
   unfolding place_of
-  place-within zero h = refl
-  place-within (suc k) h =
+  place_within zero h = refl
+  place_within (suc k) h =
       let e : k + 1 ≡ suc k = omega arith in
-      ap (placeAfter file) (place-within k (omega arith)) ∙ sym (goes_on file (sym right) refl refl (omega arith)) ∙ e
+      ap (place_after file) (place_within k (omega arith)) ∙ sym (goes_on file (sym right) refl refl (omega arith)) ∙ e
 
-  place-past : (k : ℕ) → wordCount file ≤ k → place_of file k ≡ wordCount file
+  place_past : (k : ℕ) → word_count file ≤ k → place_of file k ≡ word_count file
   unfolding place_of
-  place-past zero h = omega arith
-  place-past (suc k) h = go (ltb k (wordCount file)) refl (place-past k)
+  place_past zero h = omega arith
+  place_past (suc k) h = go (ltb k (word_count file)) refl (place_past k)
     where
-      go : (b : Bool) → ltb k (wordCount file) ≡ b → (wordCount file ≤ k → place_of file k ≡ wordCount file)
-          → placeAfter file (place_of file k) ≡ wordCount file
+      go : (b : Bool) → ltb k (word_count file) ≡ b → (word_count file ≤ k → place_of file k ≡ word_count file)
+          → place_after file (place_of file k) ≡ word_count file
       go true e r =
-          let l = ltb-true k (wordCount file) e in
-          ap (placeAfter file) (place-within k (omega arith)) ∙ sym (goes_on file (sym right) refl refl l) ∙ omega arith
-      go false e r = ap (placeAfter file) (r (ltb-false k (wordCount file) e)) ∙ sym (stays-past file (sym right) refl refl (le_refl _))
+          let l = ltb-true k (word_count file) e in
+          ap (place_after file) (place_within k (omega arith)) ∙ sym (goes_on file (sym right) refl refl l) ∙ omega arith
+      go false e r = ap (place_after file) (r (ltb-false k (word_count file) e)) ∙ sym (stays_past file (sym right) refl refl (le_refl _))
 
   pub reads_all : ReadsAll file
   reads_all = record {
-    inOrder = λ k h. ap (foundAt file) (place-within k (omega arith)) ∙ sym (here file (sym right) refl refl h refl);
-    atEnd = λ k h. ap (foundAt file) (place-past k h) ∙ sym (nothing-past file (sym right) refl refl (le_refl _));
+    in_order = λ k h. ap (found_at file) (place_within k (omega arith)) ∙ sym (here file (sym right) refl refl h refl);
+    at_end = λ k h. ap (found_at file) (place_past k h) ∙ sym (nothing_past file (sym right) refl refl (le_refl _));
   }

@@ -11,23 +11,23 @@ abbrev pub byte_at : List ℕ → ℕ → ℕ
 byte_at file i = get_or file i 0
 
 -- the number in two bytes, low byte first
-abbrev pub twoBytes : ℕ → ℕ → ℕ
-twoBytes low high = low + 256 * high
+abbrev pub two_bytes : ℕ → ℕ → ℕ
+two_bytes low high = low + 256 * high
 
 -- W as the file states it
-unfoldable pub wordCount : List ℕ → ℕ
-wordCount file = twoBytes (byte_at file 3) (byte_at file 4)
+unfoldable pub word_count : List ℕ → ℕ
+word_count file = two_bytes (byte_at file 3) (byte_at file 4)
 
 -- word i: its pair stands 2i behind the sizes, its label 2i behind the W pairs
-unfoldable pub fileWord : List ℕ → ℕ → Word
-fileWord file i =
+unfoldable pub file_word : List ℕ → ℕ → Word
+file_word file i =
     let pair = 5 + 2 * i in
-    let label = 5 + 2 * wordCount file + 2 * i in
-    word (byte_at file pair) (twoBytes (byte_at file label) (byte_at file (label + 1))) (byte_at file (pair + 1))
+    let label = 5 + 2 * word_count file + 2 * i in
+    word (byte_at file pair) (two_bytes (byte_at file label) (byte_at file (label + 1))) (byte_at file (pair + 1))
 
-unfoldable pub fileWords : List ℕ → List Word
-fileWords file = each (fileWord file) (wordCount file)
+unfoldable pub file_words : List ℕ → List Word
+file_words file = each (file_word file) (word_count file)
 
 -- under 5 bytes, or not 5 + 4W: check 1
-unfoldable pub lengthBad : List ℕ → Bool
-lengthBad file = ltb (length file) 5 || not (eqb (length file) (5 + 4 * wordCount file))
+unfoldable pub length_bad : List ℕ → Bool
+length_bad file = ltb (length file) 5 || not (eqb (length file) (5 + 4 * word_count file))

@@ -1,3 +1,3 @@
 -- The table file.
 pub mod Fields
-pub mod inner
+pub mod Inner

@@ -1,7 +1,7 @@
 // The fields and the words of a table file, read in place from lent bytes. Every function answers for all arguments, by an equation with a
 // definition of specs/.
 ghost use Rattle.std.specs.Prelude.{◌≡◌};
-ghost use Rattle.fields.specs.Fields.{byte_at, twoBytes, wordCount, lengthBad};
+ghost use Rattle.fields.specs.Fields.{byte_at, two_bytes, word_count, length_bad};
 
 // A word as the file has it.
 #[derive(Drop)]
@@ -27,21 +27,21 @@ pub fn byte_at(file: &[u8], at: usize) -> u8
 
 // The number in two bytes, low byte first.
 pub fn two_bytes(low: u8, high: u8) -> u16
-    ensures { result ≡ twoBytes low high }
+    ensures { result ≡ two_bytes low high }
 {
     (low as u16) + 256 * (high as u16)
 }
 
 // W as the file states it.
 pub fn word_count(file: &[u8]) -> u16
-    ensures { result ≡ wordCount file.now }
+    ensures { result ≡ word_count file.now }
 {
     two_bytes(byte_at(file, 3), byte_at(file, 4))
 }
 
 // Check 1: under 5 bytes, or not as many as the word count asks for.
 pub fn length_bad(file: &[u8]) -> bool
-    ensures { result ≡ lengthBad file.now }
+    ensures { result ≡ length_bad file.now }
 {
     if file.len() < 5 {
         return true;

@@ -1,26 +1,26 @@
 // The words of a table file, read in place: word i, the word at an index if there is one, and the place behind it.
 ghost use Rattle.std.specs.Prelude.{◌≡◌};
-ghost use Rattle.fields.specs.Fields.{fileWord};
-ghost use Rattle.fields.specs.inner.Answer.{heldWord, foundAt};
-ghost use Rattle.fields.specs.inner.ReadOn.{placeAfter};
+ghost use Rattle.fields.specs.Fields.{file_word};
+ghost use Rattle.fields.specs.Inner.Answer.{held_word, found_at};
+ghost use Rattle.fields.specs.Inner.ReadOn.{place_after};
 
 use fields::{Found, Word, byte_at, length_bad, two_bytes, word_count};
 
 // The fields of a word. An index of 16 bits keeps every place far below the largest usize.
 fn root_at(file: &[u8], i: u16) -> u8
-    ensures { result ≡ (fileWord file.now i).root }
+    ensures { result ≡ (file_word file.now i).root }
 {
     byte_at(file, 5 + 2 * (i as usize))
 }
 
 fn goal_at(file: &[u8], i: u16) -> u8
-    ensures { result ≡ (fileWord file.now i).goal }
+    ensures { result ≡ (file_word file.now i).goal }
 {
     byte_at(file, 5 + 2 * (i as usize) + 1)
 }
 
 fn label_at(file: &[u8], i: u16) -> u16
-    ensures { result ≡ (fileWord file.now i).label }
+    ensures { result ≡ (file_word file.now i).label }
 {
     let at = 5 + 2 * (word_count(file) as usize) + 2 * (i as usize);
     let low = byte_at(file, at);
@@ -30,7 +30,7 @@ fn label_at(file: &[u8], i: u16) -> u16
 
 // The word decoder that a reader calls.
 pub fn word_of(file: &[u8], i: u16) -> Word
-    ensures { result ≡ heldWord (fileWord file.now i) }
+    ensures { result ≡ held_word (file_word file.now i) }
 {
     Word {
         root: root_at(file, i),
@@ -41,7 +41,7 @@ pub fn word_of(file: &[u8], i: u16) -> Word
 
 // The word at an index, for readers: there is none where the file's length is not what its word count asks for.
 pub fn word_at(file: &[u8], i: usize) -> Found
-    ensures { result ≡ foundAt file.now i }
+    ensures { result ≡ found_at file.now i }
 {
     if length_bad(file) {
         return Found::Nothing;
@@ -54,14 +54,14 @@ pub fn word_at(file: &[u8], i: usize) -> Found
 
 // The word at an index of 16 bits, which a reader holds.
 pub fn found_at(file: &[u8], i: u16) -> Found
-    ensures { result ≡ foundAt file.now i }
+    ensures { result ≡ found_at file.now i }
 {
     word_at(file, i as usize)
 }
 
 // Where a reader stands that has read on from word i: behind the word, or still there if there is none.
 pub fn place_after(file: &[u8], i: u16) -> u16
-    ensures { result ≡ placeAfter file.now i }
+    ensures { result ≡ place_after file.now i }
 {
     if length_bad(file) {
         return i;

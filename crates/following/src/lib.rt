@@ -2,12 +2,12 @@
 // so each step gives the partners of the vertices that it reaches. At the last step both ends of an edge are known, and the edge must be
 // there. For each vertex an array holds one more than its partner, and 0 where none is known yet.
 ghost use Rattle.std.specs.Prelude.{◌≡◌, true, ℕ, ◌+◌, ◌*◌, ◌<◌, ◌≤◌, eqb, length, get_or};
-ghost use Rattle.trellis.specs.Bounds.{mostWords, mostQ};
+ghost use Rattle.trellis.specs.Bounds.{most_words, most_q};
 ghost use Rattle.trellis.specs.Lists.{run, all};
-ghost use Rattle.edges.specs.inner.Edges.{edgeIn, EdgesSmall};
-ghost use Rattle.twins.specs.inner.Twins.{turnedIn};
-ghost use Rattle.whole_section.specs.inner.StepAt.{partFrom, StepAt};
-ghost use Rattle.partners.specs.inner.Following.{slot, Single, Partners, StepMatched, LastMatched, BothSeen, FollowedBy};
+ghost use Rattle.edges.specs.Inner.Edges.{edge_in, EdgesSmall};
+ghost use Rattle.twins.specs.Inner.Twins.{turned_in};
+ghost use Rattle.whole_section.specs.Inner.StepAt.{part_from, StepAt};
+ghost use Rattle.partners.specs.Inner.Following.{slot, Single, Partners, StepMatched, LastMatched, BothSeen, FollowedBy};
 
 use edges::edge_at;
 use numbers::{number, wide};
@@ -26,10 +26,10 @@ fn match_step(
     matched: &mut [u16; MOST_WORDS],
 ) -> bool
     requires { StepAt a.now pairs symbols count × StepAt b.now pairs symbols count
-        × Single (edgeIn (partFrom pairs b.now) (partFrom symbols b.now)) count
-        × Partners (edgeIn (partFrom pairs a.now) (partFrom symbols a.now)) count matched.old }
-    ensures { StepMatched (run (edgeIn (partFrom pairs a.now) (partFrom symbols a.now)) 0 count)
-        (run (edgeIn (partFrom pairs b.now) (partFrom symbols b.now)) 0 count)
+        × Single (edge_in (part_from pairs b.now) (part_from symbols b.now)) count
+        × Partners (edge_in (part_from pairs a.now) (part_from symbols a.now)) count matched.old }
+    ensures { StepMatched (run (edge_in (part_from pairs a.now) (part_from symbols a.now)) 0 count)
+        (run (edge_in (part_from pairs b.now) (part_from symbols b.now)) 0 count)
         matched.old matched.new result }
 {
     let ends = ends_of(&b[pairs..], &b[symbols..], count, false);
@@ -45,11 +45,11 @@ fn all_close(
     starts: &[u16; MOST_Q * MOST_WORDS],
     matched: &[u16; MOST_WORDS],
 ) -> bool
-    requires { EdgesSmall pairs.now symbols.now count × (length starts.now ≡ mostQ * mostWords)
-        × (length matched.now ≡ mostWords) }
-    ensures { result ≡ all (λ k. eqb (get_or starts.now (slot (edgeIn pairs.now symbols.now k).to
-        (edgeIn pairs.now symbols.now k).symbol) 0)
-        (get_or matched.now (edgeIn pairs.now symbols.now k).from 0)) count }
+    requires { EdgesSmall pairs.now symbols.now count × (length starts.now ≡ most_q * most_words)
+        × (length matched.now ≡ most_words) }
+    ensures { result ≡ all (λ k. eqb (get_or starts.now (slot (edge_in pairs.now symbols.now k).to
+        (edge_in pairs.now symbols.now k).symbol) 0)
+        (get_or matched.now (edge_in pairs.now symbols.now k).from 0)) count }
 {
     let mut k: usize = 0;
     while k < count {
@@ -74,10 +74,10 @@ fn match_last(
     matched: &[u16; MOST_WORDS],
 ) -> bool
     requires { StepAt a.now pairs symbols count × StepAt b.now pairs symbols count
-        × Single (turnedIn true (partFrom pairs b.now) (partFrom symbols b.now)) count
-        × Partners (edgeIn (partFrom pairs a.now) (partFrom symbols a.now)) count matched.now }
-    ensures { LastMatched (run (edgeIn (partFrom pairs a.now) (partFrom symbols a.now)) 0 count)
-        (run (edgeIn (partFrom pairs b.now) (partFrom symbols b.now)) 0 count)
+        × Single (turned_in true (part_from pairs b.now) (part_from symbols b.now)) count
+        × Partners (edge_in (part_from pairs a.now) (part_from symbols a.now)) count matched.now }
+    ensures { LastMatched (run (edge_in (part_from pairs a.now) (part_from symbols a.now)) 0 count)
+        (run (edge_in (part_from pairs b.now) (part_from symbols b.now)) 0 count)
         matched.now result }
 {
     let starts = ends_of(&b[pairs..], &b[symbols..], count, true);
@@ -86,8 +86,8 @@ fn match_last(
 
 // The first vertices, each its own partner: those of depth 0, whose states are the same.
 fn own_partners(count: usize) -> [u16; MOST_WORDS]
-    requires { count ≤ mostWords }
-    ensures { (length result ≡ mostWords) × ((v : ℕ) → v < count → get_or result v 0 ≡ v + 1) }
+    requires { count ≤ most_words }
+    ensures { (length result ≡ most_words) × ((v : ℕ) → v < count → get_or result v 0 ≡ v + 1) }
 {
     let mut matched = [0u16; MOST_WORDS];
     let mut v: usize = 0;

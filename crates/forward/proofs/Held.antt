@@ -4,30 +4,30 @@ use mathlib.Core.Path.{◌≡◌, sym, subst, ◌∙◌}
 use mathlib.Core.List.{List}
 use Prim.Native.Nat.{ℕ, ◌+◌, ◌-◌, ◌≤◌, ◌<◌}
 use lib.ListN.{length, get_or, take, drop, replicate, length-replicate}
-use Rattle.trellis.specs.Bounds.{mostPaths, mostWords}
-use Rattle.trellis.specs.Layout.{vertexCountOf, rootsPlace}
+use Rattle.trellis.specs.Bounds.{most_paths, most_words}
+use Rattle.trellis.specs.Layout.{vertex_count_of, roots_place}
 use Rattle.section_file.specs.declared.View.{View}
-use Rattle.least_rows.specs.inner.Rows.{rowsLong}
-use Rattle.beginnings.specs.inner.Entering.{Enterable}
-use Rattle.cost_table.specs.inner.Filled.{EndRow, heldBlocks}
-use Rattle.cost_table.proofs.Tables.{room-none, BlockAt, block_at}
-use Rattle.frame.specs.Frame.{Frame, frame, blockSection}
-use Rattle.frame.specs.inner.Checked.{Checked}
-use Rattle.decoding.proofs.Ends.{sound-at, part-is, ready}
-use Rattle.left_behind.specs.inner.Behind.{LeftBehind}
-use Rattle.forward.specs.inner.Blocks.{Workspace, Passable, Passed}
-use Rattle.forward.specs.inner.Fronts.{Tabled, KeptAt}
-use Rattle.forward.proofs.Chained.{enterable-here, passable-here, passed_here}
+use Rattle.least_rows.specs.Inner.Rows.{rows_long}
+use Rattle.beginnings.specs.Inner.Entering.{Enterable}
+use Rattle.cost_table.specs.Inner.Filled.{EndRow, held_blocks}
+use Rattle.cost_table.proofs.Tables.{room_none, BlockAt, block_at}
+use Rattle.frame.specs.Frame.{Frame, frame, block_section}
+use Rattle.frame.specs.Inner.Checked.{Checked}
+use Rattle.decoding.proofs.Ends.{sound_at, part_is, ready}
+use Rattle.left_behind.specs.Inner.Behind.{LeftBehind}
+use Rattle.forward.specs.Inner.Blocks.{Workspace, Passable, Passed}
+use Rattle.forward.specs.Inner.Fronts.{Tabled, KeptAt}
+use Rattle.forward.proofs.Chained.{enterable_here, passable_here, passed_here}
 
 -- working room that nothing has been put in
-pub room-start : Workspace (replicate 32 0) (replicate mostWords 0) (replicate mostWords 0) (replicate rowsLong 0)
-    (replicate mostPaths 0)
-room-start = record {
-  room = room-none;
-  evenLong = length-replicate {A = ℕ} mostWords 0;
-  oddLong = length-replicate {A = ℕ} mostWords 0;
-  rowsAre = length-replicate {A = ℕ} rowsLong 0;
-  itemsLong = length-replicate {A = ℕ} mostPaths 0;
+pub room_start : Workspace (replicate 32 0) (replicate most_words 0) (replicate most_words 0) (replicate rows_long 0)
+    (replicate most_paths 0)
+room_start = record {
+  room = room_none;
+  even_long = length-replicate {A = ℕ} most_words 0;
+  odd_long = length-replicate {A = ℕ} most_words 0;
+  rows_are = length-replicate {A = ℕ} rows_long 0;
+  items_long = length-replicate {A = ℕ} most_paths 0;
 }
 
 module _ {sections starts : List ℕ} {views : List View} {indices received erased : List ℕ} {start end : ℕ}
@@ -37,7 +37,7 @@ module _ {sections starts : List ℕ} {views : List View} {indices received eras
 
   -- a block as the code takes it, i the index of its section
   pub held_at : {b i : ℕ} → b < length indices → i ≡ get_or indices b 0
-      → BlockAt (heldBlocks sections starts views indices received erased) b i
+      → BlockAt (held_blocks sections starts views indices received erased) b i
   held_at h e = block_at (ready C.checks) h e
 
   -- the section as it is lent
@@ -46,29 +46,29 @@ module _ {sections starts : List ℕ} {views : List View} {indices received eras
 
   -- what going through the block asks
   pub record BlockReady (b k have : ℕ) (left slots l : List ℕ) : Type 0 where
-    pub enterable : Enterable l (rootsPlace l) (vertexCountOf l 0) slots have
+    pub enterable : Enterable l (roots_place l) (vertex_count_of l 0) slots have
     pub passable : Passable l (get_or received b 0) (get_or erased b 0) left k have slots
 
   module _ {costs ends left : List ℕ} {to b i k have : ℕ} {slots back : List ℕ} (D : Tabled f costs) (E : EndRow to ends) (q : to ≡ end)
-      (h : b < length indices) (e : i ≡ get_or indices b 0) (L : LeftBehind costs ends (length indices) b left) (few : k ≤ mostPaths)
+      (h : b < length indices) (e : i ≡ get_or indices b 0) (L : LeftBehind costs ends (length indices) b left) (few : k ≤ most_paths)
       (K : KeptAt f k b have slots back) where
-    lent_is : lent i ≡ blockSection f b
-    lent_is = (held_at h e).part-is ∙ part-is C.checks b
+    lent_is : lent i ≡ block_section f b
+    lent_is = (held_at h e).part-is ∙ part_is C.checks b
 
-    E-end : EndRow end ends
-    E-end = subst (λ x. EndRow x ends) q E
+    E_end : EndRow end ends
+    E_end = subst (λ x. EndRow x ends) q E
 
-    pub block-ready : BlockReady b k have left slots (lent i)
-    block-ready =
+    pub block_ready : BlockReady b k have left slots (lent i)
+    block_ready =
         subst (BlockReady b k have left slots) (sym lent_is)
         (record {
-          enterable = enterable-here f b h D E-end L (sound-at C.checks b) few K;
-          passable = passable-here f b h D E-end L (sound-at C.checks b) few K;
+          enterable = enterable_here f b h D E_end L (sound_at C.checks b) few K;
+          passable = passable_here f b h D E_end L (sound_at C.checks b) few K;
         })
 
-    pub block-kept : {newSlots newBack : List ℕ} {count : ℕ}
-        → Passed (lent i) (get_or received b 0) (get_or erased b 0) left b k have slots back newSlots newBack count
-        → KeptAt f k (b + 1) count newSlots newBack
-    block-kept {newSlots} {newBack} {count} P =
-        passed_here f b h D E-end L (sound-at C.checks b) few K
-        (subst (λ l. Passed l (get_or received b 0) (get_or erased b 0) left b k have slots back newSlots newBack count) lent_is P)
+    pub block_kept : {new_slots new_back : List ℕ} {count : ℕ}
+        → Passed (lent i) (get_or received b 0) (get_or erased b 0) left b k have slots back new_slots new_back count
+        → KeptAt f k (b + 1) count new_slots new_back
+    block_kept {new_slots} {new_back} {count} P =
+        passed_here f b h D E_end L (sound_at C.checks b) few K
+        (subst (λ l. Passed l (get_or received b 0) (get_or erased b 0) left b k have slots back new_slots new_back count) lent_is P)

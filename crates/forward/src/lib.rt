@@ -1,16 +1,16 @@
 // The forward pass for the k best paths of a frame: block by block, the k best beginnings in word order. What is left to pay behind a block
 // comes from the cost table; inside a block its section is swept once more, and the least costs from all its vertices are kept.
 ghost use Rattle.std.specs.Prelude.{◌≡◌, ◌+◌, ◌*◌, ◌<◌, ◌≤◌, length};
-ghost use Rattle.trellis.specs.Bounds.{mostPaths, mostStates, mostBlocks};
-ghost use Rattle.trellis.specs.Layout.{vertexCountOf, rootsPlace};
+ghost use Rattle.trellis.specs.Bounds.{most_paths, most_states, most_blocks};
+ghost use Rattle.trellis.specs.Layout.{vertex_count_of, roots_place};
 ghost use Rattle.paths.specs.Chain.{unreached};
-ghost use Rattle.section_file.specs.inner.View.{Seen};
-ghost use Rattle.beginnings.specs.inner.Entering.{Enterable};
-ghost use Rattle.beginnings.specs.inner.Trails.{backLong, NotedWell};
+ghost use Rattle.section_file.specs.Inner.View.{Seen};
+ghost use Rattle.beginnings.specs.Inner.Entering.{Enterable};
+ghost use Rattle.beginnings.specs.Inner.Trails.{back_long, NotedWell};
 ghost use Rattle.frame.specs.Frame.{frame};
-ghost use Rattle.frame.specs.inner.Checked.{Checked};
-ghost use Rattle.forward.specs.inner.Blocks.{Workspace, Passable, Passed};
-ghost use Rattle.forward.specs.inner.Fronts.{Tabled, KeptAt};
+ghost use Rattle.frame.specs.Inner.Checked.{Checked};
+ghost use Rattle.forward.specs.Inner.Blocks.{Workspace, Passable, Passed};
+ghost use Rattle.forward.specs.Inner.Fronts.{Tabled, KeptAt};
 
 use beginnings::{BACK, coded, enter, leave};
 use block::put_prices;
@@ -44,10 +44,10 @@ fn through_block(
     rows: &mut [u32; ROWS],
     items: &mut [u64; MOST_PATHS],
 ) -> Grown
-    requires { Seen l.now at × (length left.now ≡ mostStates) × (b < mostBlocks) × (0 < k) × (k ≤ mostPaths) × (have ≤ k)
-        × (limit < unreached) × (length slots.old ≡ mostPaths) × (length back.old ≡ backLong)
+    requires { Seen l.now at × (length left.now ≡ most_states) × (b < most_blocks) × (0 < k) × (k ≤ most_paths) × (have ≤ k)
+        × (limit < unreached) × (length slots.old ≡ most_paths) × (length back.old ≡ back_long)
         × Workspace prices.old even.old odd.old rows.old items.old
-        × Enterable l.now (rootsPlace l.now) (vertexCountOf l.now 0) slots.old have
+        × Enterable l.now (roots_place l.now) (vertex_count_of l.now 0) slots.old have
         × Passable l.now received mask left.now k have slots.old }
     ensures { Passed l.now received mask left.now b k have slots.old back.old
         slots.new back.new result.count
@@ -80,7 +80,7 @@ pub fn keep_blocks(
 ) -> usize
     requires { Checked sections.now starts.now views indices.now received.now erased.now start end
         × Tabled (frame sections.now 0 indices.now received.now erased.now start end) costs.now
-        × (0 < k) × (k ≤ mostPaths) × (length slots.old ≡ mostPaths) × NotedWell back.old }
+        × (0 < k) × (k ≤ most_paths) × (length slots.old ≡ most_paths) × NotedWell back.old }
     ensures { KeptAt (frame sections.now 0 indices.now received.now erased.now start end)
         k (length indices.now) result slots.new back.new }
 {

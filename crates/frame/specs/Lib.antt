@@ -1,3 +1,3 @@
 -- The frame of a chain.
 pub mod Frame
-pub mod inner
+pub mod Inner

@@ -1,9 +1,9 @@
 // The frame of a chain and fault 9: a length or a state that is out of bounds, else the first bad block.
 ghost use Rattle.std.specs.Prelude.{◌≡◌, List, ℕ, length};
 ghost use Rattle.trellis.specs.Lists.{first};
-ghost use Rattle.sections.specs.inner.Found.{SectionsFound};
-ghost use Rattle.frame.specs.Frame.{frame, frameBad, blockBad};
-ghost use Rattle.frame.specs.inner.Checked.{Views};
+ghost use Rattle.sections.specs.Inner.Found.{SectionsFound};
+ghost use Rattle.frame.specs.Frame.{frame, frame_bad, block_bad};
+ghost use Rattle.frame.specs.Inner.Checked.{Views};
 
 use numbers::{is_within, widened};
 use section_file::View;
@@ -14,7 +14,7 @@ const MOST_STATES: u8 = trellis::MOST_STATES as u8;
 
 pub fn frame_bad(indices: &[u8], received: &[u16], erased: &[u8], start: u8, end: u8) -> bool
     ensures { (sections : List ℕ) (k : ℕ)
-        → result ≡ frameBad (frame sections k indices.now received.now erased.now start end) }
+        → result ≡ frame_bad (frame sections k indices.now received.now erased.now start end) }
 {
     if !is_within(1, MOST_BLOCKS, indices.len()) {
         return true;
@@ -41,7 +41,7 @@ pub fn first_bad(
 ) -> usize
     requires { Views views k × (length received.now ≡ length indices.now) × (length erased.now ≡ length indices.now) }
     ensures { (sections starts : List ℕ) (start end : ℕ) → SectionsFound sections starts views k
-        → result ≡ first (blockBad (frame sections k indices.now received.now erased.now start end))
+        → result ≡ first (block_bad (frame sections k indices.now received.now erased.now start end))
         (length indices.now) }
 {
     let mut b: usize = 0;

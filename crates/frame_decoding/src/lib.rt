@@ -1,9 +1,9 @@
 // Faults 9 and 10 of a frame whose sections are found, and decoding where there is none.
 ghost use Rattle.std.specs.Prelude.{◌≡◌, ℕ};
-ghost use Rattle.answers.specs.Answers.{decodedOutcome};
-ghost use Rattle.sections.specs.inner.Found.{AllFound};
+ghost use Rattle.answers.specs.Answers.{decoded_outcome};
+ghost use Rattle.sections.specs.Inner.Found.{AllFound};
 ghost use Rattle.frame.specs.Frame.{frame};
-ghost use Rattle.frame.specs.inner.Checked.{Checked};
+ghost use Rattle.frame.specs.Inner.Checked.{Checked};
 ghost use Rattle.decoding.specs.Decoding.{left, fitted, framed};
 
 use answers::decode::Decoded;
@@ -28,7 +28,7 @@ fn decode_blocks(
     masks: &mut [u8],
 ) -> Decoded
     requires { Checked sections.now starts.now views indices.now received.now erased.now start end }
-    ensures { (k : ℕ) → left (decodedOutcome result) costs.new labels.new goals.new masks.new
+    ensures { (k : ℕ) → left (decoded_outcome result) costs.new labels.new goals.new masks.new
         ≡ fitted (frame sections.now k indices.now received.now erased.now start end)
         costs.old labels.old goals.old masks.old }
 {
@@ -64,7 +64,7 @@ pub fn decode_frame(
     masks: &mut [u8],
 ) -> Decoded
     requires { AllFound sections.now starts.now views k }
-    ensures { left (decodedOutcome result) costs.new labels.new goals.new masks.new
+    ensures { left (decoded_outcome result) costs.new labels.new goals.new masks.new
         ≡ framed (frame sections.now k indices.now received.now erased.now start end)
         costs.old labels.old goals.old masks.old }
 {

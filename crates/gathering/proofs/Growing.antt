@@ -11,14 +11,14 @@ use native.Mathlib.Decide.{ℕ_discrete}
 use lib.ListN.{length, get_or, set, take, replicate, length-append, length-set, length-replicate, get_or-replicate, length-map}
 use lib.Seq.{get_or-set_same, get_or-set_other, take-suc, take-suc-set}
 use borrow.Author.Tests.{eq-eqb, ne_eqb}
-use Rattle.trellis.specs.Bounds.{mostWords}
+use Rattle.trellis.specs.Bounds.{most_words}
 use Rattle.trellis.specs.Lists.{run, each}
 use Rattle.trellis.specs.Own.{Edge}
 use Rattle.trellis.specs.Section.{leaving}
-use Rattle.trellis.proofs.Lists.{run-snoc, flatMap-append}
-use Rattle.whole_section.proofs.Lists.{run-cons, run_none, leaving-yes, leaving-no, leaving-none}
-use Rattle.codes.specs.inner.Codes.{code, codeVertex}
-use Rattle.gathering.specs.inner.Growing.{PutBehind, BeginsAt, Starts, FirstLevel, RootCodes}
+use Rattle.trellis.proofs.Lists.{run_snoc, flat_map_append}
+use Rattle.whole_section.proofs.Lists.{run_cons, run_none, leaving_yes, leaving_no, leaving_none}
+use Rattle.codes.specs.Inner.Codes.{code, code_vertex}
+use Rattle.gathering.specs.Inner.Growing.{PutBehind, BeginsAt, Starts, FirstLevel, RootCodes}
 
 -- ---- one beginning further along one edge
 
@@ -27,34 +27,34 @@ use Rattle.gathering.specs.inner.Growing.{PutBehind, BeginsAt, Starts, FirstLeve
 -- the edges from k on are noted
 pub record Noted (e : ℕ → Edge) (count : ℕ) (starts : List ℕ) (k : ℕ) : Type 0 where
   pub inside : k ≤ count
-  pub long : length starts ≡ mostWords
-  pub from : (v : ℕ) → v < mostWords → k ≤ get_or starts v 0
-  pub to : (v : ℕ) → v < mostWords → get_or starts v 0 ≤ count
-  pub same : (v : ℕ) → v < mostWords → leaving v (run e k (count - k)) ≡ leaving v (run e (get_or starts v 0) (count - get_or starts v 0))
-  pub hit : (v : ℕ) → v < mostWords → get_or starts v 0 < count → (e (get_or starts v 0)).from ≡ v
+  pub long : length starts ≡ most_words
+  pub from : (v : ℕ) → v < most_words → k ≤ get_or starts v 0
+  pub to : (v : ℕ) → v < most_words → get_or starts v 0 ≤ count
+  pub same : (v : ℕ) → v < most_words → leaving v (run e k (count - k)) ≡ leaving v (run e (get_or starts v 0) (count - get_or starts v 0))
+  pub hit : (v : ℕ) → v < most_words → get_or starts v 0 < count → (e (get_or starts v 0)).from ≡ v
 
-pub noted-start : (e : ℕ → Edge) (count : ℕ) {starts : List ℕ} → starts ≡ replicate mostWords count → Noted e count starts count
-noted-start e count {starts} q = record {
+pub noted_start : (e : ℕ → Edge) (count : ℕ) {starts : List ℕ} → starts ≡ replicate most_words count → Noted e count starts count
+noted_start e count {starts} q = record {
   inside = omega arith;
-  long = ap length q ∙ length-replicate {A = ℕ} mostWords count;
+  long = ap length q ∙ length-replicate {A = ℕ} most_words count;
   from = λ v h. le_of_eq (sym (is v h));
   to = λ v h. le_of_eq (is v h);
   same = λ v h. ap (λ a. leaving v (run e a (count - a))) (sym (is v h));
   hit = λ v h b. absurd (omega (arith, is v h));
 }
   where
-    is : (v : ℕ) → v < mostWords → get_or starts v 0 ≡ count
-    is v h = ap (λ s. get_or s v 0) q ∙ get_or-replicate {A = ℕ} mostWords v count 0 h
+    is : (v : ℕ) → v < most_words → get_or starts v 0 ≡ count
+    is v h = ap (λ s. get_or s v 0) q ∙ get_or-replicate {A = ℕ} most_words v count 0 h
 
-pub noted-next : {e : ℕ → Edge} {count : ℕ} {starts : List ℕ} {k v : ℕ} → Noted e count starts k → 0 < k → v ≡ (e (k - 1)).from
-    → (e (k - 1)).from < mostWords → Noted e count (set starts v (k - 1)) (k - 1)
-noted-next {e} {count} {starts} {k} {v} n pos v-is small = record {
+pub noted_next : {e : ℕ → Edge} {count : ℕ} {starts : List ℕ} {k v : ℕ} → Noted e count starts k → 0 < k → v ≡ (e (k - 1)).from
+    → (e (k - 1)).from < most_words → Noted e count (set starts v (k - 1)) (k - 1)
+noted_next {e} {count} {starts} {k} {v} n pos v_is small = record {
   inside = omega (arith, n.inside);
   long = length-set starts v (k - 1) ∙ n.long;
   from = λ u h. go_from u h (ℕ_discrete u v);
-  to = λ u h. go-to u h (ℕ_discrete u v);
+  to = λ u h. go_to u h (ℕ_discrete u v);
   same = λ u h. go_same u h (ℕ_discrete u v);
-  hit = λ u h. go-hit u h (ℕ_discrete u v);
+  hit = λ u h. go_hit u h (ℕ_discrete u v);
 }
   where
     put : (u : ℕ) → u ≡ v → get_or (set starts v (k - 1)) u 0 ≡ k - 1
@@ -63,32 +63,32 @@ noted-next {e} {count} {starts} {k} {v} n pos v-is small = record {
     old : (u : ℕ) → (u ≡ v → ⊥) → get_or (set starts v (k - 1)) u 0 ≡ get_or starts u 0
     old u q = get_or-set_other starts v u (k - 1) 0 q
 
-    go_from : (u : ℕ) → u < mostWords → Dec (u ≡ v) → k - 1 ≤ get_or (set starts v (k - 1)) u 0
+    go_from : (u : ℕ) → u < most_words → Dec (u ≡ v) → k - 1 ≤ get_or (set starts v (k - 1)) u 0
     go_from u h (yes q) = le_of_eq (sym (put u q))
     go_from u h (no q) = omega (arith, old u q, n.from u h)
 
-    go-to : (u : ℕ) → u < mostWords → Dec (u ≡ v) → get_or (set starts v (k - 1)) u 0 ≤ count
-    go-to u h (yes q) = omega (arith, put u q, n.inside)
-    go-to u h (no q) = omega (arith, old u q, n.to u h)
+    go_to : (u : ℕ) → u < most_words → Dec (u ≡ v) → get_or (set starts v (k - 1)) u 0 ≤ count
+    go_to u h (yes q) = omega (arith, put u q, n.inside)
+    go_to u h (no q) = omega (arith, old u q, n.to u h)
 
-    go_same : (u : ℕ) → u < mostWords → Dec (u ≡ v)
+    go_same : (u : ℕ) → u < most_words → Dec (u ≡ v)
         → leaving u (run e (k - 1) (count - (k - 1))) ≡ leaving u
         (run e (get_or (set starts v (k - 1)) u 0) (count - get_or (set starts v (k - 1)) u 0))
     go_same u h (yes q) = ap (λ a. leaving u (run e a (count - a))) (sym (put u q))
     go_same u h (no q) =
         let c : run e (k - 1) (count - (k - 1)) ≡ e (k - 1) ∷ run e (suc (k - 1)) (count - suc (k - 1)) =
-        run-cons e (k - 1) count (omega (arith, n.inside)) in
+        run_cons e (k - 1) count (omega (arith, n.inside)) in
         let d : suc (k - 1) ≡ k = omega arith in
-        ap (leaving u) c ∙ leaving-no u (e (k - 1)) (run e (suc (k - 1)) (count - suc (k - 1)))
-        (ne_eqb (e (k - 1)).from u (λ r. q (sym r ∙ sym v-is)))
+        ap (leaving u) c ∙ leaving_no u (e (k - 1)) (run e (suc (k - 1)) (count - suc (k - 1)))
+        (ne_eqb (e (k - 1)).from u (λ r. q (sym r ∙ sym v_is)))
         ∙ ap (λ a. leaving u (run e a (count - a))) d ∙ n.same u h ∙ ap (λ a. leaving u (run e a (count - a))) (sym (old u q))
 
-    go-hit : (u : ℕ) → u < mostWords → Dec (u ≡ v) → get_or (set starts v (k - 1)) u 0 < count → (e (get_or (set starts v (k - 1)) u 0)).from ≡ u
-    go-hit u h (yes q) b = ap (λ a. (e a).from) (put u q) ∙ sym v-is ∙ sym q
-    go-hit u h (no q) b = ap (λ a. (e a).from) (old u q) ∙ n.hit u h (omega (arith, old u q))
+    go_hit : (u : ℕ) → u < most_words → Dec (u ≡ v) → get_or (set starts v (k - 1)) u 0 < count → (e (get_or (set starts v (k - 1)) u 0)).from ≡ u
+    go_hit u h (yes q) b = ap (λ a. (e a).from) (put u q) ∙ sym v_is ∙ sym q
+    go_hit u h (no q) b = ap (λ a. (e a).from) (old u q) ∙ n.hit u h (omega (arith, old u q))
 
-pub noted-all : {e : ℕ → Edge} {count : ℕ} {starts : List ℕ} {k : ℕ} → Noted e count starts k → k ≤ 0 → Starts e count starts
-noted-all {e} {count} {starts} {k} n h = record {
+pub noted_all : {e : ℕ → Edge} {count : ℕ} {starts : List ℕ} {k : ℕ} → Noted e count starts k → k ≤ 0 → Starts e count starts
+noted_all {e} {count} {starts} {k} n h = record {
   long = n.long;
   at = λ v b. record {
     inside = n.to v b;
@@ -98,33 +98,33 @@ noted-all {e} {count} {starts} {k} n h = record {
   };
 }
 
-pub begins-of : {e : ℕ → Edge} {count : ℕ} {starts : List ℕ} (c : ℕ) {v r : ℕ} → Starts e count starts → v ≡ codeVertex c
-    → (r ≡ get_or starts v 0) × (r < 65536) → BeginsAt e count (codeVertex c) r
-begins-of {e} {count} {starts} c {v} {r} s q w =
-    subst (BeginsAt e count (codeVertex c)) (sym (w.0 ∙ ap (λ u. get_or starts u 0) q)) (s.at (codeVertex c) (omega arith))
+pub begins_of : {e : ℕ → Edge} {count : ℕ} {starts : List ℕ} (c : ℕ) {v r : ℕ} → Starts e count starts → v ≡ code_vertex c
+    → (r ≡ get_or starts v 0) × (r < 65536) → BeginsAt e count (code_vertex c) r
+begins_of {e} {count} {starts} c {v} {r} s q w =
+    subst (BeginsAt e count (code_vertex c)) (sym (w.0 ∙ ap (λ u. get_or starts u 0) q)) (s.at (code_vertex c) (omega arith))
 
 -- ---- one beginning
 
 -- what is left of the edges that leave v still has to be put behind what is filled
 pub record Putting (f : Edge → ℕ) (e : ℕ → Edge) (count v : ℕ) (old : List ℕ) (made : ℕ) (new : List ℕ) (filled k : ℕ) : Type 0 where
   pub inside : k ≤ count
-  pub room : filled ≤ mostWords
-  pub long : length new ≡ mostWords
+  pub room : filled ≤ most_words
+  pub long : length new ≡ most_words
   pub left : take filled new ++ map f (leaving v (run e k (count - k))) ≡ take made old ++ map f (leaving v (run e 0 count))
   pub size : filled + length (leaving v (run e k (count - k))) ≡ made + length (leaving v (run e 0 count))
   pub above : k < count → v ≤ (e k).from
 
 module _ (e : ℕ → Edge) (v : ℕ) where
-  pub none-later : (k m : ℕ) → ((j : ℕ) → k ≤ j → j < k + m → (e j).from ≡ v → ⊥) → leaving v (run e k m) ≡ []
+  pub none_later : (k m : ℕ) → ((j : ℕ) → k ≤ j → j < k + m → (e j).from ≡ v → ⊥) → leaving v (run e k m) ≡ []
   unfolding run
-  none-later k zero g = leaving-none v
-  none-later k (suc m) g = leaving-no v (e k) (run e (suc k) m) (ne_eqb (e k).from v (g k (omega arith) (omega arith)))
-      ∙ none-later (suc k) m (λ j a b. g j (omega arith) (omega arith))
+  none_later k zero g = leaving_none v
+  none_later k (suc m) g = leaving_no v (e k) (run e (suc k) m) (ne_eqb (e k).from v (g k (omega arith) (omega arith)))
+      ∙ none_later (suc k) m (λ j a b. g j (omega arith) (omega arith))
 
 module _ {f : Edge → ℕ} {e : ℕ → Edge} {count v : ℕ} {old : List ℕ} {made : ℕ} where
-  pub putting-start : {start : ℕ} → BeginsAt e count v start → made ≤ mostWords → length old ≡ mostWords
+  pub putting_start : {start : ℕ} → BeginsAt e count v start → made ≤ most_words → length old ≡ most_words
       → Putting f e count v old made old made start
-  putting-start {start} b h l = record {
+  putting_start {start} b h l = record {
     inside = b.inside;
     room = h;
     long = l;
@@ -134,50 +134,50 @@ module _ {f : Edge → ℕ} {e : ℕ → Edge} {count v : ℕ} {old : List ℕ} 
   }
 
   module _ {new : List ℕ} {filled k : ℕ} (p : Putting f e count v old made new filled k) (h : k < count) where
-    leaving-here : (e k).from ≡ v → leaving v (run e k (count - k)) ≡ e k ∷ leaving v (run e (suc k) (count - suc k))
-    leaving-here q = ap (leaving v) (run-cons e k count h) ∙ leaving-yes v (e k) (run e (suc k) (count - suc k)) (eq-eqb (e k).from v q)
+    leaving_here : (e k).from ≡ v → leaving v (run e k (count - k)) ≡ e k ∷ leaving v (run e (suc k) (count - suc k))
+    leaving_here q = ap (leaving v) (run_cons e k count h) ∙ leaving_yes v (e k) (run e (suc k) (count - suc k)) (eq-eqb (e k).from v q)
 
-    pub putting-next : {r : ℕ} → (e k).from ≡ v → filled < mostWords → r ≡ f (e k) → ((j k : ℕ) → j ≤ k → k < count → (e j).from ≤ (e k).from)
+    pub putting_next : {r : ℕ} → (e k).from ≡ v → filled < most_words → r ≡ f (e k) → ((j k : ℕ) → j ≤ k → k < count → (e j).from ≤ (e k).from)
         → Putting f e count v old made (set new filled r) (filled + 1) (k + 1)
-    putting-next {r} q low is rise = subst (λ x. Putting f e count v old made (set new filled x) (filled + 1) (k + 1)) (sym is) (record {
+    putting_next {r} q low is rise = subst (λ x. Putting f e count v old made (set new filled x) (filled + 1) (k + 1)) (sym is) (record {
       inside = omega arith;
       room = omega arith;
       long = length-set new filled (f (e k)) ∙ p.long;
       left =
           let t : take (filled + 1) (set new filled (f (e k))) ≡ take filled new ++ (f (e k) ∷ []) =
           rw (add-one filled) (take-suc-set new filled (f (e k)) (omega (arith, p.long))) in
-          let u : leaving v (run e k (count - k)) ≡ e k ∷ leaving v (run e (k + 1) (count - (k + 1))) = rw (add-one k) (leaving-here q) in
+          let u : leaving v (run e k (count - k)) ≡ e k ∷ leaving v (run e (k + 1) (count - (k + 1))) = rw (add-one k) (leaving_here q) in
           ap (λ a. a ++ map f (leaving v (run e (k + 1) (count - (k + 1))))) t
           ∙ append_assoc (take filled new) (f (e k) ∷ []) (map f (leaving v (run e (k + 1) (count - (k + 1)))))
           ∙ ap (λ es. take filled new ++ map f es) (sym u) ∙ p.left;
       size = let u : leaving v (run e k (count - k)) ≡ e k ∷ leaving v (run e (k + 1) (count - (k + 1))) =
-          rw (add-one k) (leaving-here q) in omega (arith, p.size, ap length u);
+          rw (add-one k) (leaving_here q) in omega (arith, p.size, ap length u);
       above = λ g. omega (arith, rise k (k + 1) (omega arith) g);
     })
 
-    pub putting-over : (e k).from ≡ v → mostWords ≤ filled → PutBehind (map f (leaving v (run e 0 count))) old made new 1025
-    putting-over q r = record {
+    pub putting_over : (e k).from ≡ v → most_words ≤ filled → PutBehind (map f (leaving v (run e 0 count))) old made new 1025
+    putting_over q r = record {
       long = p.long;
       filled = λ b. absurd (omega arith);
       count = λ b. absurd (omega arith);
-      over = λ b. rw (length-map (leaving v (run e 0 count)) f) (omega (arith, p.size, ap length (leaving-here q)));
+      over = λ b. rw (length-map (leaving v (run e 0 count)) f) (omega (arith, p.size, ap length (leaving_here q)));
     }
 
   module _ {new : List ℕ} {filled k : ℕ} (p : Putting f e count v old made new filled k) where
-    done-by : leaving v (run e k (count - k)) ≡ [] → PutBehind (map f (leaving v (run e 0 count))) old made new filled
-    done-by q = record {
+    done_by : leaving v (run e k (count - k)) ≡ [] → PutBehind (map f (leaving v (run e 0 count))) old made new filled
+    done_by q = record {
       long = p.long;
       filled = λ b. sym (append-nil (take filled new)) ∙ ap (λ es. take filled new ++ map f es) (sym q) ∙ p.left;
       count = λ b. rw (length-map (leaving v (run e 0 count)) f) (omega (arith, p.size, ap length q));
       over = λ b. absurd (omega (arith, p.room));
     }
 
-    pub putting-done : count ≤ k → PutBehind (map f (leaving v (run e 0 count))) old made new filled
-    putting-done h = done-by (ap (leaving v) (run_none e k count h) ∙ leaving-none v)
+    pub putting_done : count ≤ k → PutBehind (map f (leaving v (run e 0 count))) old made new filled
+    putting_done h = done_by (ap (leaving v) (run_none e k count h) ∙ leaving_none v)
 
-    pub putting-stops : k < count → ((e k).from ≡ v → ⊥) → ((j k : ℕ) → j ≤ k → k < count → (e j).from ≤ (e k).from)
+    pub putting_stops : k < count → ((e k).from ≡ v → ⊥) → ((j k : ℕ) → j ≤ k → k < count → (e j).from ≤ (e k).from)
         → PutBehind (map f (leaving v (run e 0 count))) old made new filled
-    putting-stops h q rise = done-by (none-later e v k (count - k) (λ j a b r. later j a (omega arith) r))
+    putting_stops h q rise = done_by (none_later e v k (count - k) (λ j a b r. later j a (omega arith) r))
       where
         later : (j : ℕ) → k ≤ j → j < count → (e j).from ≡ v → ⊥
         later j a b r = q (omega (arith, p.above h, rise k j a b))
@@ -187,15 +187,15 @@ module _ {f : Edge → ℕ} {e : ℕ → Edge} {count v : ℕ} {old : List ℕ} 
 -- the beginnings before i are put, and none was too many
 pub record Growing (f : ℕ → List ℕ) (old : List ℕ) (have : ℕ) (new : List ℕ) (made i : ℕ) : Type 0 where
   pub inside : i ≤ have
-  pub room : made ≤ mostWords
-  pub long : length new ≡ mostWords
+  pub room : made ≤ most_words
+  pub long : length new ≡ most_words
   pub filled : take made new ≡ flat_map f (take i old)
   pub count : made ≡ length (flat_map f (take i old))
 
 module _ {f : ℕ → List ℕ} {old : List ℕ} {have : ℕ} where
-  pub growing-start : {new : List ℕ} → length new ≡ mostWords → Growing f old have new 0 0
+  pub growing_start : {new : List ℕ} → length new ≡ most_words → Growing f old have new 0 0
   unfolding flat_map
-  growing-start l = record { inside = omega arith; room = omega arith; long = l; filled = refl; count = refl }
+  growing_start l = record { inside = omega arith; room = omega arith; long = l; filled = refl; count = refl }
 
   module _ {new newer : List ℕ} {made i r : ℕ} (g : Growing f old have new made i) (h : i < have) (l : have ≤ length old)
       (m : PutBehind (f (get_or old i 0)) new made newer r) where
@@ -203,40 +203,40 @@ module _ {f : ℕ → List ℕ} {old : List ℕ} {have : ℕ} where
     unfolding flat_map
     one_more =
         let t : take (i + 1) old ≡ take i old ++ (get_or old i 0 ∷ []) = rw (add-one i) (take-suc old i 0 (omega arith)) in
-        ap (flat_map f) t ∙ flatMap-append f (take i old) (get_or old i 0 ∷ [])
+        ap (flat_map f) t ∙ flat_map_append f (take i old) (get_or old i 0 ∷ [])
         ∙ ap (λ ys. flat_map f (take i old) ++ ys) (append-nil (f (get_or old i 0)))
 
-    more-count : length (flat_map f (take (i + 1) old)) ≡ length (flat_map f (take i old)) + length (f (get_or old i 0))
-    more-count = ap length one_more ∙ length-append (flat_map f (take i old)) (f (get_or old i 0))
+    more_count : length (flat_map f (take (i + 1) old)) ≡ length (flat_map f (take i old)) + length (f (get_or old i 0))
+    more_count = ap length one_more ∙ length-append (flat_map f (take i old)) (f (get_or old i 0))
 
-    pub growing-next : r ≤ mostWords → Growing f old have newer r (i + 1)
-    growing-next b = record {
+    pub growing_next : r ≤ most_words → Growing f old have newer r (i + 1)
+    growing_next b = record {
       inside = omega arith;
       room = b;
       long = m.long;
       filled = m.filled b ∙ ap (λ xs. xs ++ f (get_or old i 0)) g.filled ∙ sym one_more;
-      count = m.count b ∙ ap (λ k. k + length (f (get_or old i 0))) g.count ∙ sym more-count;
+      count = m.count b ∙ ap (λ k. k + length (f (get_or old i 0))) g.count ∙ sym more_count;
     }
 
-    pub growing-over : {start : List ℕ} → mostWords < r → PutBehind (flat_map f (take have old)) start 0 newer r
-    growing-over b = record {
+    pub growing_over : {start : List ℕ} → most_words < r → PutBehind (flat_map f (take have old)) start 0 newer r
+    growing_over b = record {
       long = m.long;
       filled = λ c. absurd (omega arith);
       count = λ c. absurd (omega arith);
-      over = λ c. omega (arith, m.over b, g.count, more-count, part (have - (i + 1)) (i + 1) (omega arith));
+      over = λ c. omega (arith, m.over b, g.count, more_count, part (have - (i + 1)) (i + 1) (omega arith));
     }
       where
         part : (k j : ℕ) → j + k ≡ have → length (flat_map f (take j old)) ≤ length (flat_map f (take have old))
         part zero j q = let e : j ≡ have = omega arith in rw e (omega arith)
         part (suc k) j q =
             let t : take (suc j) old ≡ take j old ++ (get_or old j 0 ∷ []) = take-suc old j 0 (omega arith) in
-            let u = ap length (ap (flat_map f) t ∙ flatMap-append f (take j old) (get_or old j 0 ∷ []))
+            let u = ap length (ap (flat_map f) t ∙ flat_map_append f (take j old) (get_or old j 0 ∷ []))
             ∙ length-append (flat_map f (take j old)) (flat_map f (get_or old j 0 ∷ [])) in
             omega (arith, part k (suc j) (omega arith))
 
-  pub growing-all : {start new : List ℕ} {made i : ℕ} → Growing f old have new made i → have ≤ i
+  pub growing_all : {start new : List ℕ} {made i : ℕ} → Growing f old have new made i → have ≤ i
       → PutBehind (flat_map f (take have old)) start 0 new made
-  growing-all {start} {new} {made} {i} g h =
+  growing_all {start} {new} {made} {i} g h =
       let e : i ≡ have = omega (arith, g.inside) in
       record {
         long = g.long;
@@ -249,16 +249,16 @@ module _ {f : ℕ → List ℕ} {old : List ℕ} {have : ℕ} where
 
 pub record Rooted (s : List ℕ) (at count : ℕ) (codes : List ℕ) (v : ℕ) : Type 0 where
   pub inside : v ≤ count
-  pub long : length codes ≡ mostWords
+  pub long : length codes ≡ most_words
   pub filled : take v codes ≡ each (λ u. code (get_or s (at + u) 0) u 0) v
 
-pub rooted-start : (s : List ℕ) (at count : ℕ) {codes : List ℕ} → length codes ≡ mostWords → Rooted s at count codes 0
+pub rooted_start : (s : List ℕ) (at count : ℕ) {codes : List ℕ} → length codes ≡ most_words → Rooted s at count codes 0
 unfolding run
-rooted-start s at count l = record { inside = omega arith; long = l; filled = refl }
+rooted_start s at count l = record { inside = omega arith; long = l; filled = refl }
 
-pub rooted-next : {s : List ℕ} {at count : ℕ} {codes : List ℕ} {v r : ℕ} → Rooted s at count codes v → FirstLevel s at count
+pub rooted_next : {s : List ℕ} {at count : ℕ} {codes : List ℕ} {v r : ℕ} → Rooted s at count codes v → FirstLevel s at count
     → v < count → (r ≡ get_or s (at + v) 0) × (r < 65536) → Rooted s at count (set codes v ((r * 1024 + v) * 65536)) (v + 1)
-rooted-next {s} {at} {count} {codes} {v} {r} g F h w = record {
+rooted_next {s} {at} {count} {codes} {v} {r} g F h w = record {
   inside = omega arith;
   long = length-set codes v ((r * 1024 + v) * 65536) ∙ g.long;
   filled =
@@ -267,11 +267,11 @@ rooted-next {s} {at} {count} {codes} {v} {r} g F h w = record {
       rw (add-one v) (take-suc-set codes v _ (omega (arith, F.few, g.long))) in
       let u : each (λ u. code (get_or s (at + u) 0) u 0) (v + 1)
       ≡ each (λ u. code (get_or s (at + u) 0) u 0) v ++ (code (get_or s (at + v) 0) v 0 ∷ []) =
-      rw (add-one v) (run-snoc (λ u. code (get_or s (at + u) 0) u 0) 0 v ∙ rw (zero-add v)) in
+      rw (add-one v) (run_snoc (λ u. code (get_or s (at + u) 0) u 0) 0 v ∙ rw (zero-add v)) in
       t ∙ ap₂ (λ xs y. xs ++ (y ∷ [])) g.filled q ∙ sym u;
 }
 
-pub rooted-all : {s : List ℕ} {at count : ℕ} {codes : List ℕ} {v : ℕ} → Rooted s at count codes v → count ≤ v → RootCodes s at count codes
-rooted-all {s} {at} {count} {codes} {v} g h =
+pub rooted_all : {s : List ℕ} {at count : ℕ} {codes : List ℕ} {v : ℕ} → Rooted s at count codes v → count ≤ v → RootCodes s at count codes
+rooted_all {s} {at} {count} {codes} {v} g h =
     let e : v ≡ count = omega (arith, g.inside) in
     record { long = g.long; filled = subst (λ k. take k codes ≡ each (λ u. code (get_or s (at + u) 0) u 0) k) e g.filled }

@@ -1,2 +1,2 @@
 -- Words found depth by depth.
-pub mod inner
+pub mod Inner

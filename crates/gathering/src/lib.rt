@@ -2,13 +2,13 @@
 // usable section breaks off, more than 1,024 beginnings at any depth are more than 1,024 words.
 ghost use Rattle.std.specs.Prelude.{◌≡◌, ◌+◌, ◌*◌, ◌<◌, ◌≤◌, length, take};
 ghost use mathlib.Core.List.{flat_map};
-ghost use Rattle.trellis.specs.Bounds.{mostWords};
+ghost use Rattle.trellis.specs.Bounds.{most_words};
 ghost use Rattle.trellis.specs.Lists.{run};
-ghost use Rattle.edges.specs.inner.Edges.{edgeIn};
-ghost use Rattle.section_file.specs.inner.View.{Seen};
-ghost use Rattle.whole_section.specs.inner.StepAt.{StepEdges, partFrom, StepAt};
-ghost use Rattle.codes.specs.inner.Codes.{codeVertex, grownCodes};
-ghost use Rattle.gathering.specs.inner.Growing.{PutBehind, BeginsAt, Starts, Gathered, FirstLevel, RootCodes};
+ghost use Rattle.edges.specs.Inner.Edges.{edge_in};
+ghost use Rattle.section_file.specs.Inner.View.{Seen};
+ghost use Rattle.whole_section.specs.Inner.StepAt.{StepEdges, part_from, StepAt};
+ghost use Rattle.codes.specs.Inner.Codes.{code_vertex, grown_codes};
+ghost use Rattle.gathering.specs.Inner.Growing.{PutBehind, BeginsAt, Starts, Gathered, FirstLevel, RootCodes};
 
 use codes::{further, vertex_of, wider};
 use edges::edge_at;
@@ -22,7 +22,7 @@ const TOO_MANY: usize = MOST_WORDS + 1;
 // Where the edges of each vertex begin. Going down, the last note of a vertex is its first edge.
 fn starts_of(pairs: &[u16], symbols: &[u16], count: usize) -> [u16; MOST_WORDS]
     requires { StepEdges pairs.now symbols.now count }
-    ensures { Starts (edgeIn pairs.now symbols.now) count result }
+    ensures { Starts (edge_in pairs.now symbols.now) count result }
 {
     let mut starts = [count as u16; MOST_WORDS];
     let mut k = count;
@@ -45,9 +45,9 @@ fn grow_one(
     made: usize,
     codes: &mut [u32; MOST_WORDS],
 ) -> usize
-    requires { StepEdges pairs.now symbols.now count × BeginsAt (edgeIn pairs.now symbols.now) count (codeVertex c) start
-        × (made ≤ mostWords) × (length codes.old ≡ mostWords) }
-    ensures { PutBehind (grownCodes (run (edgeIn pairs.now symbols.now) 0 count) c) codes.old made
+    requires { StepEdges pairs.now symbols.now count × BeginsAt (edge_in pairs.now symbols.now) count (code_vertex c) start
+        × (made ≤ most_words) × (length codes.old ≡ most_words) }
+    ensures { PutBehind (grown_codes (run (edge_in pairs.now symbols.now) 0 count) c) codes.old made
         codes.new result }
 {
     let vertex = vertex_of(c);
@@ -77,9 +77,9 @@ fn grow(
     have: usize,
     codes: &mut [u32; MOST_WORDS],
 ) -> usize
-    requires { StepEdges pairs.now symbols.now count × (have ≤ mostWords) × (length old.now ≡ mostWords)
-        × (length codes.old ≡ mostWords) }
-    ensures { PutBehind (flat_map (grownCodes (run (edgeIn pairs.now symbols.now) 0 count))
+    requires { StepEdges pairs.now symbols.now count × (have ≤ most_words) × (length old.now ≡ most_words)
+        × (length codes.old ≡ most_words) }
+    ensures { PutBehind (flat_map (grown_codes (run (edge_in pairs.now symbols.now) 0 count))
         (take have old.now)) codes.old 0 codes.new result }
 {
     let starts = starts_of(pairs, symbols, count);
@@ -106,8 +106,8 @@ fn grow_step(
     have: usize,
     codes: &mut [u32; MOST_WORDS],
 ) -> usize
-    requires { StepAt s.now pairs symbols count × (have ≤ mostWords) × (length codes.old ≡ mostWords) }
-    ensures { PutBehind (flat_map (grownCodes (run (edgeIn (partFrom pairs s.now) (partFrom symbols s.now)) 0
+    requires { StepAt s.now pairs symbols count × (have ≤ most_words) × (length codes.old ≡ most_words) }
+    ensures { PutBehind (flat_map (grown_codes (run (edge_in (part_from pairs s.now) (part_from symbols s.now)) 0
         count)) (take have codes.old)) codes.old 0 codes.new result }
 {
     let old = *codes;
@@ -116,7 +116,7 @@ fn grow_step(
 
 // The vertices of depth 0, each with its root; the roots begin at place `at`.
 fn first_level(s: &[u16], at: usize, count: usize, codes: &mut [u32; MOST_WORDS])
-    requires { FirstLevel s.now at count × (length codes.old ≡ mostWords) }
+    requires { FirstLevel s.now at count × (length codes.old ≡ most_words) }
     ensures { RootCodes s.now at count codes.new }
 {
     let mut v: usize = 0;
@@ -128,7 +128,7 @@ fn first_level(s: &[u16], at: usize, count: usize, codes: &mut [u32; MOST_WORDS]
 
 // Finds the section's words, depth by depth.
 pub fn gather(s: &[u16], at: View, codes: &mut [u32; MOST_WORDS]) -> usize
-    requires { Seen s.now at × (length codes.old ≡ mostWords) }
+    requires { Seen s.now at × (length codes.old ≡ most_words) }
     ensures { Gathered s.now codes.new result }
 {
     let n = at.n;

@@ -9,35 +9,35 @@ use native.Mathlib.Nat.{mul-le-mul_right, suc-mul}
 use native.Mathlib.Decide.{ℕ_discrete}
 use lib.ListN.{length, set, length-set}
 use lib.Seq.{get_or-set_same}
-use Rattle.trellis.specs.Bounds.{mostSymbols}
+use Rattle.trellis.specs.Bounds.{most_symbols}
 use Rattle.trellis.specs.Word.{Word, RectangularAt, Rectangular}
-use Rattle.trellis.specs.Own.{vertexOf, vertexCount}
-use Rattle.depth_runs.specs.inner.Rows.{at}
+use Rattle.trellis.specs.Own.{vertex_of, vertex_count}
+use Rattle.depth_runs.specs.Inner.Rows.{at}
 use Rattle.depth_runs.proofs.Places.{at_set}
-use Rattle.depths.specs.inner.Words.{words}
-use Rattle.depths.specs.inner.Merge.{EndingRow, DepthAsked, DepthMerged, DepthDone, lowestOf, count_of, Inner, InnerOutcome, InnerDone}
+use Rattle.depths.specs.Inner.Words.{words}
+use Rattle.depths.specs.Inner.Merge.{EndingRow, DepthAsked, DepthMerged, DepthDone, lowest_of, count_of, Inner, InnerOutcome, InnerDone}
 use Rattle.depths.specs.declared.Depth.{Depth}
 use Rattle.depths.specs.declared.Depth.TheVariants.{Merged, Refused}
 
-pub record InDepths (n : ℕ) (table : List Word) (oldMap map oldCounts counts row : List ℕ) (t refused : ℕ) : Type 0 where
+pub record InDepths (n : ℕ) (table : List Word) (old_map map old_counts counts row : List ℕ) (t refused : ℕ) : Type 0 where
   pub some : 0 < t
   pub le : t ≤ n
   pub ends : EndingRow n table t row
   pub found : InnerOutcome n table t map counts refused
-  pub before : (j : ℕ) → j < t * length table → at map j ≡ at oldMap j
-  pub behind : (j : ℕ) → n * length table ≤ j → at map j ≡ at oldMap j
-  pub len : length map ≡ length oldMap
-  pub rootCount : at counts 0 ≡ at oldCounts 0
-  pub laterCounts : (j : ℕ) → n ≤ j → at counts j ≡ at oldCounts j
+  pub before : (j : ℕ) → j < t * length table → at map j ≡ at old_map j
+  pub behind : (j : ℕ) → n * length table ≤ j → at map j ≡ at old_map j
+  pub len : length map ≡ length old_map
+  pub root_count : at counts 0 ≡ at old_counts 0
+  pub later_counts : (j : ℕ) → n ≤ j → at counts j ≡ at old_counts j
   pub nine : length counts ≡ 9
 
 -- a row of w places ends before a later one begins
 rows_apart : (t u w : ℕ) → t < u → t * w + w ≤ u * w
 rows_apart t u w h = let p = mul-le-mul_right w h in omega (arith, suc-mul t w)
 
-pub depths-none : {n : ℕ} {table : List Word} {map counts row : List ℕ} → 0 < n → EndingRow n table n row → length counts ≡ 9
+pub depths_none : {n : ℕ} {table : List Word} {map counts row : List ℕ} → 0 < n → EndingRow n table n row → length counts ≡ 9
     → InDepths n table map map counts counts row n 0
-depths-none {n} {table} {map} {counts} {row} h E k = record {
+depths_none {n} {table} {map} {counts} {row} h E k = record {
   some = h;
   le = omega arith;
   ends = E;
@@ -49,16 +49,16 @@ depths-none {n} {table} {map} {counts} {row} h E k = record {
   before = λ j p. refl;
   behind = λ j p. refl;
   len = refl;
-  rootCount = refl;
-  laterCounts = λ j p. refl;
+  root_count = refl;
+  later_counts = λ j p. refl;
   nine = k;
 }
 
-pub depths-ask : {n : ℕ} {roots labels goals oldMap map oldCounts counts row : List ℕ} {t refused : ℕ}
-    → Inner n roots labels goals oldMap oldCounts
-    → InDepths n (words roots labels goals) oldMap map oldCounts counts row t refused → 1 < t
+pub depths_ask : {n : ℕ} {roots labels goals old_map map old_counts counts row : List ℕ} {t refused : ℕ}
+    → Inner n roots labels goals old_map old_counts
+    → InDepths n (words roots labels goals) old_map map old_counts counts row t refused → 1 < t
     → DepthAsked n (t - 1) roots labels goals row map
-depths-ask {n} {roots} {labels} {goals} {oldMap} {map} {oldCounts} {counts} {row} {t} I c h = record {
+depths_ask {n} {roots} {labels} {goals} {old_map} {map} {old_counts} {counts} {row} {t} I c h = record {
   held = I.held;
   inner = omega arith;
   deep = omega (arith, c.le);
@@ -69,10 +69,10 @@ depths-ask {n} {roots} {labels} {goals} {oldMap} {map} {oldCounts} {counts} {row
 -- ---- one depth more
 
 module _ (n : ℕ) (table : List Word) (t : ℕ) (map new counts : List ℕ) where
-  found-merged : (refused count : ℕ) → t < length counts → InnerOutcome n table (suc t) map counts refused
+  found_merged : (refused count : ℕ) → t < length counts → InnerOutcome n table (suc t) map counts refused
       → DepthMerged n table t map new count
       → InnerOutcome n table t new (set counts t count) refused
-  found-merged zero count room F D = record {
+  found_merged zero count room F D = record {
     rectangular = λ u p q. now u p q (ℕ_discrete t u);
     vertices = λ u i p q r. there u i p q r (ℕ_discrete t u);
     counted = λ u p q. tally u p q (ℕ_discrete t u);
@@ -82,32 +82,32 @@ module _ (n : ℕ) (table : List Word) (t : ℕ) (map new counts : List ℕ) whe
       now u p q (yes e) = subst (λ k. RectangularAt n k table) e D.rectangular
       now u p q (no e) = F.rectangular u (omega arith) q
 
-      there : (u i : ℕ) → t ≤ u → u < n → i < length table → Dec (t ≡ u) → at new (u * length table + i) ≡ vertexOf n table u i
-      there u i p q r (yes e) = subst (λ k. at new (k * length table + i) ≡ vertexOf n table k i) e (D.row.is i r)
+      there : (u i : ℕ) → t ≤ u → u < n → i < length table → Dec (t ≡ u) → at new (u * length table + i) ≡ vertex_of n table u i
+      there u i p q r (yes e) = subst (λ k. at new (k * length table + i) ≡ vertex_of n table k i) e (D.row.is i r)
       there u i p q r (no e) =
           D.row.behind (u * length table + i) (omega (arith, rows_apart t u (length table) (omega arith)))
           ∙ F.vertices u i (omega arith) q r
 
-      tally : (u : ℕ) → t ≤ u → u < n → Dec (t ≡ u) → at (set counts t count) u ≡ vertexCount n table u
+      tally : (u : ℕ) → t ≤ u → u < n → Dec (t ≡ u) → at (set counts t count) u ≡ vertex_count n table u
       tally u p q (yes e) =
-          subst (λ k. at (set counts t count) k ≡ vertexCount n table k) e (get_or-set_same counts t count 0 room ∙ D.counted)
+          subst (λ k. at (set counts t count) k ≡ vertex_count n table k) e (get_or-set_same counts t count 0 room ∙ D.counted)
       tally u p q (no e) = at_set counts t u count (λ d. e (sym d)) ∙ F.counted u (omega arith) q
-  found-merged (suc r) count room F D =
+  found_merged (suc r) count room F D =
       record { from = omega (arith, F.from); inner = F.inner; fails = F.fails; sooner = λ u p q. now u p q (ℕ_discrete t u) }
     where
       now : (u : ℕ) → t ≤ u → u < suc r → Dec (t ≡ u) → RectangularAt n u table
       now u p q (yes e) = subst (λ k. RectangularAt n k table) e D.rectangular
       now u p q (no e) = F.sooner u (omega arith) q
 
-found-refused : (n : ℕ) (table : List Word) (t : ℕ) (map counts : List ℕ) → 0 < t → t < n → (RectangularAt n t table → ⊥)
+found_refused : (n : ℕ) (table : List Word) (t : ℕ) (map counts : List ℕ) → 0 < t → t < n → (RectangularAt n t table → ⊥)
     → InnerOutcome n table t map counts t
-found-refused n table zero map counts h l f = absurd (omega arith)
-found-refused n table (suc t) map counts h l f = record { from = omega arith; inner = l; fails = f; sooner = λ u p q. absurd (omega arith) }
+found_refused n table zero map counts h l f = absurd (omega arith)
+found_refused n table (suc t) map counts h l f = record { from = omega arith; inner = l; fails = f; sooner = λ u p q. absurd (omega arith) }
 
-module _ {n : ℕ} {table : List Word} {oldMap map oldCounts counts row new row' : List ℕ} {t refused : ℕ}
-    (c : InDepths n table oldMap map oldCounts counts row t refused) (short : n ≤ mostSymbols) (h : 1 < t) where
+module _ {n : ℕ} {table : List Word} {old_map map old_counts counts row new row' : List ℕ} {t refused : ℕ}
+    (c : InDepths n table old_map map old_counts counts row t refused) (short : n ≤ most_symbols) (h : 1 < t) where
   turned : (depth : Depth) → DepthDone n (t - 1) table row' map new depth
-      → InDepths n table oldMap new oldCounts (set counts (t - 1) (count_of depth)) row' (t - 1) (lowestOf depth (t - 1) refused)
+      → InDepths n table old_map new old_counts (set counts (t - 1) (count_of depth)) row' (t - 1) (lowest_of depth (t - 1) refused)
   turned (Merged count) D =
       let e : t ≡ suc (t - 1) = omega arith in
       let R = D.outcome.row in
@@ -117,13 +117,13 @@ module _ {n : ℕ} {table : List Word} {oldMap map oldCounts counts row new row'
         some = omega arith;
         le = omega (arith, c.le);
         ends = D.ends;
-        found = found-merged n table (t - 1) map new counts refused count (omega (arith, c.nine, c.le))
+        found = found_merged n table (t - 1) map new counts refused count (omega (arith, c.nine, c.le))
             (subst (λ k. InnerOutcome n table k map counts refused) e c.found) D.outcome;
         before = λ j p. R.before j p ∙ c.before j (omega arith);
         behind = λ j p. R.behind j (omega arith) ∙ c.behind j p;
         len = R.len ∙ c.len;
-        rootCount = at_set counts (t - 1) 0 count (λ q. omega arith) ∙ c.rootCount;
-        laterCounts = λ j p. at_set counts (t - 1) j count (λ q. omega (arith, c.le)) ∙ c.laterCounts j p;
+        root_count = at_set counts (t - 1) 0 count (λ q. omega arith) ∙ c.root_count;
+        later_counts = λ j p. at_set counts (t - 1) j count (λ q. omega (arith, c.le)) ∙ c.later_counts j p;
         nine = simp length-set c.nine;
       }
   turned Refused D =
@@ -133,39 +133,39 @@ module _ {n : ℕ} {table : List Word} {oldMap map oldCounts counts row new row'
         some = omega arith;
         le = omega (arith, c.le);
         ends = D.ends;
-        found = found-refused n table (t - 1) new (set counts (t - 1) 0) (omega arith) (omega (arith, c.le)) D.outcome.fails;
+        found = found_refused n table (t - 1) new (set counts (t - 1) 0) (omega arith) (omega (arith, c.le)) D.outcome.fails;
         before = λ j p. k j ∙ c.before j (omega arith);
         behind = λ j p. k j ∙ c.behind j p;
         len = ap length D.outcome.kept ∙ c.len;
-        rootCount = at_set counts (t - 1) 0 0 (λ q. omega arith) ∙ c.rootCount;
-        laterCounts = λ j p. at_set counts (t - 1) j 0 (λ q. omega (arith, c.le)) ∙ c.laterCounts j p;
+        root_count = at_set counts (t - 1) 0 0 (λ q. omega arith) ∙ c.root_count;
+        later_counts = λ j p. at_set counts (t - 1) j 0 (λ q. omega (arith, c.le)) ∙ c.later_counts j p;
         nine = simp length-set c.nine;
       }
 
-  pub depths-more : {refused' count : ℕ} {depth : Depth} → DepthDone n (t - 1) table row' map new depth → count ≡ count_of depth
-      → refused' ≡ lowestOf depth (t - 1) refused → InDepths n table oldMap new oldCounts (set counts (t - 1) count) row' (t - 1) refused'
-  depths-more {refused'} {count} {depth} D p q =
-      subst (λ x. InDepths n table oldMap new oldCounts (set counts (t - 1) x) row' (t - 1) refused') (sym p)
-      (subst (InDepths n table oldMap new oldCounts (set counts (t - 1) (count_of depth)) row' (t - 1)) (sym q) (turned depth D))
+  pub depths_more : {refused' count : ℕ} {depth : Depth} → DepthDone n (t - 1) table row' map new depth → count ≡ count_of depth
+      → refused' ≡ lowest_of depth (t - 1) refused → InDepths n table old_map new old_counts (set counts (t - 1) count) row' (t - 1) refused'
+  depths_more {refused'} {count} {depth} D p q =
+      subst (λ x. InDepths n table old_map new old_counts (set counts (t - 1) x) row' (t - 1) refused') (sym p)
+      (subst (InDepths n table old_map new old_counts (set counts (t - 1) (count_of depth)) row' (t - 1)) (sym q) (turned depth D))
 
-pub depths-end : {n : ℕ} {table : List Word} {oldMap map oldCounts counts row : List ℕ} {t refused : ℕ}
-    → InDepths n table oldMap map oldCounts counts row t refused → t ≤ 1 → InnerDone n table oldMap map oldCounts counts refused
-depths-end {n} {table} {oldMap} {map} {oldCounts} {counts} {row} {t} {refused} c h =
+pub depths_end : {n : ℕ} {table : List Word} {old_map map old_counts counts row : List ℕ} {t refused : ℕ}
+    → InDepths n table old_map map old_counts counts row t refused → t ≤ 1 → InnerDone n table old_map map old_counts counts refused
+depths_end {n} {table} {old_map} {map} {old_counts} {counts} {row} {t} {refused} c h =
     let e : t ≡ 1 = omega (arith, c.some) in
     record {
       found = subst (λ k. InnerOutcome n table k map counts refused) e c.found;
       before = λ j p. c.before j (omega (arith, ap (λ k. k * length table) e));
       behind = c.behind;
       len = c.len;
-      rootCount = c.rootCount;
-      laterCounts = c.laterCounts;
+      root_count = c.root_count;
+      later_counts = c.later_counts;
       nine = c.nine;
     }
 
 -- the answer 0 is that of rectangular tables
-pub inner-rectangular : (n : ℕ) (table : List Word) (oldMap map oldCounts counts : List ℕ) (r : ℕ)
-    → InnerDone n table oldMap map oldCounts counts r
+pub inner_rectangular : (n : ℕ) (table : List Word) (old_map map old_counts counts : List ℕ) (r : ℕ)
+    → InnerDone n table old_map map old_counts counts r
     → (r ≡ 0) ↔ Rectangular n table
-inner-rectangular n table oldMap map oldCounts counts zero D = (λ e t p q. D.found.rectangular t p q, λ R. refl)
-inner-rectangular n table oldMap map oldCounts counts (suc r) D =
+inner_rectangular n table old_map map old_counts counts zero D = (λ e t p q. D.found.rectangular t p q, λ R. refl)
+inner_rectangular n table old_map map old_counts counts (suc r) D =
     (λ e. absurd (omega arith), λ R. absurd (D.found.fails (R (suc r) (omega arith) D.found.inner)))

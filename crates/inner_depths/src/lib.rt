@@ -2,15 +2,15 @@
 // table is rectangular, and then the map has the vertex of every word at every inner depth; else the answer is the smallest depth at which
 // it is not.
 ghost use Rattle.std.specs.Prelude.{◌≡◌, ◌+◌, ◌-◌};
-ghost use Rattle.depths.specs.inner.Words.{words};
-ghost use Rattle.depths.specs.inner.Merge.{lowestOf, count_of, Inner, InnerDone};
+ghost use Rattle.depths.specs.Inner.Words.{words};
+ghost use Rattle.depths.specs.Inner.Merge.{lowest_of, count_of, Inner, InnerDone};
 
 use depths::{Depth, merge_depth, put_goals};
 use trellis::{MOST_SYMBOLS, MOST_WORDS};
 
 // t where the table is not rectangular at depth t, else what was found at deeper ones.
 fn lowest(depth: Depth, t: usize, deeper: usize) -> usize
-    ensures { result ≡ lowestOf depth t deeper }
+    ensures { result ≡ lowest_of depth t deeper }
 {
     match depth {
         Depth::Merged(_) => deeper,

@@ -11,40 +11,40 @@ use lib.Dec.{ltb, eqb}
 use lib.Seq.{take_all, length-take-le}
 use borrow.Author.Tests.{eqb-true, not-false}
 use Rattle.trellis.proofs.Bools.{neither}
-use Rattle.fields.specs.Fields.{wordCount, lengthBad}
-use Rattle.input_parts.specs.Input.{anyTable, tableLength, tablePart}
+use Rattle.fields.specs.Fields.{word_count, length_bad}
+use Rattle.input_parts.specs.Input.{any_table, table_length, table_part}
 
-right-length : (file : List ℕ) → lengthBad file ≡ false → length file ≡ tableLength file
-unfolding lengthBad
-right-length file e =
-    let p = neither (ltb (length file) 5) (not (eqb (length file) (5 + 4 * wordCount file))) e in
-    eqb-true (length file) (5 + 4 * wordCount file) (not-false _ p.1)
+right_length : (file : List ℕ) → length_bad file ≡ false → length file ≡ table_length file
+unfolding length_bad
+right_length file e =
+    let p = neither (ltb (length file) 5) (not (eqb (length file) (5 + 4 * word_count file))) e in
+    eqb-true (length file) (5 + 4 * word_count file) (not-false _ p.1)
 
 module _ (rest : List ℕ) where
-  all-of-it : length rest ≤ tableLength rest → tablePart rest ≡ rest
-  all-of-it h = take_all (tableLength rest) rest h
+  all_of_it : length rest ≤ table_length rest → table_part rest ≡ rest
+  all_of_it h = take_all (table_length rest) rest h
 
-  module _ {x w : ℕ} (x-is : x ≡ wordCount rest) (w-is : w ≡ x) (w-to : w < 65536) where
-    pub part-short : length rest < 5 + 4 * w → (length rest ≡ length (tablePart rest)) × (length rest ≤ anyTable)
-    part-short h = (sym (ap length (all-of-it (omega (arith, x-is, w-is)))), omega arith)
+  module _ {x w : ℕ} (x_is : x ≡ word_count rest) (w_is : w ≡ x) (w_to : w < 65536) where
+    pub part_short : length rest < 5 + 4 * w → (length rest ≡ length (table_part rest)) × (length rest ≤ any_table)
+    part_short h = (sym (ap length (all_of_it (omega (arith, x_is, w_is)))), omega arith)
 
-    pub part-whole : 5 + 4 * w ≤ length rest → (5 + 4 * w ≡ length (tablePart rest)) × (5 + 4 * w ≤ anyTable)
-    part-whole h =
-        let e : 5 + 4 * w ≡ tableLength rest = omega (arith, x-is, w-is) in
-        (e ∙ sym (length-take-le (tableLength rest) rest (omega (arith, e))), omega arith)
+    pub part_whole : 5 + 4 * w ≤ length rest → (5 + 4 * w ≡ length (table_part rest)) × (5 + 4 * w ≤ any_table)
+    part_whole h =
+        let e : 5 + 4 * w ≡ table_length rest = omega (arith, x_is, w_is) in
+        (e ∙ sym (length-take-le (table_length rest) rest (omega (arith, e))), omega arith)
 
   -- the code takes so many bytes off the front
-  pub part-taken : {part : ℕ} → part ≡ length (tablePart rest) → part ≡ length (take part rest)
-  part-taken {part} e = sym (length-take-le part rest (omega (arith, e, length-take (tableLength rest) rest)))
+  pub part_taken : {part : ℕ} → part ≡ length (table_part rest) → part ≡ length (take part rest)
+  part_taken {part} e = sym (length-take-le part rest (omega (arith, e, length-take (table_length rest) rest)))
 
-  pub part-few : {part : ℕ} → part ≡ length (tablePart rest) → part ≤ anyTable → length (take part rest) ≤ anyTable
-  part-few {part} e h = subst (λ k. k ≤ anyTable) (part-taken e) h
+  pub part_few : {part : ℕ} → part ≡ length (table_part rest) → part ≤ any_table → length (take part rest) ≤ any_table
+  part_few {part} e h = subst (λ k. k ≤ any_table) (part_taken e) h
 
-  pub part-full : lengthBad (tablePart rest) ≡ false → length (tablePart rest) ≡ tableLength rest
-  part-full e = go (dec_lt (length rest) (tableLength rest))
+  pub part_full : length_bad (table_part rest) ≡ false → length (table_part rest) ≡ table_length rest
+  part_full e = go (dec_lt (length rest) (table_length rest))
     where
-      go : Dec (length rest < tableLength rest) → length (tablePart rest) ≡ tableLength rest
+      go : Dec (length rest < table_length rest) → length (table_part rest) ≡ table_length rest
       go (yes h) =
-          let a : tablePart rest ≡ rest = all-of-it (omega arith) in
-          absurd (omega (arith, right-length rest (ap lengthBad (sym a) ∙ e)))
-      go (no h) = length-take-le (tableLength rest) rest (omega arith)
+          let a : table_part rest ≡ rest = all_of_it (omega arith) in
+          absurd (omega (arith, right_length rest (ap length_bad (sym a) ∙ e)))
+      go (no h) = length-take-le (table_length rest) rest (omega arith)

@@ -1,3 +1,3 @@
 -- The input of a block sheet.
 pub mod Input
-pub mod inner
+pub mod Inner

@@ -1,8 +1,8 @@
 // The input of a block sheet: what stands where, and its faults but for those of its tables, in document 02's order.
 ghost use Rattle.std.specs.Prelude.{◌≡◌, ◌≤◌, length};
-ghost use Rattle.trellis.specs.Bounds.{mostSections};
-ghost use Rattle.input_parts.specs.Input.{inputSections, inputBlocks, inputIndex, anyTable, tablePart, lengthsBad, firstIndex};
-ghost use Rattle.input_parts.specs.inner.Read.{headOutcome, leftOver, HeadRead, Told};
+ghost use Rattle.trellis.specs.Bounds.{most_sections};
+ghost use Rattle.input_parts.specs.Input.{input_sections, input_blocks, input_index, any_table, table_part, lengths_bad, first_index};
+ghost use Rattle.input_parts.specs.Inner.Read.{head_outcome, left_over, HeadRead, Told};
 
 use fields::{byte_at, two_bytes, word_count};
 use numbers::{is_within, wide, widened};
@@ -11,14 +11,14 @@ use trellis::{MOST_BLOCKS, MOST_SECTIONS};
 
 // K as the input states it.
 pub fn section_count(input: &[u8]) -> usize
-    ensures { (result ≡ inputSections input.now) × (result ≤ 255) }
+    ensures { (result ≡ input_sections input.now) × (result ≤ 255) }
 {
     widened(byte_at(input, 0))
 }
 
 // B as the input states it.
 pub fn block_count(input: &[u8]) -> usize
-    ensures { (result ≡ inputBlocks input.now) × (result ≤ 65535) }
+    ensures { (result ≡ input_blocks input.now) × (result ≤ 65535) }
 {
     wide(two_bytes(byte_at(input, 1), byte_at(input, 2)))
 }
@@ -26,15 +26,15 @@ pub fn block_count(input: &[u8]) -> usize
 // The section of a block.
 pub fn section_index(input: &[u8], block: usize) -> usize
     requires { block ≤ 65535 }
-    ensures { (result ≡ inputIndex input.now block) × (result ≤ 255) }
+    ensures { (result ≡ input_index input.now block) × (result ≤ 255) }
 {
     widened(byte_at(input, 3 + block))
 }
 
 // B is outside its bounds, or there are fewer indices.
 fn lengths_bad(input: &[u8], blocks: usize) -> bool
-    requires { (blocks ≡ inputBlocks input.now) × (blocks ≤ 65535) }
-    ensures { result ≡ lengthsBad input.now }
+    requires { (blocks ≡ input_blocks input.now) × (blocks ≤ 65535) }
+    ensures { result ≡ lengths_bad input.now }
 {
     if !is_within(1, MOST_BLOCKS, blocks) {
         return true;
@@ -44,8 +44,8 @@ fn lengths_bad(input: &[u8], blocks: usize) -> bool
 
 // The first block whose section is not below K, or B.
 fn first_index(input: &[u8], sections: usize, blocks: usize) -> usize
-    requires { (sections ≡ inputSections input.now) × (blocks ≡ inputBlocks input.now) × (blocks ≤ 65535) }
-    ensures { result ≡ firstIndex input.now }
+    requires { (sections ≡ input_sections input.now) × (blocks ≡ input_blocks input.now) × (blocks ≤ 65535) }
+    ensures { result ≡ first_index input.now }
 {
     let mut b: usize = 0;
     while b < blocks {
@@ -60,7 +60,7 @@ fn first_index(input: &[u8], sections: usize, blocks: usize) -> usize
 // K, B and the indices: the first fault, or number 0.
 pub fn check_head(input: &[u8], sections: usize, blocks: usize) -> Returned
     requires { HeadRead input.now sections blocks }
-    ensures { Told (headOutcome input.now) result.number result.count result.values }
+    ensures { Told (head_outcome input.now) result.number result.count result.values }
 {
     if !is_within(1, MOST_SECTIONS, sections) {
         return one_value(8, sections);
@@ -77,8 +77,8 @@ pub fn check_head(input: &[u8], sections: usize, blocks: usize) -> Returned
 
 // Bytes behind the last table are refused with K.
 pub fn left_over(end: usize, length: usize, sections: usize) -> Returned
-    requires { sections ≤ mostSections }
-    ensures { Told (leftOver end length sections) result.number result.count result.values }
+    requires { sections ≤ most_sections }
+    ensures { Told (left_over end length sections) result.number result.count result.values }
 {
     if end < length {
         return one_value(8, sections);
@@ -88,7 +88,7 @@ pub fn left_over(end: usize, length: usize, sections: usize) -> Returned
 
 // How many bytes the table at the front of `rest` has: as many as its W says, or what is left.
 pub fn part_length(rest: &[u8]) -> usize
-    ensures { (result ≡ length (tablePart rest.now)) × (result ≤ anyTable) }
+    ensures { (result ≡ length (table_part rest.now)) × (result ≤ any_table) }
 {
     let length = 5 + 4 * wide(word_count(rest));
     if rest.len() < length {

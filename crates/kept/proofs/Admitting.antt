@@ -12,20 +12,20 @@ use lib.Dec.{ltb}
 use lib.ListN.{get_or-append, length, get_or, set, take, drop, length-set, length-take, length-drop, length-append}
 use lib.Seq.{get_or-set_same, get_or-set_other, take-suc-set, ext_get_or, get_or-take, get_or-drop, get_or-append-add}
 use borrow.Author.Tests.{lt-ltb, le-ltb}
-use Rattle.trellis.specs.Bounds.{mostPaths}
-use Rattle.ranking.specs.inner.Kept.{cut, dearest, admit}
-use Rattle.dearest.specs.inner.Items.{costIn, LastDearest, Kept, Admitted}
-use Rattle.dearest.specs.inner.Loops.{CheaperFrom, ClosedUp}
-use Rattle.dearest.proofs.LastDearest.{cut-is, dearest-is}
+use Rattle.trellis.specs.Bounds.{most_paths}
+use Rattle.ranking.specs.Inner.Kept.{cut, dearest, admit}
+use Rattle.dearest.specs.Inner.Items.{cost_in, LastDearest, Kept, Admitted}
+use Rattle.dearest.specs.Inner.Loops.{CheaperFrom, ClosedUp}
+use Rattle.dearest.proofs.LastDearest.{cut_is, dearest_is}
 
 -- ---- what is held
 
-pub worst-inside : {k : ℕ} {items : List ℕ} {count worst : ℕ} → Kept k items count worst → k ≤ count → worst < count
-worst-inside K h = (K.dearest h).inside
+pub worst_inside : {k : ℕ} {items : List ℕ} {count worst : ℕ} → Kept k items count worst → k ≤ count → worst < count
+worst_inside K h = (K.dearest h).inside
 
-pub put-long : {k : ℕ} {old : List ℕ} {count w at : ℕ} {mid : List ℕ} (i x : ℕ) → Kept k old count w → ClosedUp at old count mid
-    → length (set mid i x) ≡ mostPaths
-put-long {mid = mid} i x K C = length-set mid i x ∙ C.long ∙ K.long
+pub put_long : {k : ℕ} {old : List ℕ} {count w at : ℕ} {mid : List ℕ} (i x : ℕ) → Kept k old count w → ClosedUp at old count mid
+    → length (set mid i x) ≡ most_paths
+put_long {mid = mid} i x K C = length-set mid i x ∙ C.long ∙ K.long
 
 -- ---- taken out
 
@@ -37,8 +37,8 @@ pub record Moved (at : ℕ) (old : List ℕ) (i : ℕ) (new : List ℕ) : Type 0
   pub moved : (j : ℕ) → at ≤ j → j < i → get_or new j 0 ≡ get_or old (suc j) 0
   pub left : (j : ℕ) → i ≤ j → get_or new j 0 ≡ get_or old j 0
 
-pub moved-start : {at : ℕ} {old : List ℕ} → Moved at old at old
-moved-start = record { from = omega arith; long = refl; front = λ j l. refl; moved = λ j l m. absurd (omega arith); left = λ j l. refl }
+pub moved_start : {at : ℕ} {old : List ℕ} → Moved at old at old
+moved_start = record { from = omega arith; long = refl; front = λ j l. refl; moved = λ j l m. absurd (omega arith); left = λ j l. refl }
 
 pub moved_more : {at : ℕ} {old : List ℕ} {i : ℕ} {new : List ℕ} {x : ℕ} → Moved at old i new → i < length old → x ≡ get_or new (i + 1) 0
     → Moved at old (i + 1) (set new i x)
@@ -68,8 +68,8 @@ module _ {items : List ℕ} {count w : ℕ} (D : LastDearest items count w) (fit
   abbrev back : List ℕ
   back = drop (suc w) (take count items)
 
-  closed_is : {new : List ℕ} → ClosedUp w items count new → take (count - 1) new ≡ cut costIn (take count items)
-  closed_is {new} C = ext_get_or 0 (take (count - 1) new) (front ++ back) same_length at ∙ sym (cut-is D fits)
+  closed_is : {new : List ℕ} → ClosedUp w items count new → take (count - 1) new ≡ cut cost_in (take count items)
+  closed_is {new} C = ext_get_or 0 (take (count - 1) new) (front ++ back) same_length at ∙ sym (cut_is D fits)
     where
       low : w < count
       low = D.inside
@@ -106,76 +106,76 @@ module _ {items : List ℕ} {count w : ℕ} (D : LastDearest items count w) (fit
 
 -- ---- admitted
 
-pub admit-more : {k count : ℕ} {old : List ℕ} {x new worst : ℕ} → count < k → k ≤ mostPaths → length old ≡ mostPaths → new ≡ count + 1
+pub admit_more : {k count : ℕ} {old : List ℕ} {x new worst : ℕ} → count < k → k ≤ most_paths → length old ≡ most_paths → new ≡ count + 1
     → Kept k (set old count x) (count + 1) worst → Admitted k count old x (set old count x) new worst
 unfolding admit
-admit-more {k} {count} {old} {x} {new} {worst} h l e n K = subst (λ m. Admitted k count old x (set old count x) m worst) (sym n) (record {
+admit_more {k} {count} {old} {x} {new} {worst} h l e n K = subst (λ m. Admitted k count old x (set old count x) m worst) (sym n) (record {
   kept = K;
   is =
       let t : length (take count old) < k = omega (arith, length-take count old) in
       rw (lt-ltb (length (take count old)) k t, add-one count) (take-suc-set old count x (omega arith));
 })
 
-pub admit-skip : {k count : ℕ} {old : List ℕ} {x w here there : ℕ} → Kept k old count w → k ≤ count → k ≤ mostPaths
-    → here ≡ costIn (get_or old w 0) → there ≡ costIn x → here ≤ there → Admitted k count old x old count w
+pub admit_skip : {k count : ℕ} {old : List ℕ} {x w here there : ℕ} → Kept k old count w → k ≤ count → k ≤ most_paths
+    → here ≡ cost_in (get_or old w 0) → there ≡ cost_in x → here ≤ there → Admitted k count old x old count w
 unfolding admit
-admit-skip {k} {count} {old} {x} {w} {here} {there} K a l f g h = record {
+admit_skip {k} {count} {old} {x} {w} {here} {there} K a l f g h = record {
   kept = K;
   is =
       let b = K.most in
       let e = K.long in
       let t : k ≤ length (take count old) = omega (arith, length-take count old) in
-      let d = dearest-is (K.dearest a) (omega arith) in
-      let u : ltb (costIn x) (dearest costIn (take count old)) ≡ false
-      = le-ltb (costIn x) (dearest costIn (take count old)) (omega arith) in
+      let d = dearest_is (K.dearest a) (omega arith) in
+      let u : ltb (cost_in x) (dearest cost_in (take count old)) ≡ false
+      = le-ltb (cost_in x) (dearest cost_in (take count old)) (omega arith) in
       rw (le-ltb (length (take count old)) k t, u);
 }
 
-module _ {k count : ℕ} {old mid : List ℕ} (x : ℕ) {w here there : ℕ} (K : Kept k old count w) (full : k ≤ count) (fits : k ≤ mostPaths)
-    (f : here ≡ costIn (get_or old w 0)) (g : there ≡ costIn x) (h : there < here) (C : ClosedUp w old count mid) where
+module _ {k count : ℕ} {old mid : List ℕ} (x : ℕ) {w here there : ℕ} (K : Kept k old count w) (full : k ≤ count) (fits : k ≤ most_paths)
+    (f : here ≡ cost_in (get_or old w 0)) (g : there ≡ cost_in x) (h : there < here) (C : ClosedUp w old count mid) where
   abbrev put : List ℕ
   put = set mid (count - 1) x
 
   low : w < count
   low = (K.dearest full).inside
 
-  pub swap-cheaper : CheaperFrom put count w here
-  swap-cheaper =
+  pub swap_cheaper : CheaperFrom put count w here
+  swap_cheaper =
       record { some = omega (arith, low); inside = omega (arith, low); most = λ j l. go j l (dec_le w j); behind = back }
     where
-      back : (j : ℕ) → w ≤ j → j < count → costIn (get_or put j 0) < here
+      back : (j : ℕ) → w ≤ j → j < count → cost_in (get_or put j 0) < here
       back j a l = at (ℕ_discrete j (count - 1))
         where
-          at : Dec (j ≡ count - 1) → costIn (get_or put j 0) < here
+          at : Dec (j ≡ count - 1) → cost_in (get_or put j 0) < here
           at (yes q) =
               let e : get_or put j 0 ≡ x = ap (λ i. get_or put i 0) q
               ∙ get_or-set_same mid (count - 1) x 0 (omega (arith, C.long, K.long, K.most)) in
-              subst (λ z. costIn z < here) (sym e) (subst (λ z. z < here) g h)
+              subst (λ z. cost_in z < here) (sym e) (subst (λ z. z < here) g h)
           at (no q) =
               let e : get_or put j 0 ≡ get_or old (suc j) 0 = get_or-set_other mid (count - 1) j x 0 q ∙ C.moved j a (omega arith) in
               let b = (K.dearest full).behind (suc j) (omega arith) (omega arith) in
-              subst (λ z. costIn z < here) (sym e) (omega arith)
+              subst (λ z. cost_in z < here) (sym e) (omega arith)
 
-      go : (j : ℕ) → j < count → Dec (w ≤ j) → costIn (get_or put j 0) ≤ here
+      go : (j : ℕ) → j < count → Dec (w ≤ j) → cost_in (get_or put j 0) ≤ here
       go j l (yes a) = let b = back j a l in omega arith
       go j l (no a) =
           let e : get_or put j 0 ≡ get_or old j 0
           = get_or-set_other mid (count - 1) j x 0 (λ q. absurd (omega (arith, low))) ∙ C.front j (omega arith) in
           let b = (K.dearest full).before j (omega arith) in
-          subst (λ z. costIn z ≤ here) (sym e) (omega arith)
+          subst (λ z. cost_in z ≤ here) (sym e) (omega arith)
 
-  pub admit-swap : {worst : ℕ} → LastDearest put count worst → Admitted k count old x put count worst
+  pub admit_swap : {worst : ℕ} → LastDearest put count worst → Admitted k count old x put count worst
   unfolding admit
-  admit-swap N = record {
-    kept = record { most = K.most; long = put-long (count - 1) x K C; dearest = λ q. N };
+  admit_swap N = record {
+    kept = record { most = K.most; long = put_long (count - 1) x K C; dearest = λ q. N };
     is =
         let b = K.most in
         let e = K.long in
         let D = K.dearest full in
         let t : k ≤ length (take count old) = omega (arith, length-take count old) in
-        let d = dearest-is D (omega arith) in
-        let u : ltb (costIn x) (dearest costIn (take count old)) ≡ true
-        = lt-ltb (costIn x) (dearest costIn (take count old)) (omega arith) in
+        let d = dearest_is D (omega arith) in
+        let u : ltb (cost_in x) (dearest cost_in (take count old)) ≡ true
+        = lt-ltb (cost_in x) (dearest cost_in (take count old)) (omega arith) in
         let i = low in
         let z : count ≡ suc (count - 1) = omega arith in
         let s : take (suc (count - 1)) put ≡ take (count - 1) mid ++ (x ∷ [])

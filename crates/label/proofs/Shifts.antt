@@ -15,8 +15,8 @@ four (suc k) =
     let e : 2 * suc k ≡ 2 * k + 2 = omega arith in
     rw (e, pow-add 2 (2 * k) 2, four k) (sym (pow-suc 4 k))
 
-pub shift-out : (x k : ℕ) → x / 2 ^ (2 * k) ≡ x / 4 ^ k
-shift-out x k = rw (four k)
+pub shift_out : (x k : ℕ) → x / 2 ^ (2 * k) ≡ x / 4 ^ k
+shift_out x k = rw (four k)
 
 pub mask_one : (x : ℕ) → bit_and x 3 ≡ x % 4
 mask_one x = and_mask x 2
@@ -52,8 +52,8 @@ module _ (n t x : ℕ) {low : ℕ} (behind : low ≡ n - t) where
   unfolding back
   back_by e = e ∙ ap (λ k. x % 4 ^ k) behind
 
-  pub symbol-by : {less r : ℕ} → less ≡ low - 1 → r ≡ x / 4 ^ less → bit_and r 3 ≡ symbol n t x
+  pub symbol_by : {less r : ℕ} → less ≡ low - 1 → r ≡ x / 4 ^ less → bit_and r 3 ≡ symbol n t x
   unfolding symbol
-  symbol-by {less} {r} h e =
+  symbol_by {less} {r} h e =
       let d : less ≡ n - suc t = omega arith in
       mask_one r ∙ ap (λ k. k % 4) (e ∙ ap (λ k. x / 4 ^ k) d)

@@ -1,2 +1,2 @@
 -- What this crate adds to trellis's definitions of labels.
-pub mod inner
+pub mod Inner

@@ -2,7 +2,7 @@
 // with the definitions of labels in trellis: symbols are base-4 digits, the first one highest.
 ghost use Rattle.std.specs.Prelude.{◌≡◌, ◌-◌, ◌/◌, ◌%◌, ◌^◌, ◌<◌};
 ghost use Rattle.trellis.specs.Label.{symbol, front, back};
-ghost use Rattle.label.specs.inner.Labels.{InOrder};
+ghost use Rattle.label.specs.Inner.Labels.{InOrder};
 
 // How many symbols stand behind depth t.
 fn behind(n: usize, t: usize) -> usize

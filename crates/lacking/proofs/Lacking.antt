@@ -6,34 +6,34 @@ use mathlib.Core.List.{List}
 use Prim.Native.Nat.{ℕ, ◌+◌, ◌≤◌, ◌<◌}
 use native.Mathlib.Omega.{arith}
 use native.Mathlib.Decide.{ℕ_discrete, dec_lt}
-use Rattle.depth_runs.specs.inner.Rows.{at}
-use Rattle.lacking.specs.inner.Search.{FirstWith}
-use Rattle.lacking.specs.inner.Rows.{inRun, hasEnding, refutesIn}
-use Rattle.lacking.specs.inner.Chains.{Nearest, Reached, Asked}
-use Rattle.lacking.proofs.Endings.{ending-yes, ending-no, run-yes, run-miss, refutes-last}
-use Rattle.lacking.proofs.Passing.{none-with}
+use Rattle.depth_runs.specs.Inner.Rows.{at}
+use Rattle.lacking.specs.Inner.Search.{FirstWith}
+use Rattle.lacking.specs.Inner.Rows.{in_run, has_ending, refutes_in}
+use Rattle.lacking.specs.Inner.Chains.{Nearest, Reached, Asked}
+use Rattle.lacking.proofs.Endings.{ending_yes, ending_no, run_yes, run_miss, refutes_last}
+use Rattle.lacking.proofs.Passing.{none_with}
 
 pub record InLacking (w : ℕ) (starts firsts next : List ℕ) (i j k l : ℕ) : Type 0 where
   pub asked : Asked w starts firsts next i j
-  pub kEnds : k < w → at firsts k ≡ at firsts i
-  pub lEnds : l < w → at firsts l ≡ at firsts j
-  pub held : (z : ℕ) → z < k → z < w → at firsts i ≡ at firsts z → hasEnding starts firsts w z j ≡ true
+  pub k_ends : k < w → at firsts k ≡ at firsts i
+  pub l_ends : l < w → at firsts l ≡ at firsts j
+  pub held : (z : ℕ) → z < k → z < w → at firsts i ≡ at firsts z → has_ending starts firsts w z j ≡ true
   pub passed : k < w → (y : ℕ) → y < l → y < w → at firsts y ≡ at firsts j → at starts y < at starts k
 
-pub lacking-none : {w : ℕ} {starts firsts next : List ℕ} {i j k l : ℕ} → Asked w starts firsts next i j → k ≡ at firsts i
+pub lacking_none : {w : ℕ} {starts firsts next : List ℕ} {i j k l : ℕ} → Asked w starts firsts next i j → k ≡ at firsts i
     → l ≡ at firsts j
     → InLacking w starts firsts next i j k l
-lacking-none {w} {starts} {firsts} {next} {i} {j} {k} {l} A e f = record {
+lacking_none {w} {starts} {firsts} {next} {i} {j} {k} {l} A e f = record {
   asked = A;
-  kEnds = λ h. ap (at firsts) e ∙ A.rows.endings.own i A.iLt;
-  lEnds = λ h. ap (at firsts) f ∙ A.rows.endings.own j A.jLt;
+  k_ends = λ h. ap (at firsts) e ∙ A.rows.endings.own i A.i_lt;
+  l_ends = λ h. ap (at firsts) f ∙ A.rows.endings.own j A.j_lt;
   held = λ z p h q. absurd (omega (arith, A.rows.endings.le z h));
   passed = λ g y p h q. absurd (omega (arith, A.rows.endings.le y h));
 }
 
 module _ {w : ℕ} {starts firsts next : List ℕ} {i j k l : ℕ} (c : InLacking w starts firsts next i j k l) where
-  pub lacking-end : w ≤ k → FirstWith (refutesIn starts firsts w) w i j k
-  lacking-end h = record { none = λ z p q. none-with starts firsts w i j z (c.held z p q); passes = λ p. absurd (omega arith) }
+  pub lacking_end : w ≤ k → FirstWith (refutes_in starts firsts w) w i j k
+  lacking_end h = record { none = λ z p q. none_with starts firsts w i j z (c.held z p q); passes = λ p. absurd (omega arith) }
 
   module _ {a r : ℕ} (h : k < w) (e : a ≡ at starts k) (T : Reached w starts firsts a l r) where
     -- the words with j's ending before r are in runs before k's
@@ -42,16 +42,16 @@ module _ {w : ℕ} {starts firsts next : List ℕ} {i j k l : ℕ} (c : InLackin
       where
         go : Dec (y < l) → at starts y < at starts k
         go (yes d) = c.passed h y d q f
-        go (no d) = omega (arith, T.passed.earlier y (omega arith) p q (f ∙ sym (c.lEnds (omega arith))))
+        go (no d) = omega (arith, T.passed.earlier y (omega arith) p q (f ∙ sym (c.l_ends (omega arith))))
 
     ends : r < w → at firsts r ≡ at firsts j
-    ends q = T.passed.alike q ∙ c.lEnds (omega (arith, T.passed.from))
+    ends q = T.passed.alike q ∙ c.l_ends (omega (arith, T.passed.from))
 
-    pub lacking-more : {new : ℕ} → inRun starts w a r ≡ true → new ≡ at next k → InLacking w starts firsts next i j new r
-    lacking-more {new} s f = record {
+    pub lacking_more : {new : ℕ} → in_run starts w a r ≡ true → new ≡ at next k → InLacking w starts firsts next i j new r
+    lacking_more {new} s f = record {
       asked = c.asked;
-      kEnds = λ p. ap (at firsts) f ∙ N.has (omega arith) ∙ c.kEnds h;
-      lEnds = ends;
+      k_ends = λ p. ap (at firsts) f ∙ N.has (omega arith) ∙ c.k_ends h;
+      l_ends = ends;
       held = λ z p q g. go z p q g (dec_lt z k) (ℕ_discrete z k);
       passed = λ p y q m g. omega (arith, behind y q m g, c.asked.rows.rises k new (omega (arith, N.from)) p);
     }
@@ -59,28 +59,28 @@ module _ {w : ℕ} {starts firsts next : List ℕ} {i j k l : ℕ} (c : InLackin
         N : Nearest w firsts (k + 1) (at firsts k) (at next k)
         N = c.asked.chains.leads k h
 
-        go : (z : ℕ) → z < new → z < w → at firsts i ≡ at firsts z → Dec (z < k) → Dec (z ≡ k) → hasEnding starts firsts w z j ≡ true
+        go : (z : ℕ) → z < new → z < w → at firsts i ≡ at firsts z → Dec (z < k) → Dec (z ≡ k) → has_ending starts firsts w z j ≡ true
         go z p q g (yes d) o = c.held z d q g
         go z p q g (no d) (yes o) =
-            let x = run-yes starts w a r s in
-            ending-yes (record { place = r; below = x.0; begins = x.1 ∙ e ∙ ap (at starts) (sym o); ends = ends x.0 })
-        go z p q g (no d) (no o) = absurd (N.none z (omega arith) (omega arith) q (sym g ∙ sym (c.kEnds h)))
+            let x = run_yes starts w a r s in
+            ending_yes (record { place = r; below = x.0; begins = x.1 ∙ e ∙ ap (at starts) (sym o); ends = ends x.0 })
+        go z p q g (no d) (no o) = absurd (N.none z (omega arith) (omega arith) q (sym g ∙ sym (c.k_ends h)))
 
-    pub lacking-hit : inRun starts w a r ≡ false → FirstWith (refutesIn starts firsts w) w i j k
-    lacking-hit s = record {
-      none = λ z p q. none-with starts firsts w i j z (c.held z p q);
-      passes = λ p. sym (refutes-last starts firsts w i j k c.asked.begins (sym (c.kEnds h)) (sym lacks));
+    pub lacking_hit : in_run starts w a r ≡ false → FirstWith (refutes_in starts firsts w) w i j k
+    lacking_hit s = record {
+      none = λ z p q. none_with starts firsts w i j z (c.held z p q);
+      passes = λ p. sym (refutes_last starts firsts w i j k c.asked.begins (sym (c.k_ends h)) (sym lacks));
     }
       where
         later : (r < w) → at starts k < at starts r
         later p = go (ℕ_discrete (at starts r) a)
           where
             go : Dec (at starts r ≡ a) → at starts k < at starts r
-            go (yes d) = absurd (run-miss starts w a r s p d)
+            go (yes d) = absurd (run_miss starts w a r s p d)
             go (no d) = omega (arith, T.there p)
 
-        lacks : hasEnding starts firsts w k j ≡ false
-        lacks = ending-no starts firsts w k j (λ y p b f. go y p b f (dec_lt y r))
+        lacks : has_ending starts firsts w k j ≡ false
+        lacks = ending_no starts firsts w k j (λ y p b f. go y p b f (dec_lt y r))
           where
             go : (y : ℕ) → y < w → at starts y ≡ at starts k → at firsts y ≡ at firsts j → Dec (y < r) → ⊥
             go y p b f (yes d) = omega (arith, behind y d p f)

@@ -1,2 +1,2 @@
 -- The search for a witness.
-pub mod inner
+pub mod Inner

@@ -1,9 +1,9 @@
 // Chains of words with one ending, and the first word of a chain in a run that another chain passes by.
 ghost use Rattle.std.specs.Prelude.{◌≡◌, List, ℕ, ◌<◌, ◌≤◌};
-ghost use Rattle.trellis.specs.Bounds.{mostWords};
-ghost use Rattle.lacking.specs.inner.Search.{FirstWith};
-ghost use Rattle.lacking.specs.inner.Rows.{FirstRow, inRun, beforeRun, refutesIn};
-ghost use Rattle.lacking.specs.inner.Chains.{Ahead, Chained, Reached, Asked};
+ghost use Rattle.trellis.specs.Bounds.{most_words};
+ghost use Rattle.lacking.specs.Inner.Search.{FirstWith};
+ghost use Rattle.lacking.specs.Inner.Rows.{FirstRow, in_run, before_run, refutes_in};
+ghost use Rattle.lacking.specs.Inner.Chains.{Ahead, Chained, Reached, Asked};
 
 use numbers::wide;
 use trellis::MOST_WORDS;
@@ -20,7 +20,7 @@ pub enum Witness {
 
 // For each word the next one with its ending. From the last word on, each is put between the first with its ending and the next after that.
 pub fn put_next(firsts: &[u16; MOST_WORDS], w: usize, next: &mut [u16; MOST_WORDS])
-    requires { (w ≤ mostWords) × FirstRow w firsts.now }
+    requires { (w ≤ most_words) × FirstRow w firsts.now }
     ensures { Chained w firsts.now next.new }
 {
     *next = [NOTHING; MOST_WORDS];
@@ -36,23 +36,23 @@ pub fn put_next(firsts: &[u16; MOST_WORDS], w: usize, next: &mut [u16; MOST_WORD
 
 // Whether l is one of the first w words, and of the run that starts at a.
 pub fn in_run(starts: &[u16; MOST_WORDS], w: usize, a: u16, l: usize) -> bool
-    requires { w ≤ mostWords }
-    ensures { result ≡ inRun starts.now w a l }
+    requires { w ≤ most_words }
+    ensures { result ≡ in_run starts.now w a l }
 {
     l < w && starts[l] == a
 }
 
 // Whether l is a word of a run before the one that starts at a.
 fn before_run(starts: &[u16; MOST_WORDS], w: usize, a: u16, l: usize) -> bool
-    requires { w ≤ mostWords }
-    ensures { result ≡ beforeRun starts.now w a l }
+    requires { w ≤ most_words }
+    ensures { result ≡ before_run starts.now w a l }
 {
     l < w && starts[l] < a
 }
 
 // Of l and the next words with its ending, the first that is in no run before the one that starts at a.
 fn reach(starts: &[u16; MOST_WORDS], next: &[u16; MOST_WORDS], w: usize, a: u16, l: usize) -> usize
-    requires { (w ≤ mostWords) × Ahead w next.now }
+    requires { (w ≤ most_words) × Ahead w next.now }
     ensures { (firsts : List ℕ) → Chained w firsts next.now → Reached w starts.now firsts a l result }
 {
     let mut word = l;
@@ -73,7 +73,7 @@ pub fn first_lacking(
     j: usize,
 ) -> usize
     requires { Asked w starts.now firsts.now next.now i j }
-    ensures { FirstWith (refutesIn starts.now firsts.now w) w i j result }
+    ensures { FirstWith (refutes_in starts.now firsts.now w) w i j result }
 {
     let mut k = wide(firsts[i]);
     let mut l = wide(firsts[j]);

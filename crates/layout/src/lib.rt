@@ -1,8 +1,8 @@
 // The pairs and the symbols of all steps, and the states of the outer depths, written in document 01's layout from the finished map.
 ghost use Rattle.std.specs.Prelude.{◌+◌, ◌-◌, ◌*◌, ◌<◌, ◌≤◌, length};
-ghost use Rattle.trellis.specs.inner.Write.{Wrote};
-ghost use Rattle.trellis.specs.Layout.{joinedUp};
-ghost use Rattle.takers.specs.inner.Pieces.{SmallMap, stepTakers, Taken, stepPairs, stepSymbols};
+ghost use Rattle.trellis.specs.Inner.Write.{Wrote};
+ghost use Rattle.trellis.specs.Layout.{joined_up};
+ghost use Rattle.takers.specs.Inner.Pieces.{SmallMap, step_takers, Taken, step_pairs, step_symbols};
 
 pub mod states;
 
@@ -21,9 +21,9 @@ pub fn put_all_pairs(
     at: usize,
 ) -> usize
     requires { SmallMap map.now labels.now n × Taken map.now labels.now n words.now counts.now
-        × (at + 2 * length (joinedUp (stepTakers map.now
+        × (at + 2 * length (joined_up (step_takers map.now
         labels.now n) n) ≤ length section.old) }
-    ensures { Wrote section.old at (joinedUp (stepPairs map.now labels.now n) n)
+    ensures { Wrote section.old at (joined_up (step_pairs map.now labels.now n) n)
         section.new result }
 {
     let w = labels.len();
@@ -52,9 +52,9 @@ pub fn put_all_symbols(
     at: usize,
 ) -> usize
     requires { SmallMap map.now labels.now n × Taken map.now labels.now n words.now counts.now
-        × (at + 1 * length (joinedUp (stepTakers map.now
+        × (at + 1 * length (joined_up (step_takers map.now
         labels.now n) n) ≤ length section.old) }
-    ensures { Wrote section.old at (joinedUp (stepSymbols map.now labels.now n) n)
+    ensures { Wrote section.old at (joined_up (step_symbols map.now labels.now n) n)
         section.new result }
 {
     let mut to = at;

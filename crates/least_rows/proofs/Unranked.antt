@@ -1,6 +1,6 @@
--- A rank divided by `distanceUnit` is the distance, from any depth. k steps bring a label below 4 ^ k, so that under the distance of a rank
--- there is less than labelUnit · 4 ^ k, unless the rank is the top. One symbol more stands above all of that, and as k is at most 8, both
--- still stay under `distanceUnit`: nothing is carried into the distance, and distances add up by themselves. What is cut off at the top has
+-- A rank divided by `distance_unit` is the distance, from any depth. k steps bring a label below 4 ^ k, so that under the distance of a rank
+-- there is less than label_unit · 4 ^ k, unless the rank is the top. One symbol more stands above all of that, and as k is at most 8, both
+-- still stay under `distance_unit`: nothing is carried into the distance, and distances add up by themselves. What is cut off at the top has
 -- the top's distance, which is `unreached`. A smaller rank has no greater distance, so the least rank has the least.
 use mathlib.Core.Path.{◌≡◌, refl, subst}
 use mathlib.Core.List.Memᴰ
@@ -10,40 +10,40 @@ use native.Mathlib.Nat.{pow-suc, pow-le-pow_right, mul-le-mul_right}
 use native.Mathlib.Decide.{dec_le, dec_lt}
 use native.Mathlib.Omega.{arith}
 use lib.Dec.{lit<}
-use Rattle.trellis.specs.Bounds.{mostStates, mostSymbols}
+use Rattle.trellis.specs.Bounds.{most_states, most_symbols}
 use Rattle.trellis.specs.Lists.{◌∈◌}
 use Rattle.trellis.specs.Own.{Edge}
 use Rattle.trellis.specs.Section.{leaving}
 use Rattle.paths.specs.Chain.{unreached}
-use Rattle.paths.specs.inner.Costs.{plus, minAll}
-use Rattle.paths.specs.inner.Sections.{sectionLeast}
-use Rattle.paths.specs.inner.Ranked.{labelUnit, distanceUnit, ranked, topRank, rankedCost, rankedLeft}
+use Rattle.paths.specs.Inner.Costs.{plus, min_all}
+use Rattle.paths.specs.Inner.Sections.{section_least}
+use Rattle.paths.specs.Inner.Ranked.{label_unit, distance_unit, ranked, top_rank, ranked_cost, ranked_left}
 use Rattle.paths.proofs.Ascent.{Bounded}
-use Rattle.paths.proofs.Sections.{across, listed_of, least-last, least_step}
+use Rattle.paths.proofs.Sections.{across, listed_of, least_last, least_step}
 
 -- a rank of k steps, and its distance
 record Unranks (k rank distance : ℕ) : Type 0 where
-  small : rank ≤ topRank
-  front : rank / distanceUnit ≡ distance
-  low : rank < topRank → rank % distanceUnit < labelUnit * 4 ^ k
+  small : rank ≤ top_rank
+  front : rank / distance_unit ≡ distance
+  low : rank < top_rank → rank % distance_unit < label_unit * 4 ^ k
 
 -- no path
-top-unranks : (k : ℕ) → Unranks k topRank unreached
-top-unranks k = record { small = omega arith; front = omega arith; low = λ h. absurd (omega arith) }
+top_unranks : (k : ℕ) → Unranks k top_rank unreached
+top_unranks k = record { small = omega arith; front = omega arith; low = λ h. absurd (omega arith) }
 
 -- no step: what is left to pay behind the block
-left-unranks : (left s : ℕ) → left ≤ unreached → s < mostStates → Unranks 0 (rankedLeft left s) left
-unfolding rankedLeft ranked
-left-unranks left s h k = record { small = omega arith; front = omega arith; low = λ i. omega arith }
+left_unranks : (left s : ℕ) → left ≤ unreached → s < most_states → Unranks 0 (ranked_left left s) left
+unfolding ranked_left ranked
+left_unranks left s h k = record { small = omega arith; front = omega arith; low = λ i. omega arith }
 
 -- one step more
-more-unranks : {k rank distance : ℕ} → Unranks k rank distance → k < mostSymbols → (cost a : ℕ) → a < 4
-    → Unranks (suc k) (plus topRank (ranked cost (a * 4 ^ k) 0) rank) (plus unreached cost distance)
+more_unranks : {k rank distance : ℕ} → Unranks k rank distance → k < most_symbols → (cost a : ℕ) → a < 4
+    → Unranks (suc k) (plus top_rank (ranked cost (a * 4 ^ k) 0) rank) (plus unreached cost distance)
 unfolding plus ranked
-more-unranks {k} {rank} {distance} U h cost a l = go (dec_lt rank topRank)
+more_unranks {k} {rank} {distance} U h cost a l = go (dec_lt rank top_rank)
   where
-    go : Dec (rank < topRank)
-        → Unranks (suc k) (min topRank (cost * distanceUnit + (a * 4 ^ k * labelUnit + 0) + rank)) (min unreached (cost + distance))
+    go : Dec (rank < top_rank)
+        → Unranks (suc k) (min top_rank (cost * distance_unit + (a * 4 ^ k * label_unit + 0) + rank)) (min unreached (cost + distance))
     go (yes i) =
         let p : 4 ^ suc k ≤ 4 ^ 8 = pow-le-pow_right (lit< tt) h in
         let e = pow-suc 4 k in
@@ -57,13 +57,13 @@ more-unranks {k} {rank} {distance} U h cost a l = go (dec_lt rank topRank)
         record { small = omega arith; front = omega arith; low = λ j. absurd (omega arith) }
 
 -- the lesser of two
-min-unranks : {k x y d e : ℕ} → Unranks k x d → Unranks k y e → Unranks k (min x y) (min d e)
-min-unranks {k} {x} {y} {d} {e} A B = go (dec_le x y)
+min_unranks : {k x y d e : ℕ} → Unranks k x d → Unranks k y e → Unranks k (min x y) (min d e)
+min_unranks {k} {x} {y} {d} {e} A B = go (dec_le x y)
   where
-    f : x / distanceUnit ≡ d
+    f : x / distance_unit ≡ d
     f = A.front
 
-    g : y / distanceUnit ≡ e
+    g : y / distance_unit ≡ e
     g = B.front
 
     go : Dec (x ≤ y) → Unranks k (min x y) (min d e)
@@ -76,53 +76,53 @@ min-unranks {k} {x} {y} {d} {e} A B = go (dec_le x y)
         let j : min d e ≡ e = omega arith in
         rw (i, j) B
 
-all-unrank : {A : Type 0} (k : ℕ) (F f : A → ℕ) (xs : List A) → ((x : A) → x ∈ xs → Unranks k (F x) (f x))
-    → Unranks k (minAll topRank F xs) (minAll unreached f xs)
-unfolding minAll
-all-unrank k F f [] h = top-unranks k
-all-unrank k F f (x ∷ xs) h =
-    min-unranks (h x (Memᴰ.head refl)) (all-unrank k F f xs (λ y m. h y (Memᴰ.tail m)))
+all_unrank : {A : Type 0} (k : ℕ) (F f : A → ℕ) (xs : List A) → ((x : A) → x ∈ xs → Unranks k (F x) (f x))
+    → Unranks k (min_all top_rank F xs) (min_all unreached f xs)
+unfolding min_all
+all_unrank k F f [] h = top_unranks k
+all_unrank k F f (x ∷ xs) h =
+    min_unranks (h x (Memᴰ.head refl)) (all_unrank k F f xs (λ y m. h y (Memᴰ.tail m)))
 
 -- ---- along the edges of a section
 
-module _ {edges : ℕ → List Edge} {n goals : ℕ} (B : Bounded edges n goals) (short : n ≤ mostSymbols) (cost : ℕ → ℕ → ℕ) {rest : ℕ → ℕ}
-    (bound : (s : ℕ) → rest s ≤ unreached) {goalOf : ℕ → ℕ} (states : (g : ℕ) → g < goals → goalOf g < mostStates) where
+module _ {edges : ℕ → List Edge} {n goals : ℕ} (B : Bounded edges n goals) (short : n ≤ most_symbols) (cost : ℕ → ℕ → ℕ) {rest : ℕ → ℕ}
+    (bound : (s : ℕ) → rest s ≤ unreached) {goal_of : ℕ → ℕ} (states : (g : ℕ) → g < goals → goal_of g < most_states) where
   -- what it costs to end in a goal, plain and ranked
   abbrev left_at : ℕ → ℕ
-  left_at g = rest (goalOf g)
+  left_at g = rest (goal_of g)
 
   abbrev number : ℕ → ℕ
-  number g = rankedLeft (left_at g) (goalOf g)
+  number g = ranked_left (left_at g) (goal_of g)
 
-  abbrev rankFrom : ℕ → ℕ → ℕ → ℕ
-  rankFrom k t v = sectionLeast edges (rankedCost n cost) topRank number k t v
+  abbrev rank_from : ℕ → ℕ → ℕ → ℕ
+  rank_from k t v = section_least edges (ranked_cost n cost) top_rank number k t v
 
-  abbrev costFrom : ℕ → ℕ → ℕ → ℕ
-  costFrom k t v = sectionLeast edges cost unreached left_at k t v
+  abbrev cost_from : ℕ → ℕ → ℕ → ℕ
+  cost_from k t v = section_least edges cost unreached left_at k t v
 
   -- an edge's symbol and what is behind it
-  edge-unranks : (k t : ℕ) → t + suc k ≡ n → (e : Edge) → e.symbol < 4
-      → Unranks k (rankFrom k (suc t) e.to) (costFrom k (suc t) e.to)
-      → Unranks (suc k) (across edges (rankedCost n cost) topRank number k t e) (across edges cost unreached left_at k t e)
-  unfolding rankedCost
-  edge-unranks k t h e a U =
+  edge_unranks : (k t : ℕ) → t + suc k ≡ n → (e : Edge) → e.symbol < 4
+      → Unranks k (rank_from k (suc t) e.to) (cost_from k (suc t) e.to)
+      → Unranks (suc k) (across edges (ranked_cost n cost) top_rank number k t e) (across edges cost unreached left_at k t e)
+  unfolding ranked_cost
+  edge_unranks k t h e a U =
       let z : k ≡ n - suc t = omega arith in
-      subst (λ j. Unranks (suc k) (plus topRank (ranked (cost t e.symbol) (e.symbol * 4 ^ j) 0) (rankFrom k (suc t) e.to))
+      subst (λ j. Unranks (suc k) (plus top_rank (ranked (cost t e.symbol) (e.symbol * 4 ^ j) 0) (rank_from k (suc t) e.to))
       (across edges cost unreached left_at k t e)) z
-      (more-unranks U (omega arith) (cost t e.symbol) e.symbol a)
+      (more_unranks U (omega arith) (cost t e.symbol) e.symbol a)
 
-  unranks : (k t v : ℕ) → t + k ≡ n → (k ≡ 0 → v < goals) → Unranks k (rankFrom k t v) (costFrom k t v)
+  unranks : (k t v : ℕ) → t + k ≡ n → (k ≡ 0 → v < goals) → Unranks k (rank_from k t v) (cost_from k t v)
   unranks zero t v h g =
-      rw (least-last edges (rankedCost n cost) topRank number t v, least-last edges cost unreached left_at t v)
-      (left-unranks (left_at v) (goalOf v) (bound (goalOf v)) (states v (g refl)))
+      rw (least_last edges (ranked_cost n cost) top_rank number t v, least_last edges cost unreached left_at t v)
+      (left_unranks (left_at v) (goal_of v) (bound (goal_of v)) (states v (g refl)))
   unranks (suc k) t v h g =
-      rw (least_step edges (rankedCost n cost) topRank number k t v, least_step edges cost unreached left_at k t v)
-      (all-unrank (suc k) (across edges (rankedCost n cost) topRank number k t) (across edges cost unreached left_at k t)
+      rw (least_step edges (ranked_cost n cost) top_rank number k t v, least_step edges cost unreached left_at k t v)
+      (all_unrank (suc k) (across edges (ranked_cost n cost) top_rank number k t) (across edges cost unreached left_at k t)
       (leaving v (edges t))
       (λ e m. let i = listed_of v (edges t) e m in
-      edge-unranks k t h e (B.symbol-lt t (omega arith) e i)
+      edge_unranks k t h e (B.symbol-lt t (omega arith) e i)
       (unranks k (suc t) e.to (omega arith) (λ z. B.goal-lt t (omega arith) e i))))
 
   -- the least rank has the least cost
-  pub unranked : (k t v : ℕ) → t + k ≡ n → (k ≡ 0 → v < goals) → rankFrom k t v / distanceUnit ≡ costFrom k t v
+  pub unranked : (k t v : ℕ) → t + k ≡ n → (k ≡ 0 → v < goals) → rank_from k t v / distance_unit ≡ cost_from k t v
   unranked k t v h g = (unranks k t v h g).front

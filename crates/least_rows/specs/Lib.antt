@@ -1,2 +1,2 @@
 -- The least costs of a block from all its vertices, as they lie in one array.
-pub mod inner
+pub mod Inner

@@ -1,11 +1,11 @@
 // The least costs from all vertices of a block's section to the end of the chain, depth after depth in one array: the sweep that passing a
 // block makes, with a row kept for each depth.
 ghost use Rattle.std.specs.Prelude.{◌≡◌, length};
-ghost use Rattle.trellis.specs.Bounds.{mostStates, mostWords};
-ghost use Rattle.paths.specs.inner.Ranked.{PriceRoom};
-ghost use Rattle.section_file.specs.inner.View.{Seen};
-ghost use Rattle.lowering.specs.inner.Rows.{side};
-ghost use Rattle.least_rows.specs.inner.Rows.{rowsLong, SaveAsked, RowSaved, RowsPut};
+ghost use Rattle.trellis.specs.Bounds.{most_states, most_words};
+ghost use Rattle.paths.specs.Inner.Ranked.{PriceRoom};
+ghost use Rattle.section_file.specs.Inner.View.{Seen};
+ghost use Rattle.lowering.specs.Inner.Rows.{side};
+ghost use Rattle.least_rows.specs.Inner.Rows.{rows_long, SaveAsked, RowSaved, RowsPut};
 
 use numbers::wide;
 use passes::put_goals_side;
@@ -58,10 +58,10 @@ pub fn put_rows(
     odd: &mut [u64; MOST_WORDS],
     rows: &mut [u32; ROWS],
 )
-    requires { Seen l.now at × PriceRoom prices.now × (length left.now ≡ mostStates) × (length even.old ≡ mostWords)
-        × (length odd.old ≡ mostWords) × (length rows.old ≡ rowsLong) }
+    requires { Seen l.now at × PriceRoom prices.now × (length left.now ≡ most_states) × (length even.old ≡ most_words)
+        × (length odd.old ≡ most_words) × (length rows.old ≡ rows_long) }
     ensures { RowsPut l.now prices.now left.now rows.new
-        × (length even.new ≡ mostWords) × (length odd.new ≡ mostWords) }
+        × (length even.new ≡ most_words) × (length odd.new ≡ most_words) }
 {
     put_goals_side(l, at, left, even, odd);
     let n = at.n;

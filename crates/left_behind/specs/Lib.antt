@@ -1,2 +1,2 @@
 -- What is left to pay behind a block.
-pub mod inner
+pub mod Inner

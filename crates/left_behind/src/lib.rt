@@ -1,7 +1,7 @@
 // What is left to pay behind a block: the row of the next block in the cost table, or where a path may end behind the last.
 ghost use Rattle.std.specs.Prelude.{◌≡◌, ◌+◌, ◌*◌, ◌<◌, ◌≤◌, length};
-ghost use Rattle.trellis.specs.Bounds.{mostStates, mostBlocks, costsABlock};
-ghost use Rattle.left_behind.specs.inner.Behind.{LeftBehind};
+ghost use Rattle.trellis.specs.Bounds.{most_states, most_blocks, costs_aBlock};
+ghost use Rattle.left_behind.specs.Inner.Behind.{LeftBehind};
 
 use trellis::COSTS_A_BLOCK;
 
@@ -12,7 +12,7 @@ pub fn left_behind(
     blocks: usize,
     b: usize,
 ) -> [u32; COSTS_A_BLOCK]
-    requires { (blocks ≤ mostBlocks) × (b < blocks) × (costsABlock * blocks ≤ length costs.now) × (length ends ≡ mostStates) }
+    requires { (blocks ≤ most_blocks) × (b < blocks) × (costs_aBlock * blocks ≤ length costs.now) × (length ends ≡ most_states) }
     ensures { LeftBehind costs.now ends blocks b result }
 {
     let mut left = ends;

@@ -2,9 +2,9 @@
 // far as it has room for them, and gives the place behind them.
 ghost use Rattle.std.specs.Prelude.{◌≡◌, suc, ◌-◌, ◌≤◌};
 ghost use Rattle.trellis.specs.Selections.{additions, selections};
-ghost use Rattle.trellis.specs.Layout.{n_of, joinedUp};
-ghost use Rattle.text.specs.inner.Put.{Put};
-ghost use Rattle.lines.specs.Text.{entering, depthLine, sums, sizesOf};
+ghost use Rattle.trellis.specs.Layout.{n_of, joined_up};
+ghost use Rattle.text.specs.Inner.Put.{Put};
+ghost use Rattle.lines.specs.Text.{entering, depth_line, sums, sizes_of};
 
 use numbers::{number, wide};
 use section_costs::{additions_of, selections_of};
@@ -22,7 +22,7 @@ fn edges_entering(sizes: &[u16], n: usize, t: usize) -> usize
 
 fn put_depths(sizes: &[u16], n: usize, text: &mut [u8], at: usize) -> usize
     requires { (n ≡ n_of sizes.now) × (n ≤ 65535) }
-    ensures { Put text.old at (joinedUp (depthLine sizes.now) (suc n)) text.new result }
+    ensures { Put text.old at (joined_up (depth_line sizes.now) (suc n)) text.new result }
 {
     let mut end = at;
     let mut t: usize = 0;
@@ -45,7 +45,7 @@ fn put_sums(sizes: &[u16], text: &mut [u8], at: usize) -> usize
 
 // The sizes of a section, from its first numbers, and how many words it has.
 pub fn put_sizes(sizes: &[u16], words: usize, text: &mut [u8]) -> usize
-    ensures { Put text.old 0 (sizesOf words sizes.now) text.new result }
+    ensures { Put text.old 0 (sizes_of words sizes.now) text.new result }
 {
     let n = wide(number(sizes, 1));
     let numbers = [wide(number(sizes, 0)), n, wide(number(sizes, 2)), words];

@@ -3,22 +3,22 @@
 // every buffer as its layer does. No call asks anything of its arguments.
 ghost use Rattle.outcomes.specs.Numbered.{Numbered};
 ghost use Rattle.merging.specs.Merging.{merging, MergeLeft};
-ghost use Rattle.read_back.specs.ReadingBack.{readingBack, ReadBackLeft};
-ghost use Rattle.merging_rows.specs.MergingRows.{mergingRows, MergeRowsLeft};
+ghost use Rattle.read_back.specs.ReadingBack.{reading_back, ReadBackLeft};
+ghost use Rattle.merging_rows.specs.MergingRows.{merging_rows, MergeRowsLeft};
 ghost use Rattle.same_section.specs.Comparing.{comparing};
 ghost use Rattle.frame.specs.Frame.{frame};
 ghost use Rattle.decoding.specs.Decoding.{decoding, DecodeLeft};
-ghost use Rattle.path_list.specs.Listing.{listing as pathListing, DecodeListLeft};
+ghost use Rattle.path_list.specs.Listing.{listing as path_listing, DecodeListLeft};
 ghost use Rattle.text_buffer.specs.Listing.{listing, ListingLeft};
 ghost use Rattle.sheet_records.specs.Sheet.{sheet};
 
 pub use answers::decode::Decoded;
-pub use answers::decode_list::DecodedList;
+pub use answers::decode_list::Decoded_list;
 pub use answers::listing::Listed;
 pub use answers::merge::Merged;
-pub use answers::merge_rows::MergedRows;
-pub use answers::read_back::ReadBack;
-pub use answers::same_section::SameSection;
+pub use answers::merge_rows::Merged_rows;
+pub use answers::read_back::Read_back;
+pub use answers::same_section::Same_section;
 pub use chain::decode;
 pub use chain_list::decode_list;
 pub use comparing::{Comparison, compare as compare_labels};
@@ -56,7 +56,7 @@ pub extern "C" fn link_merge_rows(
     values: &mut [u32; 4],
 ) -> u32
     ensures { MergeRowsLeft
-        (mergingRows bits n rows.now file.old map.old section.old) result
+        (merging_rows bits n rows.now file.old map.old section.old) result
         file.new map.new section.new values.new }
 {
     c_rows::merge_rows_numbered(bits, n, rows, file, map, section, values)
@@ -65,7 +65,7 @@ pub extern "C" fn link_merge_rows(
 // Writes the table file of a section's words into `file`.
 #[unsafe(no_mangle)]
 pub extern "C" fn link_read_back(section: &[u16], file: &mut [u8], values: &mut [u32; 4]) -> u32
-    ensures { ReadBackLeft (readingBack section.now file.old) result file.new values.new }
+    ensures { ReadBackLeft (reading_back section.now file.old) result file.new values.new }
 {
     c_sections::read_back_numbered(section, file, values)
 }
@@ -121,7 +121,7 @@ pub extern "C" fn link_decode_list(
     goals: &mut [u8],
     values: &mut [u32; 4],
 ) -> u32
-    ensures { DecodeListLeft (pathListing
+    ensures { DecodeListLeft (path_listing
         (frame sections.now k indices.now received.now erased.now start end) paths
         costs.old distances.old labels.old goals.old) result
         costs.new distances.new labels.new goals.new values.new }

@@ -1,11 +1,11 @@
 // Faults 13 and 10 of listing paths, and the paths where there is none.
 ghost use Rattle.std.specs.Prelude.{◌≡◌, ℕ};
-ghost use Rattle.answers.specs.Answers.{decodedListOutcome};
+ghost use Rattle.answers.specs.Answers.{decoded_list_outcome};
 ghost use Rattle.frame.specs.Frame.{frame};
-ghost use Rattle.frame.specs.inner.Checked.{Checked};
+ghost use Rattle.frame.specs.Inner.Checked.{Checked};
 ghost use Rattle.path_list.specs.Listing.{left, counted};
 
-use answers::decode_list::DecodedList;
+use answers::decode_list::Decoded_list;
 use numbers::is_within;
 use path_list::list_with;
 use section_file::View;
@@ -28,7 +28,7 @@ pub fn list_blocks(
     goals: &mut [u8],
 ) -> DecodedList
     requires { Checked sections.now starts.now views indices.now received.now erased.now start end }
-    ensures { (k : ℕ) → left (decodedListOutcome result) costs.new distances.new labels.new goals.new
+    ensures { (k : ℕ) → left (decoded_list_outcome result) costs.new distances.new labels.new goals.new
         ≡ counted (frame sections.now k indices.now received.now erased.now start end) paths
         costs.old distances.old labels.old goals.old }
 {

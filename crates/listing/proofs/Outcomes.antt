@@ -11,70 +11,70 @@ use lib.Seq.{length-take-le}
 use lib.Dec.{ltb}
 use borrow.Author.Tests.{lt-ltb, le-ltb}
 use Rattle.trellis.specs.Lists.{over}
-use Rattle.trellis.specs.Outcome.{badLength, success}
-use Rattle.trellis.specs.Bounds.{mostBytes}
-use Rattle.answers.specs.Answers.{mergedOutcome, listedOutcome}
+use Rattle.trellis.specs.Outcome.{bad_length, success}
+use Rattle.trellis.specs.Bounds.{most_bytes}
+use Rattle.answers.specs.Answers.{merged_outcome, listed_outcome}
 use Rattle.answers.specs.declared.merge.Merged.{Merged}
 use Rattle.answers.specs.declared.listing.Listed.{Listed}
 use Rattle.answers.specs.declared.listing.Listed.TheVariants.{Text}
-use Rattle.fields.specs.Fields.{wordCount}
-use Rattle.table.specs.File.{tableFile}
+use Rattle.fields.specs.Fields.{word_count}
+use Rattle.table.specs.File.{table_file}
 use Rattle.merging.specs.Merging.{merging}
-use Rattle.merging.specs.inner.Sizes.{sizing, Measured}
-use Rattle.text.specs.inner.Put.{Put}
-use Rattle.text.proofs.Putting.{front-holds, front-end}
-use Rattle.lines.specs.Text.{refusalLine, fileText, text_of}
+use Rattle.merging.specs.Inner.Sizes.{sizing, Measured}
+use Rattle.text.specs.Inner.Put.{Put}
+use Rattle.text.proofs.Putting.{front_holds, front_end}
+use Rattle.lines.specs.Text.{refusal_line, file_text, text_of}
 use Rattle.text_buffer.proofs.Buffer.{leaves}
-use Rattle.text_buffer.specs.Listing.{Listing, left, inBuffer, listing}
-use Rattle.listing.specs.inner.Made.{textFrom, anyText, TextMade}
-use Rattle.listing.proofs.Room.{anyMap}
-use Rattle.listing.proofs.Short.{text-short}
-use Rattle.listing.proofs.Merged.{measured-text}
+use Rattle.text_buffer.specs.Listing.{Listing, left, in_buffer, listing}
+use Rattle.listing.specs.Inner.Made.{text_from, any_text, TextMade}
+use Rattle.listing.proofs.Room.{any_map}
+use Rattle.listing.proofs.Short.{text_short}
+use Rattle.listing.proofs.Merged.{measured_text}
 
 module _ (file : List ℕ) {old new : List ℕ} {end : ℕ} where
-  pub made-long : mostBytes < length file → Put old 0 (refusalLine (badLength (mostBytes + 1))) new end → TextMade file old new end
+  pub made_long : most_bytes < length file → Put old 0 (refusal_line (bad_length (most_bytes + 1))) new end → TextMade file old new end
   unfolding text_of
-  made-long h p =
-      let e : text_of file ≡ refusalLine (badLength (mostBytes + 1)) = simp (lt-ltb mostBytes (length file) h) in
+  made_long h p =
+      let e : text_of file ≡ refusal_line (bad_length (most_bytes + 1)) = simp (lt-ltb most_bytes (length file) h) in
       record {
         put = subst (λ r. Put old 0 r new end) (sym e) p;
-        short = text-short file;
+        short = text_short file;
       }
 
-  pub made-measured : {r : Merged} {map none sizes : List ℕ} {words x : ℕ} → length file ≤ mostBytes
-      → Measured file (replicate anyMap 0) none r map sizes → x ≡ wordCount file → words ≡ x
-      → Put old 0 (textFrom words (mergedOutcome r) sizes) new end → TextMade file old new end
+  pub made_measured : {r : Merged} {map none sizes : List ℕ} {words x : ℕ} → length file ≤ most_bytes
+      → Measured file (replicate any_map 0) none r map sizes → x ≡ word_count file → words ≡ x
+      → Put old 0 (text_from words (merged_outcome r) sizes) new end → TextMade file old new end
   unfolding text_of
-  made-measured {r} {map} {none} {sizes} {words} {x} h M x-is w-is p =
-      let e : text_of file ≡ fileText (tableFile file) = simp (le-ltb mostBytes (length file) h) in
-      let f : textFrom words (mergedOutcome r) sizes
-      ≡ textFrom (wordCount file) (merging file (replicate anyMap 0) []).answer (sizing file (replicate anyMap 0) none) =
-      ap (λ k. textFrom k (mergedOutcome r) sizes) (w-is ∙ x-is)
-      ∙ ap₂ (λ o l. textFrom (wordCount file) o l) M.answerIs M.sizesAre in
-      let g = measured-text (replicate anyMap 0) none (le_of_eq (sym (length-replicate {A = ℕ} anyMap 0))) file (omega arith) in
-      record { put = subst (λ t. Put old 0 t new end) (f ∙ g ∙ sym e) p; short = text-short file }
+  made_measured {r} {map} {none} {sizes} {words} {x} h M x_is w_is p =
+      let e : text_of file ≡ file_text (table_file file) = simp (le-ltb most_bytes (length file) h) in
+      let f : text_from words (merged_outcome r) sizes
+      ≡ text_from (word_count file) (merging file (replicate any_map 0) []).answer (sizing file (replicate any_map 0) none) =
+      ap (λ k. text_from k (merged_outcome r) sizes) (w_is ∙ x_is)
+      ∙ ap₂ (λ o l. text_from (word_count file) o l) M.answer_is M.sizes_are in
+      let g = measured_text (replicate any_map 0) none (le_of_eq (sym (length-replicate {A = ℕ} any_map 0))) file (omega arith) in
+      record { put = subst (λ t. Put old 0 t new end) (f ∙ g ∙ sym e) p; short = text_short file }
 
 module _ {vs old made : List ℕ} {end : ℕ} (p : Put old 0 vs made end) (fits : length vs ≤ length old) where
-  pub end-inside : end ≤ length made
-  end-inside = omega (arith, p.len, front-end p fits, fits)
+  pub end_inside : end ≤ length made
+  end_inside = omega (arith, p.len, front_end p fits, fits)
 
-  pub end-taken : end ≡ length (take end made)
-  end-taken = sym (length-take-le end made end-inside)
+  pub end_taken : end ≡ length (take end made)
+  end_taken = sym (length-take-le end made end_inside)
 
-  pub taken-whole : (text : List ℕ) → inBuffer (take end made) text ≡ inBuffer vs text
-  taken-whole text = ap (λ t. inBuffer t text) (front-holds p fits)
+  pub taken_whole : (text : List ℕ) → in_buffer (take end made) text ≡ in_buffer vs text
+  taken_whole text = ap (λ t. in_buffer t text) (front_holds p fits)
 
-pub listed : (file text : List ℕ) {old made : List ℕ} {end : ℕ} → TextMade file old made end → anyText ≤ length old → {l : Listing}
-    → l ≡ inBuffer (take end made) text → l ≡ listing file text
+pub listed : (file text : List ℕ) {old made : List ℕ} {end : ℕ} → TextMade file old made end → any_text ≤ length old → {l : Listing}
+    → l ≡ in_buffer (take end made) text → l ≡ listing file text
 unfolding listing
-listed file text M room e = e ∙ taken-whole M.put (omega (arith, M.short)) text
+listed file text M room e = e ∙ taken_whole M.put (omega (arith, M.short)) text
 
 -- what callers know: a text that was written stands in the buffer
-pub written-inside : (made text : List ℕ) {new : List ℕ} {r : Listed} {k : ℕ}
-    → left (listedOutcome r) new ≡ inBuffer made text → r ≡ Text k → k ≤ length new
-unfolding inBuffer
-written-inside made text {new} {r} {k} e f =
-    go (ltb (length text) (length made)) (ap (λ x. left (listedOutcome x) new) (sym f) ∙ e)
+pub written_inside : (made text : List ℕ) {new : List ℕ} {r : Listed} {k : ℕ}
+    → left (listed_outcome r) new ≡ in_buffer made text → r ≡ Text k → k ≤ length new
+unfolding in_buffer
+written_inside made text {new} {r} {k} e f =
+    go (ltb (length text) (length made)) (ap (λ x. left (listed_outcome x) new) (sym f) ∙ e)
   where
     go : (b : Bool) → left (success k) new ≡ leaves made text b → k ≤ length new
     go true e = absurd (omega (arith, ap (λ (m : Listing). m.outcome.number) e))
@@ -83,7 +83,7 @@ written-inside made text {new} {r} {k} e f =
         let n : length new ≡ length (over made text) = ap (λ (m : Listing). length m.text) e in
         omega (arith, length-append made (drop (length made) text))
 
-pub listed-inside : (file text : List ℕ) {new : List ℕ} {r : Listed} {k : ℕ}
-    → left (listedOutcome r) new ≡ listing file text → r ≡ Text k → k ≤ length new
+pub listed_inside : (file text : List ℕ) {new : List ℕ} {r : Listed} {k : ℕ}
+    → left (listed_outcome r) new ≡ listing file text → r ≡ Text k → k ≤ length new
 unfolding listing
-listed-inside file text e f = written-inside (text_of file) text e f
+listed_inside file text e f = written_inside (text_of file) text e f

@@ -8,110 +8,110 @@ use native.Mathlib.Nat.{mul-le-mul, suc-mul}
 use lib.ListN.{length, length-append}
 use lib.Dec.{ltb}
 use borrow.Author.Tests.{ltb-false}
-use Rattle.trellis.specs.Bounds.{mostSymbols, mostWords, mostBytes}
+use Rattle.trellis.specs.Bounds.{most_symbols, most_words, most_bytes}
 use Rattle.trellis.specs.Word.{Word}
 use Rattle.trellis.specs.Witness.{Witness, found, nothing, witness}
-use Rattle.trellis.specs.Outcome.{Outcome, badLength}
+use Rattle.trellis.specs.Outcome.{Outcome, bad_length}
 use Rattle.trellis.specs.Selections.{additions, selections}
-use Rattle.trellis.specs.Layout.{qOf, n_of, statesOf, vertexCountOf, edgeCountOf, edgesBefore, joinedUp, sectionOf}
-use Rattle.trellis.proofs.OwnLaid.{own-q, own-n, own-states}
-use Rattle.table.specs.File.{TableFile, refused, accepted, tableFile}
-use Rattle.table.specs.inner.Good.{GoodFile}
-use Rattle.table.proofs.Accepted.{accepted-good}
+use Rattle.trellis.specs.Layout.{q_of, n_of, states_of, vertex_count_of, edge_count_of, edges_before, joined_up, section_of}
+use Rattle.trellis.proofs.OwnLaid.{own_q, own_n, own_states}
+use Rattle.table.specs.File.{TableFile, refused, accepted, table_file}
+use Rattle.table.specs.Inner.Good.{GoodFile}
+use Rattle.table.proofs.Accepted.{accepted_good}
 use Rattle.text.specs.Line.{line}
-use Rattle.text.specs.inner.Digits.{AllBelow}
-use Rattle.text.proofs.Short.{line-short}
-use Rattle.lines.specs.Text.{sectionWord, depthWord, additionsWord, selectionsWord, refusedWord}
-use Rattle.lines.specs.Text.{entering, depthLine, sums, sizesOf, refusalLine, tableText, fileText, text_of}
-use Rattle.listing.specs.inner.Made.{anyText}
-use Rattle.listing.proofs.Room.{vertices-at, edges_at, edges-all}
-use Rattle.listing.proofs.Refusals.{Small, Refusal, too_long, witness-refusal, file-refusal}
+use Rattle.text.specs.Inner.Digits.{AllBelow}
+use Rattle.text.proofs.Short.{line_short}
+use Rattle.lines.specs.Text.{section_word, depth_word, additions_word, selections_word, refused_word}
+use Rattle.lines.specs.Text.{entering, depth_line, sums, sizes_of, refusal_line, table_text, file_text, text_of}
+use Rattle.listing.specs.Inner.Made.{any_text}
+use Rattle.listing.proofs.Room.{vertices_at, edges_at, edges_all}
+use Rattle.listing.proofs.Refusals.{Small, Refusal, too_long, witness_refusal, file_refusal}
 
 -- ---- the line of a refusal
 
-pub line-of-few : (o : Outcome) → AllBelow 6 (o.number ∷ o.values) → length o.values ≤ 4 → length (refusalLine o) ≤ anyText
-unfolding refusalLine
-line-of-few o small few = omega (arith, line-short 5 refusedWord (o.number ∷ o.values) small, few)
+pub line_of_few : (o : Outcome) → AllBelow 6 (o.number ∷ o.values) → length o.values ≤ 4 → length (refusal_line o) ≤ any_text
+unfolding refusal_line
+line_of_few o small few = omega (arith, line_short 5 refused_word (o.number ∷ o.values) small, few)
 
-refusal-short : {o : Outcome} → Refusal o → length (refusalLine o) ≤ anyText
-refusal-short {o} R = line-of-few o R.small R.few
+refusal_short : {o : Outcome} → Refusal o → length (refusal_line o) ≤ any_text
+refusal_short {o} R = line_of_few o R.small R.few
 
 -- ---- the sizes of a table's section
 
 module _ (file : List ℕ) {q n states : ℕ} {table : List Word} (G : GoodFile file q n states table) where
   abbrev l : List ℕ
-  l = sectionOf q n states table
+  l = section_of q n states table
 
-  entering-small : (t : ℕ) → t ≤ n → entering l t ≤ mostWords
+  entering_small : (t : ℕ) → t ≤ n → entering l t ≤ most_words
   unfolding entering
-  entering-small zero h = omega arith
-  entering-small (suc t) h = edges_at file G t h
+  entering_small zero h = omega arith
+  entering_small (suc t) h = edges_at file G t h
 
-  depths-short : (count : ℕ) → count ≤ suc n → length (joinedUp (depthLine l) count) ≤ count * 27
-  unfolding joinedUp depthLine
-  depths-short zero h = omega arith
-  depths-short (suc count) h =
-      let printed = count ∷ vertexCountOf l count ∷ entering l count ∷ [] in
-      let t : Small count = omega (arith, G.nTo) in
-      let v : Small (vertexCountOf l count) = omega (arith, vertices-at file G count (omega arith)) in
-      let e : Small (entering l count) = omega (arith, entering-small count (omega arith)) in
-      let a : length (depthLine l count) ≤ 27 = line-short 5 depthWord printed (t, (v, (e, tt))) in
-      omega (arith, depths-short count (omega arith), length-append (joinedUp (depthLine l) count) (depthLine l count), suc-mul count 27)
+  depths_short : (count : ℕ) → count ≤ suc n → length (joined_up (depth_line l) count) ≤ count * 27
+  unfolding joined_up depth_line
+  depths_short zero h = omega arith
+  depths_short (suc count) h =
+      let printed = count ∷ vertex_count_of l count ∷ entering l count ∷ [] in
+      let t : Small count = omega (arith, G.n_to) in
+      let v : Small (vertex_count_of l count) = omega (arith, vertices_at file G count (omega arith)) in
+      let e : Small (entering l count) = omega (arith, entering_small count (omega arith)) in
+      let a : length (depth_line l count) ≤ 27 = line_short 5 depth_word printed (t, (v, (e, tt))) in
+      omega (arith, depths_short count (omega arith), length-append (joined_up (depth_line l) count) (depth_line l count), suc-mul count 27)
 
-  all-depths : length (joinedUp (depthLine l) (suc n)) ≤ suc n * 27
-  all-depths = depths-short (suc n) (omega arith)
+  all_depths : length (joined_up (depth_line l) (suc n)) ≤ suc n * 27
+  all_depths = depths_short (suc n) (omega arith)
 
-  pub additions-few : additions (n_of l) (edgeCountOf l) ≤ mostSymbols * mostWords
-  unfolding additions edgesBefore
-  additions-few = subst (λ m. additions m (edgeCountOf l) ≤ mostSymbols * mostWords) (sym (own-n q n states table)) (edges-all file G)
+  pub additions_few : additions (n_of l) (edge_count_of l) ≤ most_symbols * most_words
+  unfolding additions edges_before
+  additions_few = subst (λ m. additions m (edge_count_of l) ≤ most_symbols * most_words) (sym (own_n q n states table)) (edges_all file G)
 
-  pub selections-few : selections (n_of l) (vertexCountOf l) (edgeCountOf l) ≤ mostSymbols * mostWords + mostWords
+  pub selections_few : selections (n_of l) (vertex_count_of l) (edge_count_of l) ≤ most_symbols * most_words + most_words
   unfolding selections
-  selections-few = omega (arith, additions-few, vertices-at file G 0 (omega arith))
+  selections_few = omega (arith, additions_few, vertices_at file G 0 (omega arith))
 
-  sums-short : length (sums l) ≤ 35
+  sums_short : length (sums l) ≤ 35
   unfolding sums
-  sums-short =
-      let E = additions (n_of l) (edgeCountOf l) in
-      let s = selections (n_of l) (vertexCountOf l) (edgeCountOf l) in
-      let a = line-short 5 additionsWord (E ∷ []) (omega (arith, additions-few), tt) in
-      let b = line-short 5 selectionsWord (s ∷ []) (omega (arith, selections-few), tt) in
-      omega (arith, a, b, length-append (line additionsWord (E ∷ [])) (line selectionsWord (s ∷ [])))
+  sums_short =
+      let E = additions (n_of l) (edge_count_of l) in
+      let s = selections (n_of l) (vertex_count_of l) (edge_count_of l) in
+      let a = line_short 5 additions_word (E ∷ []) (omega (arith, additions_few), tt) in
+      let b = line_short 5 selections_word (s ∷ []) (omega (arith, selections_few), tt) in
+      omega (arith, a, b, length-append (line additions_word (E ∷ [])) (line selections_word (s ∷ [])))
 
-  sizes-short : length (sizesOf (length table) l) ≤ anyText
-  unfolding sizesOf
-  sizes-short =
-      let sized = qOf l ∷ n_of l ∷ statesOf l ∷ length table ∷ [] in
-      let depths = joinedUp (depthLine l) (suc (n_of l)) in
-      let e : n_of l ≡ n = own-n q n states table in
-      let a : Small (qOf l) = omega (arith, own-q q n states table, G.qTo) in
-      let b : Small (n_of l) = omega (arith, e, G.nTo) in
-      let c : Small (statesOf l) = omega (arith, own-states q n states table, G.statesTo) in
+  sizes_short : length (sizes_of (length table) l) ≤ any_text
+  unfolding sizes_of
+  sizes_short =
+      let sized = q_of l ∷ n_of l ∷ states_of l ∷ length table ∷ [] in
+      let depths = joined_up (depth_line l) (suc (n_of l)) in
+      let e : n_of l ≡ n = own_n q n states table in
+      let a : Small (q_of l) = omega (arith, own_q q n states table, G.q_to) in
+      let b : Small (n_of l) = omega (arith, e, G.n_to) in
+      let c : Small (states_of l) = omega (arith, own_states q n states table, G.states_to) in
       let w : Small (length table) = omega (arith, G.count_to) in
-      let s = line-short 5 sectionWord sized (a, (b, (c, (w, tt)))) in
-      let d : length depths ≤ suc n * 27 = subst (λ m. length (joinedUp (depthLine l) (suc m)) ≤ suc n * 27) (sym e) all-depths in
-      let nine : suc n * 27 ≤ 9 * 27 = mul-le-mul (let k : suc n ≤ 9 = omega (arith, G.nTo) in k) (let k : 27 ≤ 27 = omega arith in k) in
-      omega (arith, s, d, nine, sums-short, length-append (line sectionWord sized) (depths ++ sums l), length-append depths (sums l))
+      let s = line_short 5 section_word sized (a, (b, (c, (w, tt)))) in
+      let d : length depths ≤ suc n * 27 = subst (λ m. length (joined_up (depth_line l) (suc m)) ≤ suc n * 27) (sym e) all_depths in
+      let nine : suc n * 27 ≤ 9 * 27 = mul-le-mul (let k : suc n ≤ 9 = omega (arith, G.n_to) in k) (let k : 27 ≤ 27 = omega arith in k) in
+      omega (arith, s, d, nine, sums_short, length-append (line section_word sized) (depths ++ sums l), length-append depths (sums l))
 
 -- ---- every text
 
 module _ (file : List ℕ) where
-  table-short : {q n states : ℕ} {table : List Word} → GoodFile file q n states table → (w : Witness) → witness n table ≡ w
-      → length (tableText q n states table w) ≤ anyText
-  unfolding tableText
-  table-short {q} {n} {states} {table} G (found t i j k) e = refusal-short (witness-refusal n table G.nTo G.count_to t i j k e)
-  table-short G nothing e = sizes-short file G
+  table_short : {q n states : ℕ} {table : List Word} → GoodFile file q n states table → (w : Witness) → witness n table ≡ w
+      → length (table_text q n states table w) ≤ any_text
+  unfolding table_text
+  table_short {q} {n} {states} {table} G (found t i j k) e = refusal_short (witness_refusal n table G.n_to G.count_to t i j k e)
+  table_short G nothing e = sizes_short file G
 
-  file-short : Small (length file) → (f : TableFile) → tableFile file ≡ f → length (fileText f) ≤ anyText
-  unfolding fileText
-  file-short h (refused o) e = refusal-short (file-refusal file h e)
-  file-short h (accepted q n states table) e = table-short (accepted-good file e) (witness n table) refl
+  file_short : Small (length file) → (f : TableFile) → table_file file ≡ f → length (file_text f) ≤ any_text
+  unfolding file_text
+  file_short h (refused o) e = refusal_short (file_refusal file h e)
+  file_short h (accepted q n states table) e = table_short (accepted_good file e) (witness n table) refl
 
-  pub text-short : length (text_of file) ≤ anyText
+  pub text_short : length (text_of file) ≤ any_text
   unfolding text_of
-  text-short = go (ltb mostBytes (length file)) refl
+  text_short = go (ltb most_bytes (length file)) refl
     where
-      go : (b : Bool) → ltb mostBytes (length file) ≡ b
-          → length (cond b (refusalLine (badLength (mostBytes + 1))) (fileText (tableFile file))) ≤ anyText
-      go true e = refusal-short too_long
-      go false e = file-short (omega (arith, ltb-false mostBytes (length file) e)) (tableFile file) refl
+      go : (b : Bool) → ltb most_bytes (length file) ≡ b
+          → length (cond b (refusal_line (bad_length (most_bytes + 1))) (file_text (table_file file))) ≤ any_text
+      go true e = refusal_short too_long
+      go false e = file_short (omega (arith, ltb-false most_bytes (length file) e)) (table_file file) refl

@@ -1,2 +1,2 @@
 -- The printed sizes of a table: what a call leaves.
-pub mod inner
+pub mod Inner

@@ -1,10 +1,10 @@
 // The printed sizes of a table: document 01's listing of a table file, or the line of its refusal, as bytes in a lent buffer. The promise
 // is an equation with `listing`, whose text comes from the table alone, with no buffer in it.
 ghost use Rattle.std.specs.Prelude.{◌≡◌};
-ghost use Rattle.answers.specs.Answers.{mergedOutcome, listedOutcome};
-ghost use Rattle.text.specs.inner.Put.{Put};
+ghost use Rattle.answers.specs.Answers.{merged_outcome, listed_outcome};
+ghost use Rattle.text.specs.Inner.Put.{Put};
 ghost use Rattle.text_buffer.specs.Listing.{left, listing};
-ghost use Rattle.listing.specs.inner.Made.{textFrom, TextMade};
+ghost use Rattle.listing.specs.Inner.Made.{text_from, TextMade};
 
 use answers::listing::Listed;
 use answers::merge::Merged;
@@ -26,7 +26,7 @@ pub const ANY_TEXT: usize = 1024;
 
 // Measuring answers a table that has a section by refusal 7: no buffer was lent for it.
 fn put_answer(answer: Merged, words: usize, sizes: &[u16], text: &mut [u8]) -> usize
-    ensures { Put text.old 0 (textFrom words (mergedOutcome answer) sizes.now) text.new result }
+    ensures { Put text.old 0 (text_from words (merged_outcome answer) sizes.now) text.new result }
 {
     let returned = answers::merge::outcome(answer);
     if returned.number == 7 {
@@ -50,7 +50,7 @@ fn put_text(file: &[u8], text: &mut [u8]) -> usize
 
 // Writes the listing of the table in `file`, or the line of its refusal, to the front of `text`.
 pub fn listing(file: &[u8], text: &mut [u8]) -> Listed
-    ensures { left (listedOutcome result) text.new ≡ listing file.now text.old }
+    ensures { left (listed_outcome result) text.new ≡ listing file.now text.old }
 {
     let mut made = [0u8; ANY_TEXT];
     let length = put_text(file, &mut made);

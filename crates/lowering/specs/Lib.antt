@@ -1,2 +1,2 @@
 -- Rows of a sweep.
-pub mod inner
+pub mod Inner

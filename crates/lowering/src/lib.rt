@@ -1,8 +1,8 @@
 // One depth of a sweep: a row cleared, and lowered over the edges of a step.
 ghost use Rattle.std.specs.Prelude.{◌≡◌, ◌+◌, ◌<◌, ◌≤◌, min, length};
-ghost use Rattle.trellis.specs.Bounds.{mostWords};
-ghost use Rattle.paths.specs.inner.Ranked.{topRank};
-ghost use Rattle.lowering.specs.inner.Loops.{Cleared, StepAsked, Lowered};
+ghost use Rattle.trellis.specs.Bounds.{most_words};
+ghost use Rattle.paths.specs.Inner.Ranked.{top_rank};
+ghost use Rattle.lowering.specs.Inner.Loops.{Cleared, StepAsked, Lowered};
 
 use edges::edge_at;
 use paths::TOP_RANK;
@@ -16,8 +16,8 @@ fn lesser(x: u64, y: u64) -> u64
 
 // No path yet from the first vertices of a depth.
 pub fn clear(count: usize, row: &mut [u64; MOST_WORDS])
-    requires { (count ≤ mostWords) × (length row.old ≡ mostWords) }
-    ensures { Cleared mostWords topRank row.new count }
+    requires { (count ≤ most_words) × (length row.old ≡ most_words) }
+    ensures { Cleared most_words top_rank row.new count }
 {
     let mut v: usize = 0;
     while v < count {

@@ -1,2 +1,2 @@
 -- The masks of a path.
-pub mod inner
+pub mod Inner

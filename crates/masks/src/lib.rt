@@ -1,6 +1,6 @@
 // The masks of a path's words: for each block the unerased symbols in which its word differs from what was received.
 ghost use Rattle.std.specs.Prelude.{◌+◌, ◌<◌, length};
-ghost use Rattle.masks.specs.inner.Masks.{MasksAsked, MasksPut};
+ghost use Rattle.masks.specs.Inner.Masks.{MasksAsked, MasksPut};
 
 // The masks of a path's labels against what was received, one for each received label.
 pub fn put_masks(received: &[u16], erased: &[u8], labels: &[u16], masks: &mut [u8])

@@ -14,30 +14,30 @@ use borrow.Author.Tests.{lt-ltb, le-ltb}
 use Rattle.trellis.specs.Lists.{◌∈◌, Once, each, first}
 use Rattle.trellis.specs.Own.{Edge}
 use Rattle.trellis.proofs.Bools.{eqb_of}
-use Rattle.trellis.proofs.ThreeNumbers.{sameEdge}
-use Rattle.trellis.proofs.Lists.{of-each, in-each, length_run, First, first-ok}
-use Rattle.trellis.proofs.OwnDrawn.{once-each}
-use Rattle.trellis.proofs.Distinct.{Known, look, once-le}
-use Rattle.trellis.proofs.Paths.{edge-ok, edge-rf}
-use Rattle.section_file.specs.inner.Sound.{Hit}
-use Rattle.section_file.proofs.Seen.{rising-from}
+use Rattle.trellis.proofs.ThreeNumbers.{same_edge}
+use Rattle.trellis.proofs.Lists.{of_each, in_each, length_run, First, first_ok}
+use Rattle.trellis.proofs.OwnDrawn.{once_each}
+use Rattle.trellis.proofs.Distinct.{Known, look, once_le}
+use Rattle.trellis.proofs.Paths.{edge_ok, edge_rf}
+use Rattle.section_file.specs.Inner.Sound.{Hit}
+use Rattle.section_file.proofs.Seen.{rising_from}
 
 -- ---- no more than they are met from
 
-pub met-by-fewer : (f : ℕ → ℕ) (count more : ℕ) → ((w : ℕ) → w < more → Hit f count w) → more ≤ count
-met-by-fewer f count more h =
+pub met_by_fewer : (f : ℕ → ℕ) (count more : ℕ) → ((w : ℕ) → w < more → Hit f count w) → more ≤ count
+met_by_fewer f count more h =
     let p : length (each (λ v. v) more) ≤ length (each f count) =
-    once-le eqb eqb→eq eqb_refl (each (λ v. v) more) (each f count) (once-each more) inside in
+    once_le eqb eqb→eq eqb_refl (each (λ v. v) more) (each f count) (once_each more) inside in
     omega (arith, p, length_run (λ v. v) 0 more, length_run f 0 count)
   where
     inside : (w : ℕ) → w ∈ each (λ v. v) more → w ∈ each f count
     inside w m =
-        let F = of-each (λ v. v) more w m in
+        let F = of_each (λ v. v) more w m in
         let H = h w (omega (arith, F.is, F.below)) in
-        in-each f count H.at w H.below (sym H.is)
+        in_each f count H.at w H.below (sym H.is)
 
-pub edges-by-fewer : (f : Edge → Edge) (l m : List Edge) → Once m → ((e : Edge) → e ∈ m → e ∈ map f l) → length m ≤ length l
-edges-by-fewer f l m o h = omega (arith, once-le sameEdge edge-ok edge-rf m (map f l) o h, length-map l f)
+pub edges_by_fewer : (f : Edge → Edge) (l m : List Edge) → Once m → ((e : Edge) → e ∈ m → e ∈ map f l) → length m ≤ length l
+edges_by_fewer f l m o h = omega (arith, once_le same_edge edge_ok edge_rf m (map f l) o h, length-map l f)
 
 -- ---- as many as they are met from
 
@@ -45,69 +45,69 @@ edges-by-fewer f l m o h = omega (arith, once-le sameEdge edge-ok edge-rf m (map
 abbrev without : ℕ → (ℕ → ℕ) → ℕ → ℕ
 without v f k = cond (ltb k v) (f k) (f (suc k))
 
-without-before : (v : ℕ) (f : ℕ → ℕ) (k : ℕ) → k < v → without v f k ≡ f k
-without-before v f k h = let e = lt-ltb k v h in rw e
+without_before : (v : ℕ) (f : ℕ → ℕ) (k : ℕ) → k < v → without v f k ≡ f k
+without_before v f k h = let e = lt-ltb k v h in rw e
 
-without-after : (v : ℕ) (f : ℕ → ℕ) (k : ℕ) → v ≤ k → without v f k ≡ f (suc k)
-without-after v f k h = let e = le-ltb k v h in rw e
+without_after : (v : ℕ) (f : ℕ → ℕ) (k : ℕ) → v ≤ k → without v f k ≡ f (suc k)
+without_after v f k h = let e = le-ltb k v h in rw e
 
 -- a map from the numbers below a count onto the numbers below the same count
 module _ (f : ℕ → ℕ) (count : ℕ) (h : (w : ℕ) → w < count → Hit f count w) where
   -- of two that it takes to one, the later could be left out, and all would still be met, by too few
-  no-two : (u v : ℕ) → u < v → v < count → f u ≡ f v → ⊥
-  no-two u v l b e =
-      let p : count ≤ count - 1 = met-by-fewer (without v f) (count - 1) count (λ w c. other w (h w c)) in
+  no_two : (u v : ℕ) → u < v → v < count → f u ≡ f v → ⊥
+  no_two u v l b e =
+      let p : count ≤ count - 1 = met_by_fewer (without v f) (count - 1) count (λ w c. other w (h w c)) in
       omega arith
     where
       other : (w : ℕ) → Hit f count w → Hit (without v f) (count - 1) w
       other w H = go (dec_lt H.at v) (dec_lt v H.at)
         where
           go : Dec (H.at < v) → Dec (v < H.at) → Hit (without v f) (count - 1) w
-          go (yes i) k = record { at = H.at; below = omega arith; is = without-before v f H.at i ∙ H.is }
+          go (yes i) k = record { at = H.at; below = omega arith; is = without_before v f H.at i ∙ H.is }
           go (no i) (yes k) =
               let c = H.below in
               let d : suc (H.at - 1) ≡ H.at = omega arith in
-              record { at = H.at - 1; below = omega arith; is = without-after v f (H.at - 1) (omega arith) ∙ ap f d ∙ H.is }
+              record { at = H.at - 1; below = omega arith; is = without_after v f (H.at - 1) (omega arith) ∙ ap f d ∙ H.is }
           go (no i) (no k) =
               let d : v ≡ H.at = omega arith in
-              record { at = u; below = omega arith; is = without-before v f u l ∙ e ∙ ap f d ∙ H.is }
+              record { at = u; below = omega arith; is = without_before v f u l ∙ e ∙ ap f d ∙ H.is }
 
   -- so it takes no two to one
-  pub onto-apart : (u v : ℕ) → u < count → v < count → f u ≡ f v → u ≡ v
-  onto-apart u v a b e = go (dec_lt u v) (dec_lt v u)
+  pub onto_apart : (u v : ℕ) → u < count → v < count → f u ≡ f v → u ≡ v
+  onto_apart u v a b e = go (dec_lt u v) (dec_lt v u)
     where
       go : Dec (u < v) → Dec (v < u) → u ≡ v
-      go (yes i) k = absurd (no-two u v i b e)
-      go (no i) (yes k) = absurd (no-two v u k a (sym e))
+      go (yes i) k = absurd (no_two u v i b e)
+      go (no i) (yes k) = absurd (no_two v u k a (sym e))
       go (no i) (no k) = omega arith
 
 -- edges without repeats that all stand in a list no longer than they are: they are all of that list's
-pub edges-all : (l m : List Edge) → Once l → ((e : Edge) → e ∈ l → e ∈ m) → length m ≤ length l → (e : Edge) → e ∈ m → e ∈ l
-edges-all l m o h c e k = go (look sameEdge edge-ok edge-rf e l)
+pub edges_all : (l m : List Edge) → Once l → ((e : Edge) → e ∈ l → e ∈ m) → length m ≤ length l → (e : Edge) → e ∈ m → e ∈ l
+edges_all l m o h c e k = go (look same_edge edge_ok edge_rf e l)
   where
     inside : (x : Edge) → x ∈ e ∷ l → x ∈ m
     inside x j = elim (Memᴰ.cases_cons j) [ inl p ↦ Memᴰ.cast p k | inr u ↦ h x u ]
 
-    go : Known sameEdge e l → e ∈ l
+    go : Known same_edge e l → e ∈ l
     go (inr s) = s.seen
     go (inl f) =
-        let p : length (e ∷ l) ≤ length m = once-le sameEdge edge-ok edge-rf (e ∷ l) m (f.never, o) inside in
+        let p : length (e ∷ l) ≤ length m = once_le same_edge edge_ok edge_rf (e ∷ l) m (f.never, o) inside in
         absurd (omega arith)
 
 -- ---- the way back
 
 -- the first number below count that f takes to w
-unfoldable pub backOf : (ℕ → ℕ) → ℕ → ℕ → ℕ
-backOf f count w = first (λ v. eqb (f v) w) count
+unfoldable pub back_of : (ℕ → ℕ) → ℕ → ℕ → ℕ
+back_of f count w = first (λ v. eqb (f v) w) count
 
 -- where f takes some number to w, it takes this one there
 pub record Back (f : ℕ → ℕ) (count w : ℕ) : Type 0 where
-  pub below : backOf f count w < count
-  pub is : f (backOf f count w) ≡ w
+  pub below : back_of f count w < count
+  pub is : f (back_of f count w) ≡ w
 
 pub goes_back : {f : ℕ → ℕ} {count w : ℕ} → Hit f count w → Back f count w
-unfolding backOf
-goes_back {f} {count} {w} H = go (first-ok (λ v. eqb (f v) w) count) (dec_lt (first (λ v. eqb (f v) w) count) count)
+unfolding back_of
+goes_back {f} {count} {w} H = go (first_ok (λ v. eqb (f v) w) count) (dec_lt (first (λ v. eqb (f v) w) count) count)
   where
     go : First (λ v. eqb (f v) w) count (first (λ v. eqb (f v) w) count) → Dec (first (λ v. eqb (f v) w) count < count) → Back f count w
     go F (yes b) = record { below = b; is = eqb→eq _ _ (F.hit b) }
@@ -121,8 +121,8 @@ pub record Rises (f : ℕ → ℕ) (count : ℕ) : Type 0 where
 
 -- p v is the state of vertex v here, q w of vertex w there
 module _ {p q : ℕ → ℕ} {count more : ℕ} (P : Rises p count) (Q : Rises q more) (f : ℕ → ℕ) where
-  keeps-rising : ((v : ℕ) → v < count → f v < more) → ((v : ℕ) → v < count → q (f v) ≡ p v) → Rises f count
-  keeps-rising low keep = record { ascend = λ u v h b. go u v h b (dec_lt (f u) (f v)) (dec_lt (f v) (f u)) }
+  keeps_rising : ((v : ℕ) → v < count → f v < more) → ((v : ℕ) → v < count → q (f v) ≡ p v) → Rises f count
+  keeps_rising low keep = record { ascend = λ u v h b. go u v h b (dec_lt (f u) (f v)) (dec_lt (f v) (f u)) }
     where
       go : (u v : ℕ) → u < v → v < count → Dec (f u < f v) → Dec (f v < f u) → f u < f v
       go u v h b (yes d) k = d
@@ -140,6 +140,6 @@ pub record Keeps (p q : ℕ → ℕ) (count more : ℕ) (f : ℕ → ℕ) : Type
 pub stays : {p q : ℕ → ℕ} {count more : ℕ} → Rises p count → Rises q more → (f g : ℕ → ℕ) → Keeps p q count more f → Keeps q p more count g
     → ((v : ℕ) → v < count → g (f v) ≡ v) → (v : ℕ) → v < count → f v ≡ v
 stays P Q f g F G back v h =
-    let a = rising-from f _ (keeps-rising P Q f F.low F.keep).ascend v h in
-    let b = rising-from g _ (keeps-rising Q P g G.low G.keep).ascend (f v) (F.low v h) in
+    let a = rising_from f _ (keeps_rising P Q f F.low F.keep).ascend v h in
+    let b = rising_from g _ (keeps_rising Q P g G.low G.keep).ascend (f v) (F.low v h) in
     omega (arith, a, b, back v h)

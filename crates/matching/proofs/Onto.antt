@@ -13,19 +13,19 @@ use native.Mathlib.Decide.{dec_lt}
 use lib.ListN.{length, length-map}
 use Rattle.trellis.specs.Lists.{◌∈◌, Once}
 use Rattle.trellis.specs.Word.{Word}
-use Rattle.trellis.specs.Own.{Edge, edge, edgeLess}
-use Rattle.trellis.specs.Layout.{n_of, vertexCountOf, edgeCountOf, goalState, stepEdges, sectionWords}
-use Rattle.trellis.proofs.Ascending.{once-of}
-use Rattle.trellis.proofs.Distinct.{once-map}
-use Rattle.trellis.proofs.Paths.{edge-eq, edges-order}
-use Rattle.section_file.specs.inner.Sound.{Hit, Sound}
-use Rattle.section_file.proofs.Words.{steps-ascend}
+use Rattle.trellis.specs.Own.{Edge, edge, edge_less}
+use Rattle.trellis.specs.Layout.{n_of, vertex_count_of, edge_count_of, goal_state, step_edges, section_words}
+use Rattle.trellis.proofs.Ascending.{once_of}
+use Rattle.trellis.proofs.Distinct.{once_map}
+use Rattle.trellis.proofs.Paths.{edge_eq, edges_order}
+use Rattle.section_file.specs.Inner.Sound.{Hit, Sound}
+use Rattle.section_file.proofs.Words.{steps_ascend}
 use Rattle.matching.specs.Matching.{Carrying, carried}
 use Rattle.matching.proofs.Routes.{Shape, Neat}
 use Rattle.matching.proofs.Matches.{Carries}
-use Rattle.matching.proofs.Sections.{shape_of, edges-long, neat}
-use Rattle.matching.proofs.Counting.{onto-apart, edges-all, backOf, goes_back}
-use Rattle.matching.proofs.Carried.{carried-words}
+use Rattle.matching.proofs.Sections.{shape_of, edges_long, neat}
+use Rattle.matching.proofs.Counting.{onto_apart, edges_all, back_of, goes_back}
+use Rattle.matching.proofs.Carried.{carried_words}
 
 -- E has as many vertices at each depth as D and no more edges at each step, and no edge of D stands twice
 record AsMany (n : ℕ) (D E : Shape) : Type 0 where
@@ -48,25 +48,25 @@ record Source (D : Shape) (f : ℕ → ℕ → ℕ) (t : ℕ) (e : Edge) : Type 
 module _ {n : ℕ} {D E : Shape} (N : Neat n D) (M : Neat n E) {f : ℕ → ℕ → ℕ} (K : Carries n D E f) (C : AsMany n D E) where
   -- ---- one step
 
-  ends-apart : (t : ℕ) → t < n → (d e : Edge) → d ∈ D.edges t → e ∈ D.edges t → d.from ≡ e.from → d.symbol ≡ e.symbol
+  ends_apart : (t : ℕ) → t < n → (d e : Edge) → d ∈ D.edges t → e ∈ D.edges t → d.from ≡ e.from → d.symbol ≡ e.symbol
       → f (suc t) d.to ≡ f (suc t) e.to → d.to ≡ e.to
-  ends-apart t h d e m k p q r = go (dec_lt (suc t) n)
+  ends_apart t h d e m k p q r = go (dec_lt (suc t) n)
     where
       go : Dec (suc t < n) → d.to ≡ e.to
       go (yes i) = N.forward t d.from d.symbol d.to e.to i m (Memᴰ.cast (λ j. edge (p j) (q j) e.to) k)
       go (no i) =
           let s : suc t ≡ n = omega arith in
-          let a : d.to < D.count n = subst (λ u. d.to < D.count u) s (N.toLow t h d m) in
-          let b : e.to < D.count n = subst (λ u. e.to < D.count u) s (N.toLow t h e k) in
+          let a : d.to < D.count n = subst (λ u. d.to < D.count u) s (N.to_low t h d m) in
+          let b : e.to < D.count n = subst (λ u. e.to < D.count u) s (N.to_low t h e k) in
           let g : f n d.to ≡ f n e.to = subst (λ u. f u d.to ≡ f u e.to) s r in
-          N.goalsOne d.to e.to a b (sym (K.goals d.to a) ∙ ap E.goalOf g ∙ K.goals e.to b)
+          N.goals_one d.to e.to a b (sym (K.goals d.to a) ∙ ap E.goal_of g ∙ K.goals e.to b)
 
-  edges-apart : (t : ℕ) → t < n → Apart (f t) (D.count t) → (d e : Edge) → d ∈ D.edges t → e ∈ D.edges t
+  edges_apart : (t : ℕ) → t < n → Apart (f t) (D.count t) → (d e : Edge) → d ∈ D.edges t → e ∈ D.edges t
       → carried f t d ≡ carried f t e → d ≡ e
-  edges-apart t h A d e m k c =
-      let p = A.one d.from e.from (N.fromLow t h d m) (N.fromLow t h e k) (ap (λ (x : Edge). x.from) c) in
+  edges_apart t h A d e m k c =
+      let p = A.one d.from e.from (N.from_low t h d m) (N.from_low t h e k) (ap (λ (x : Edge). x.from) c) in
       let q : d.symbol ≡ e.symbol = ap (λ (x : Edge). x.symbol) c in
-      edge-eq p q (ends-apart t h d e m k p q (ap (λ (x : Edge). x.to) c))
+      edge_eq p q (ends_apart t h d e m k p q (ap (λ (x : Edge). x.to) c))
 
   -- every edge there is a carried one
   source : (t : ℕ) → t < n → Apart (f t) (D.count t) → (e : Edge) → e ∈ E.edges t → Source D f t e
@@ -86,35 +86,35 @@ module _ {n : ℕ} {D E : Shape} (N : Neat n D) (M : Neat n E) {f : ℕ → ℕ 
           Memᴰ.cast (sym z.2) (K.edges t z.0.from z.0.symbol z.0.to h z.1)
 
       listed : e ∈ map (carried f t) (D.edges t)
-      listed = edges-all (map (carried f t) (D.edges t)) (E.edges t)
-          (once-map (carried f t) (D.edges t) (C.once t h) (edges-apart t h A)) there
+      listed = edges_all (map (carried f t) (D.edges t)) (E.edges t)
+          (once_map (carried f t) (D.edges t) (C.once t h) (edges_apart t h A)) there
           (omega (arith, C.edges t h, length-map (D.edges t) (carried f t))) e m
 
   met_next : (t w : ℕ) → t < n → Apart (f t) (D.count t) → w < E.count (suc t) → Hit (f (suc t)) (D.count (suc t)) w
   met_next t w h A b =
       let L = M.inward t w h b in
       let S = source t h A (edge L.from L.by w) L.listed in
-      record { at = S.this.to; below = N.toLow t h S.this S.listed; is = S.to }
+      record { at = S.this.to; below = N.to_low t h S.this S.listed; is = S.to }
 
   -- ---- all depths
 
   apart : (t : ℕ) → t ≤ n → Apart (f t) (D.count t)
-  apart zero h = record { one = λ u v a b e. N.rootsOne u v a b (sym (K.roots u a) ∙ ap E.rootOf e ∙ K.roots v b) }
+  apart zero h = record { one = λ u v a b e. N.roots_one u v a b (sym (K.roots u a) ∙ ap E.root_of e ∙ K.roots v b) }
   apart (suc t) h =
       let A = apart t (omega arith) in
-      record { one = onto-apart (f (suc t)) (D.count (suc t)) (λ w b. met_next t w h A (omega (arith, C.vertices (suc t) h))) }
+      record { one = onto_apart (f (suc t)) (D.count (suc t)) (λ w b. met_next t w h A (omega (arith, C.vertices (suc t) h))) }
 
   met : (t w : ℕ) → t ≤ n → w < E.count t → Hit (f t) (D.count t) w
   met zero w h b =
       let L = M.onward 0 w M.some b in
       let S = source 0 M.some (apart 0 h) (edge w L.by L.to) L.listed in
-      record { at = S.this.from; below = N.fromLow 0 M.some S.this S.listed; is = S.from }
+      record { at = S.this.from; below = N.from_low 0 M.some S.this S.listed; is = S.from }
   met (suc t) w h b = met_next t w h (apart t (omega arith)) b
 
   -- ---- the way back
 
   abbrev back : ℕ → ℕ → ℕ
-  back t = backOf (f t) (D.count t)
+  back t = back_of (f t) (D.count t)
 
   back_low : (t w : ℕ) → t ≤ n → w < E.count t → back t w < D.count t
   back_low t w h b = (goes_back (met t w h b)).below
@@ -122,37 +122,37 @@ module _ {n : ℕ} {D E : Shape} (N : Neat n D) (M : Neat n E) {f : ℕ → ℕ 
   back_is : (t w : ℕ) → t ≤ n → w < E.count t → f t (back t w) ≡ w
   back_is t w h b = (goes_back (met t w h b)).is
 
-  back-root : (w : ℕ) → w < E.count 0 → D.rootOf (back 0 w) ≡ E.rootOf w
-  back-root w b = sym (K.roots (back 0 w) (back_low 0 w (omega arith) b)) ∙ ap E.rootOf (back_is 0 w (omega arith) b)
+  back_root : (w : ℕ) → w < E.count 0 → D.root_of (back 0 w) ≡ E.root_of w
+  back_root w b = sym (K.roots (back 0 w) (back_low 0 w (omega arith) b)) ∙ ap E.root_of (back_is 0 w (omega arith) b)
 
-  back-goal : (w : ℕ) → w < E.count n → D.goalOf (back n w) ≡ E.goalOf w
-  back-goal w b = sym (K.goals (back n w) (back_low n w (omega arith) b)) ∙ ap E.goalOf (back_is n w (omega arith) b)
+  back_goal : (w : ℕ) → w < E.count n → D.goal_of (back n w) ≡ E.goal_of w
+  back_goal w b = sym (K.goals (back n w) (back_low n w (omega arith) b)) ∙ ap E.goal_of (back_is n w (omega arith) b)
 
-  back-edge : (t x a y : ℕ) → t < n → edge x a y ∈ E.edges t → edge (back t x) a (back (suc t) y) ∈ D.edges t
-  back-edge t x a y h m = by (source t h (apart t (omega arith)) (edge x a y) m)
+  back_edge : (t x a y : ℕ) → t < n → edge x a y ∈ E.edges t → edge (back t x) a (back (suc t) y) ∈ D.edges t
+  back_edge t x a y h m = by (source t h (apart t (omega arith)) (edge x a y) m)
     where
       by : Source D f t (edge x a y) → edge (back t x) a (back (suc t) y) ∈ D.edges t
       by S =
-          let i = M.fromLow t h (edge x a y) m in
-          let j = M.toLow t h (edge x a y) m in
+          let i = M.from_low t h (edge x a y) m in
+          let j = M.to_low t h (edge x a y) m in
           let p : back t x ≡ S.this.from = (apart t (omega arith)).one (back t x) S.this.from (back_low t x (omega arith) i)
-          (N.fromLow t h S.this S.listed) (back_is t x (omega arith) i ∙ sym S.from) in
+          (N.from_low t h S.this S.listed) (back_is t x (omega arith) i ∙ sym S.from) in
           let q : back (suc t) y ≡ S.this.to = (apart (suc t) h).one (back (suc t) y) S.this.to (back_low (suc t) y h j)
-          (N.toLow t h S.this S.listed) (back_is (suc t) y h j ∙ sym S.to) in
+          (N.to_low t h S.this S.listed) (back_is (suc t) y h j ∙ sym S.to) in
           Memᴰ.cast (λ k. edge (p k) (sym S.symbol k) (q k)) S.listed
 
 -- ---- two usable sections
 
 pub words_back : {l m : List ℕ} {f : ℕ → ℕ → ℕ} → Sound l → Sound m → n_of m ≡ n_of l
-    → ((t : ℕ) → t ≤ n_of l → vertexCountOf m t ≡ vertexCountOf l t)
-    → ((t : ℕ) → t < n_of l → edgeCountOf m t ≡ edgeCountOf l t)
-    → Carrying l m f → (w : Word) → w ∈ sectionWords m → w ∈ sectionWords l
-words_back {l} {m} {f} s r e vertices edges F = carried-words r s (sym e) (record {
+    → ((t : ℕ) → t ≤ n_of l → vertex_count_of m t ≡ vertex_count_of l t)
+    → ((t : ℕ) → t < n_of l → edge_count_of m t ≡ edge_count_of l t)
+    → Carrying l m f → (w : Word) → w ∈ section_words m → w ∈ section_words l
+words_back {l} {m} {f} s r e vertices edges F = carried_words r s (sym e) (record {
   vertices = λ t w h b. back_low N M K C t w (omega arith) b;
-  roots = back-root N M K C;
-  goals = subst (λ k. (w : ℕ) → w < vertexCountOf m k → goalState l (backOf (f k) (vertexCountOf l k) w) ≡ goalState m w) (sym e)
-      (back-goal N M K C);
-  edges = λ t x a y h k. back-edge N M K C t x a y (omega arith) k;
+  roots = back_root N M K C;
+  goals = subst (λ k. (w : ℕ) → w < vertex_count_of m k → goal_state l (back_of (f k) (vertex_count_of l k) w) ≡ goal_state m w) (sym e)
+      (back_goal N M K C);
+  edges = λ t x a y h k. back_edge N M K C t x a y (omega arith) k;
 })
   where
     N : Neat (n_of l) (shape_of l)
@@ -167,6 +167,6 @@ words_back {l} {m} {f} s r e vertices edges F = carried-words r s (sym e) (recor
     C : AsMany (n_of l) (shape_of l) (shape_of m)
     C = record {
       vertices = vertices;
-      edges = λ t h. omega (arith, edges t h, edges-long l t, edges-long m t);
-      once = λ t h. once-of edgeLess edges-order (stepEdges l t) (steps-ascend s t h);
+      edges = λ t h. omega (arith, edges t h, edges_long l t, edges_long m t);
+      once = λ t h. once_of edge_less edges_order (step_edges l t) (steps_ascend s t h);
     }

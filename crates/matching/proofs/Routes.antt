@@ -17,8 +17,8 @@ use Rattle.trellis.specs.Own.{Edge, edge}
 pub record Shape : Type 0 where
   pub count : ℕ → ℕ
   pub edges : ℕ → List Edge
-  pub rootOf : ℕ → ℕ
-  pub goalOf : ℕ → ℕ
+  pub root_of : ℕ → ℕ
+  pub goal_of : ℕ → ℕ
 
 -- x and a go along edges from depth low to depth high
 pub record Goes (D : Shape) (low high : ℕ) (x a : ℕ → ℕ) : Type 0 where
@@ -37,14 +37,14 @@ pub record Entering (D : Shape) (t v : ℕ) : Type 0 where
 -- what a usable section has
 pub record Neat (n : ℕ) (D : Shape) : Type 0 where
   pub some : 0 < n
-  pub fromLow : (t : ℕ) → t < n → (e : Edge) → e ∈ D.edges t → e.from < D.count t
-  pub toLow : (t : ℕ) → t < n → (e : Edge) → e ∈ D.edges t → e.to < D.count (suc t)
+  pub from_low : (t : ℕ) → t < n → (e : Edge) → e ∈ D.edges t → e.from < D.count t
+  pub to_low : (t : ℕ) → t < n → (e : Edge) → e ∈ D.edges t → e.to < D.count (suc t)
   pub onward : (t v : ℕ) → t < n → v < D.count t → Leaving D t v
   pub inward : (t v : ℕ) → t < n → v < D.count (suc t) → Entering D t v
   pub forward : (t x a y z : ℕ) → suc t < n → edge x a y ∈ D.edges t → edge x a z ∈ D.edges t → y ≡ z
   pub backward : (t x y a z : ℕ) → 0 < t → t < n → edge x a z ∈ D.edges t → edge y a z ∈ D.edges t → x ≡ y
-  pub rootsOne : (u v : ℕ) → u < D.count 0 → v < D.count 0 → D.rootOf u ≡ D.rootOf v → u ≡ v
-  pub goalsOne : (u v : ℕ) → u < D.count n → v < D.count n → D.goalOf u ≡ D.goalOf v → u ≡ v
+  pub roots_one : (u v : ℕ) → u < D.count 0 → v < D.count 0 → D.root_of u ≡ D.root_of v → u ≡ v
+  pub goals_one : (u v : ℕ) → u < D.count n → v < D.count n → D.goal_of u ≡ D.goal_of v → u ≡ v
 
 -- ---- cut and joined
 
@@ -52,18 +52,18 @@ pub record Neat (n : ℕ) (D : Shape) : Type 0 where
 abbrev mixed : ℕ → (ℕ → ℕ) → (ℕ → ℕ) → ℕ → ℕ
 mixed t f g u = cond (ltb u t) (f u) (g u)
 
-mixed-before : (t : ℕ) (f g : ℕ → ℕ) (u : ℕ) → u < t → mixed t f g u ≡ f u
-mixed-before t f g u h = let e = lt-ltb u t h in rw e
+mixed_before : (t : ℕ) (f g : ℕ → ℕ) (u : ℕ) → u < t → mixed t f g u ≡ f u
+mixed_before t f g u h = let e = lt-ltb u t h in rw e
 
-mixed-after : (t : ℕ) (f g : ℕ → ℕ) (u : ℕ) → t ≤ u → mixed t f g u ≡ g u
-mixed-after t f g u h = let e = le-ltb u t h in rw e
+mixed_after : (t : ℕ) (f g : ℕ → ℕ) (u : ℕ) → t ≤ u → mixed t f g u ≡ g u
+mixed_after t f g u h = let e = le-ltb u t h in rw e
 
-mixed-to : (t : ℕ) (f g : ℕ → ℕ) → f t ≡ g t → (u : ℕ) → u ≤ t → mixed t f g u ≡ f u
-mixed-to t f g e u h = go (ℕ_discrete u t)
+mixed_to : (t : ℕ) (f g : ℕ → ℕ) → f t ≡ g t → (u : ℕ) → u ≤ t → mixed t f g u ≡ f u
+mixed_to t f g e u h = go (ℕ_discrete u t)
   where
     go : Dec (u ≡ t) → mixed t f g u ≡ f u
-    go (yes d) = mixed-after t f g u (omega arith) ∙ ap g d ∙ sym e ∙ ap f (sym d)
-    go (no d) = mixed-before t f g u (omega arith)
+    go (yes d) = mixed_after t f g u (omega arith) ∙ ap g d ∙ sym e ∙ ap f (sym d)
+    go (no d) = mixed_before t f g u (omega arith)
 
 -- two routes that meet at depth t, the one in front of it and the other behind it
 pub record Spliced (D : Shape) (low t high : ℕ) (x a y b : ℕ → ℕ) : Type 0 where
@@ -93,17 +93,17 @@ module _ {D : Shape} where
     z = mixed t x y;
     c = mixed t a b;
     goes = record { takes = λ u h k. step u h k (dec_lt u t) };
-    before = mixed-to t x y e;
-    after = mixed-after t x y;
-    spells = mixed-before t a b;
-    rest = mixed-after t a b;
+    before = mixed_to t x y e;
+    after = mixed_after t x y;
+    spells = mixed_before t a b;
+    rest = mixed_after t a b;
   }
     where
       step : (u : ℕ) → low ≤ u → u < high → Dec (u < t) → edge (mixed t x y u) (mixed t a b u) (mixed t x y (suc u)) ∈ D.edges u
-      step u h k (yes d) = Memᴰ.cast (λ i. edge (mixed-before t x y u d i) (mixed-before t a b u d i) (mixed-to t x y e (suc u) d i))
+      step u h k (yes d) = Memᴰ.cast (λ i. edge (mixed_before t x y u d i) (mixed_before t a b u d i) (mixed_to t x y e (suc u) d i))
           (P.takes u h d)
-      step u h k (no d) = Memᴰ.cast (λ i. edge (mixed-after t x y u (omega arith) i) (mixed-after t a b u (omega arith) i)
-          (mixed-after t x y (suc u) (omega arith) i)) (Q.takes u (omega arith) k)
+      step u h k (no d) = Memᴰ.cast (λ i. edge (mixed_after t x y u (omega arith) i) (mixed_after t a b u (omega arith) i)
+          (mixed_after t x y (suc u) (omega arith) i)) (Q.takes u (omega arith) k)
 
   pub along : (t : ℕ) (e : Edge) → e ∈ D.edges t → Along D t e
   along t e m = record {
@@ -121,10 +121,10 @@ module _ {D : Shape} where
   }
     where
       here : mixed (suc t) (λ u. e.from) (λ u. e.to) t ≡ e.from
-      here = mixed-before (suc t) (λ u. e.from) (λ u. e.to) t (omega arith)
+      here = mixed_before (suc t) (λ u. e.from) (λ u. e.to) t (omega arith)
 
       there : mixed (suc t) (λ u. e.from) (λ u. e.to) (suc t) ≡ e.to
-      there = mixed-after (suc t) (λ u. e.from) (λ u. e.to) (suc t) (omega arith)
+      there = mixed_after (suc t) (λ u. e.from) (λ u. e.to) (suc t) (omega arith)
 
 -- ---- through a vertex, through an edge
 
@@ -152,18 +152,18 @@ module _ {n : ℕ} {D : Shape} (N : Neat n D) where
       let S = splice R.goes A.goes (R.ends ∙ sym A.starts) in
       record { x = S.z; a = S.c; goes = S.goes; ends = S.after (suc t) (omega arith) ∙ A.ends }
 
-  onward-from : (k t v : ℕ) → t + k ≡ n → v < D.count t → Onward t v
-  onward-from zero t v e h = record { x = λ u. v; a = λ u. 0; goes = record { takes = λ u b c. absurd (omega arith) }; starts = refl }
-  onward-from (suc k) t v e h =
+  onward_from : (k t v : ℕ) → t + k ≡ n → v < D.count t → Onward t v
+  onward_from zero t v e h = record { x = λ u. v; a = λ u. 0; goes = record { takes = λ u b c. absurd (omega arith) }; starts = refl }
+  onward_from (suc k) t v e h =
       let L = N.onward t v (omega arith) h in
-      lead (along t (edge v L.by L.to) L.listed) (onward-from k (suc t) L.to (omega arith)
-      (N.toLow t (omega arith) _ L.listed))
+      lead (along t (edge v L.by L.to) L.listed) (onward_from k (suc t) L.to (omega arith)
+      (N.to_low t (omega arith) _ L.listed))
 
-  inward-to : (t v : ℕ) → t ≤ n → v < D.count t → Inward t v
-  inward-to zero v h b = record { x = λ u. v; a = λ u. 0; goes = record { takes = λ u h k. absurd (not-suc-le-zero k) }; ends = refl }
-  inward-to (suc t) v h b =
+  inward_to : (t v : ℕ) → t ≤ n → v < D.count t → Inward t v
+  inward_to zero v h b = record { x = λ u. v; a = λ u. 0; goes = record { takes = λ u h k. absurd (not-suc-le-zero k) }; ends = refl }
+  inward_to (suc t) v h b =
       let L = N.inward t v h b in
-      close (inward-to t L.from (omega arith) (N.fromLow t h _ L.listed)) (along t (edge L.from L.by v) L.listed)
+      close (inward_to t L.from (omega arith) (N.from_low t h _ L.listed)) (along t (edge L.from L.by v) L.listed)
 
   -- a route from depth 0 to depth n through vertex v of depth t
   pub record Through (t v : ℕ) : Type 0 where
@@ -173,7 +173,7 @@ module _ {n : ℕ} {D : Shape} (N : Neat n D) where
     pub passes : x t ≡ v
 
   pub through : (t v : ℕ) → t ≤ n → v < D.count t → Through t v
-  through t v h b = by (inward-to t v h b) (onward-from (n - t) t v (omega arith) b)
+  through t v h b = by (inward_to t v h b) (onward_from (n - t) t v (omega arith) b)
     where
       by : Inward t v → Onward t v → Through t v
       by I O =
@@ -190,8 +190,8 @@ module _ {n : ℕ} {D : Shape} (N : Neat n D) where
     pub to : x (suc t) ≡ e.to
 
   pub taking : (t : ℕ) (e : Edge) → t < n → e ∈ D.edges t → Taking t e
-  taking t e h m = by (inward-to t e.from (omega arith) (N.fromLow t h e m)) (along t e m)
-      (onward-from (n - suc t) (suc t) e.to (omega arith) (N.toLow t h e m))
+  taking t e h m = by (inward_to t e.from (omega arith) (N.from_low t h e m)) (along t e m)
+      (onward_from (n - suc t) (suc t) e.to (omega arith) (N.to_low t h e m))
     where
       by : Inward t e.from → Along D t e → Onward (suc t) e.to → Taking t e
       by I A O = behind (splice A.goes O.goes (A.ends ∙ sym O.starts))
@@ -215,12 +215,12 @@ module _ {n : ℕ} {D : Shape} (N : Neat n D) where
   stands {x} {a} P t h = go (dec_lt t n)
     where
       go : Dec (t < n) → x t < D.count t
-      go (yes k) = N.fromLow t k _ (P.takes t (omega arith) k)
+      go (yes k) = N.from_low t k _ (P.takes t (omega arith) k)
       go (no k) =
           let s = N.some in
           let b : n - 1 < n = omega arith in
           let e : suc (n - 1) ≡ t = omega arith in
-          subst (λ u. x u < D.count u) e (N.toLow (n - 1) b _ (P.takes (n - 1) (omega arith) b))
+          subst (λ u. x u < D.count u) e (N.to_low (n - 1) b _ (P.takes (n - 1) (omega arith) b))
 
   -- the start and the symbols in front of an inner depth tell the vertex there
   pub same_start : {x a y b : ℕ → ℕ} → Goes D 0 n x a → Goes D 0 n y b → x 0 ≡ y 0 → (t : ℕ) → t < n → ((u : ℕ) → u < t → a u ≡ b u)

@@ -5,48 +5,48 @@ use mathlib.Core.List.{List}
 use Prim.Native.Nat.{ℕ}
 use lib.ListN.{length}
 use Rattle.trellis.specs.Outcome.{Outcome}
-use Rattle.answers.specs.Answers.{mergedOutcome}
+use Rattle.answers.specs.Answers.{merged_outcome}
 use Rattle.answers.specs.declared.merge.Merged.{Merged}
-use Rattle.fields.specs.Fields.{fileWords}
-use Rattle.table.specs.File.{accepted, refused, tableFile, fileOutcome}
-use Rattle.table.specs.inner.Answer.{checkedOutcome, isTable}
+use Rattle.fields.specs.Fields.{file_words}
+use Rattle.table.specs.File.{accepted, refused, table_file, file_outcome}
+use Rattle.table.specs.Inner.Answer.{checked_outcome, is_table}
 use Rattle.table.specs.declared.Checked.{Checked}
 use Rattle.table.specs.declared.Checked.TheVariants.{Table}
-use Rattle.table.proofs.Exactly.{checked-table, checked_refused}
-use Rattle.merging.specs.Merging.{Ends, left, mergedFile, merging, mergedTable}
-use Rattle.merging.specs.inner.Sizes.{sizedTable, sizedFile, sizing, EndsSized}
+use Rattle.table.proofs.Exactly.{checked_table, checked_refused}
+use Rattle.merging.specs.Merging.{Ends, left, merged_file, merging, merged_table}
+use Rattle.merging.specs.Inner.Sizes.{sized_table, sized_file, sizing, EndsSized}
 use Rattle.merging.proofs.LastStage.{ends_by}
 
-pub table-asked : (file : List ℕ) {r : Checked} {q n states count : ℕ} → checkedOutcome r ≡ fileOutcome (tableFile file)
+pub table_asked : (file : List ℕ) {r : Checked} {q n states count : ℕ} → checked_outcome r ≡ file_outcome (table_file file)
     → r ≡ Table q n states count
-    → (tableFile file ≡ accepted q n states (fileWords file)) × (count ≡ length (fileWords file))
-table-asked file e s = checked-table file (ap checkedOutcome (sym s) ∙ e)
+    → (table_file file ≡ accepted q n states (file_words file)) × (count ≡ length (file_words file))
+table_asked file e s = checked_table file (ap checked_outcome (sym s) ∙ e)
 
 module _ (file map section sizes : List ℕ) where
-  left-unchanged : (o : Outcome) → tableFile file ≡ refused o → merging file map section ≡ left o map section
-  unfolding merging mergedFile
-  left-unchanged o e = ap (mergedFile map section) e
+  left_unchanged : (o : Outcome) → table_file file ≡ refused o → merging file map section ≡ left o map section
+  unfolding merging merged_file
+  left_unchanged o e = ap (merged_file map section) e
 
   -- 1 to 4
-  pub ends-refused : (a : Merged) {r x : Checked} → checkedOutcome r ≡ fileOutcome (tableFile file) → r ≡ x → isTable x ≡ false
-      → mergedOutcome a ≡ checkedOutcome x
+  pub ends_refused : (a : Merged) {r x : Checked} → checked_outcome r ≡ file_outcome (table_file file) → r ≡ x → is_table x ≡ false
+      → merged_outcome a ≡ checked_outcome x
       → EndsSized (merging file map section) (sizing file map sizes) a map section sizes
-  unfolding sizing sizedFile
-  ends-refused a {r} {x} e s h o =
-      let refusal = checked_refused file x (ap checkedOutcome (sym s) ∙ e) h in
-      record { ends = ends_by (left-unchanged (checkedOutcome x) refusal) o refl refl; sizesAre = sym (ap (sizedFile map sizes) refusal) }
+  unfolding sizing sized_file
+  ends_refused a {r} {x} e s h o =
+      let refusal = checked_refused file x (ap checked_outcome (sym s) ∙ e) h in
+      record { ends = ends_by (left_unchanged (checked_outcome x) refusal) o refl refl; sizes_are = sym (ap (sized_file map sizes) refusal) }
 
-  by-words : (q n states : ℕ) → tableFile file ≡ accepted q n states (fileWords file)
-      → merging file map section ≡ mergedTable q n states (fileWords file) map section
-  unfolding merging mergedFile
-  by-words q n states e = ap (mergedFile map section) e
+  by_words : (q n states : ℕ) → table_file file ≡ accepted q n states (file_words file)
+      → merging file map section ≡ merged_table q n states (file_words file) map section
+  unfolding merging merged_file
+  by_words q n states e = ap (merged_file map section) e
 
-  pub ends-table : (q n states : ℕ) → tableFile file ≡ accepted q n states (fileWords file) → {a : Merged} {map2 section2 sizes2 : List ℕ}
-      → EndsSized (mergedTable q n states (fileWords file) map section) (sizedTable q n states (fileWords file) map sizes) a map2 section2
+  pub ends_table : (q n states : ℕ) → table_file file ≡ accepted q n states (file_words file) → {a : Merged} {map2 section2 sizes2 : List ℕ}
+      → EndsSized (merged_table q n states (file_words file) map section) (sized_table q n states (file_words file) map sizes) a map2 section2
       sizes2
       → EndsSized (merging file map section) (sizing file map sizes) a map2 section2 sizes2
-  unfolding sizing sizedFile
-  ends-table q n states e {a} {map2} {section2} {sizes2} E = record {
-    ends = subst (λ m. Ends m a map2 section2) (sym (by-words q n states e)) E.ends;
-    sizesAre = E.sizesAre ∙ sym (ap (sizedFile map sizes) e);
+  unfolding sizing sized_file
+  ends_table q n states e {a} {map2} {section2} {sizes2} E = record {
+    ends = subst (λ m. Ends m a map2 section2) (sym (by_words q n states e)) E.ends;
+    sizes_are = E.sizes_are ∙ sym (ap (sized_file map sizes) e);
   }

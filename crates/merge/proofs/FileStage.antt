@@ -8,129 +8,129 @@ use native.Mathlib.Numerals.{add-one}
 use lib.ListN.{length, get_or, take}
 use lib.Seq.{length-take-le, get_or-take, ext_get_or}
 use borrow.Author.Tests.{lt-ltb, le-ltb}
-use Rattle.trellis.specs.Bounds.{mostStates, mostWords}
+use Rattle.trellis.specs.Bounds.{most_states, most_words}
 use Rattle.trellis.specs.Word.{Word, word, word_at, Table}
-use Rattle.trellis.specs.Outcome.{shortMap}
+use Rattle.trellis.specs.Outcome.{short_map}
 use Rattle.trellis.specs.Witness.{witness}
-use Rattle.trellis.proofs.Words.{word_in, word-eq}
+use Rattle.trellis.proofs.Words.{word_in, word_eq}
 use Rattle.answers.specs.declared.merge.Merged.{Merged}
 use Rattle.answers.specs.declared.merge.Merged.TheVariants.{ShortMap}
-use Rattle.fields.specs.Fields.{fileWords}
-use Rattle.table.specs.File.{accepted, tableFile}
-use Rattle.table.specs.inner.Good.{GoodFile}
-use Rattle.table.proofs.Accepted.{accepted-good, good-at}
-use Rattle.depths.specs.inner.Words.{words}
-use Rattle.depths.proofs.Words.{word-is, words-length}
-use Rattle.word_lists.specs.inner.Lists.{WordsHeld, Copied}
-use Rattle.merging.specs.Merging.{mapLength, merged, mergedTable, Ends}
-use Rattle.merging.specs.inner.Sizes.{sizedBy, sizedTable, EndsSized}
+use Rattle.fields.specs.Fields.{file_words}
+use Rattle.table.specs.File.{accepted, table_file}
+use Rattle.table.specs.Inner.Good.{GoodFile}
+use Rattle.table.proofs.Accepted.{accepted_good, good_at}
+use Rattle.depths.specs.Inner.Words.{words}
+use Rattle.depths.proofs.Words.{word_is, words_length}
+use Rattle.word_lists.specs.Inner.Lists.{WordsHeld, Copied}
+use Rattle.merging.specs.Merging.{map_length, merged, merged_table, Ends}
+use Rattle.merging.specs.Inner.Sizes.{sized_by, sized_table, EndsSized}
 use Rattle.merging.proofs.LastStage.{ends_by}
 
 module _ (file : List ℕ) {q n states count : ℕ}
-    (A : (tableFile file ≡ accepted q n states (fileWords file)) × (count ≡ length (fileWords file))) where
-  G : GoodFile file q n states (fileWords file)
-  G = accepted-good file A.0
+    (A : (table_file file ≡ accepted q n states (file_words file)) × (count ≡ length (file_words file))) where
+  G : GoodFile file q n states (file_words file)
+  G = accepted_good file A.0
 
-  pub count-few : count ≤ mostWords
-  count-few = omega (arith, A.1, G.count_to)
+  pub count_few : count ≤ most_words
+  count_few = omega (arith, A.1, G.count_to)
 
-  pub needed-fits : (w : ℕ) → w ≡ count → w * (n + 1) ≤ 9216
-  needed-fits w e =
-      let j : w ≤ mostWords = omega (arith, count-few) in
-      let k : n + 1 ≤ 9 = omega (arith, G.nTo) in
-      let p : w * (n + 1) ≤ mostWords * 9 = mul-le-mul j k in
+  pub needed_fits : (w : ℕ) → w ≡ count → w * (n + 1) ≤ 9216
+  needed_fits w e =
+      let j : w ≤ most_words = omega (arith, count_few) in
+      let k : n + 1 ≤ 9 = omega (arith, G.n_to) in
+      let p : w * (n + 1) ≤ most_words * 9 = mul-le-mul j k in
       omega arith
 
-  needed-is : (w : ℕ) → w ≡ count → w * (n + 1) ≡ mapLength n (fileWords file)
-  needed-is w e = ap (λ k. k * (n + 1)) (e ∙ A.1)
+  needed_is : (w : ℕ) → w ≡ count → w * (n + 1) ≡ map_length n (file_words file)
+  needed_is w e = ap (λ k. k * (n + 1)) (e ∙ A.1)
 
   -- 5
-  pub ends-map : (w : ℕ) (map section sizes : List ℕ) → w ≡ count → length map < w * (n + 1)
-      → EndsSized (mergedTable q n states (fileWords file) map section) (sizedTable q n states (fileWords file) map sizes)
+  pub ends_map : (w : ℕ) (map section sizes : List ℕ) → w ≡ count → length map < w * (n + 1)
+      → EndsSized (merged_table q n states (file_words file) map section) (sized_table q n states (file_words file) map sizes)
       (ShortMap (w * (n + 1))) map section sizes
-  unfolding mergedTable sizedTable
-  ends-map w map section sizes e h =
-      let short = lt-ltb (length map) (mapLength n (fileWords file)) (omega (arith, needed-is w e)) in
-      record { ends = ends_by (simp short) (ap shortMap (needed-is w e)) refl refl; sizesAre = simp short }
+  unfolding merged_table sized_table
+  ends_map w map section sizes e h =
+      let short = lt-ltb (length map) (map_length n (file_words file)) (omega (arith, needed_is w e)) in
+      record { ends = ends_by (simp short) (ap short_map (needed_is w e)) refl refl; sizes_are = simp short }
 
   module _ {roots labels goals : List ℕ} {w : ℕ} (C : Copied file count roots labels goals) (e : w ≡ count) where
-    pub part-roots : w ≤ length roots
-    part-roots = omega (arith, count-few, C.rootPlaces)
+    pub part_roots : w ≤ length roots
+    part_roots = omega (arith, count_few, C.root_places)
 
-    pub part-labels : w ≤ length labels
-    part-labels = omega (arith, count-few, C.labelPlaces)
+    pub part_labels : w ≤ length labels
+    part_labels = omega (arith, count_few, C.label_places)
 
     pub part_goals : w ≤ length goals
-    part_goals = omega (arith, count-few, C.goalPlaces)
+    part_goals = omega (arith, count_few, C.goal_places)
 
-    pub size-roots : w ≡ length (take w roots)
-    size-roots = sym (length-take-le w roots part-roots)
+    pub size_roots : w ≡ length (take w roots)
+    size_roots = sym (length-take-le w roots part_roots)
 
-    pub size-labels : w ≡ length (take w labels)
-    size-labels = sym (length-take-le w labels part-labels)
+    pub size_labels : w ≡ length (take w labels)
+    size_labels = sym (length-take-le w labels part_labels)
 
-    pub size-goals : w ≡ length (take w goals)
-    size-goals = sym (length-take-le w goals part_goals)
+    pub size_goals : w ≡ length (take w goals)
+    size_goals = sym (length-take-le w goals part_goals)
 
-    abbrev held-words : List Word
-    held-words = words (take w roots) (take w labels) (take w goals)
+    abbrev held_words : List Word
+    held_words = words (take w roots) (take w labels) (take w goals)
 
     long : length (words (take w roots) (take w labels) (take w goals)) ≡ w
-    long = words-length (take w roots) (take w labels) (take w goals) (sym size-labels ∙ size-roots) (sym size-goals ∙ size-roots)
-        ∙ sym size-roots
+    long = words_length (take w roots) (take w labels) (take w goals) (sym size_labels ∙ size_roots) (sym size_goals ∙ size_roots)
+        ∙ sym size_roots
 
     -- the lists hold the file's words
-    words_are : words (take w roots) (take w labels) (take w goals) ≡ fileWords file
-    words_are = ext_get_or (word 0 0 0) held-words (fileWords file) (long ∙ e ∙ A.1) (λ i h. same i (omega (arith, long)))
+    words_are : words (take w roots) (take w labels) (take w goals) ≡ file_words file
+    words_are = ext_get_or (word 0 0 0) held_words (file_words file) (long ∙ e ∙ A.1) (λ i h. same i (omega (arith, long)))
       where
-        same : (i : ℕ) → i < w → word_at (words (take w roots) (take w labels) (take w goals)) i ≡ word_at (fileWords file) i
+        same : (i : ℕ) → i < w → word_at (words (take w roots) (take w labels) (take w goals)) i ≡ word_at (file_words file) i
         same i h =
-            word-is (take w roots) (take w labels) (take w goals) i (omega (arith, long))
-            ∙ word-eq (get_or-take w roots i 0 h ∙ C.root i (omega arith)) (get_or-take w labels i 0 h ∙ C.label i (omega arith))
+            word_is (take w roots) (take w labels) (take w goals) i (omega (arith, long))
+            ∙ word_eq (get_or-take w roots i 0 h ∙ C.root i (omega arith)) (get_or-take w labels i 0 h ∙ C.label i (omega arith))
             (get_or-take w goals i 0 h ∙ C.goal i (omega arith))
-            ∙ sym (good-at file G i (omega (arith, A.1)))
+            ∙ sym (good_at file G i (omega (arith, A.1)))
 
-    root-low : (i : ℕ) → i < length (take w roots) → get_or (take w roots) i 0 < mostStates
-    root-low i h =
-        let l : i < w = omega (arith, size-roots) in
-        let k : i < length (fileWords file) = omega (arith, A.1) in
-        let z : get_or (take w roots) i 0 ≡ (word_at (fileWords file) i).root = get_or-take w roots i 0 l ∙ C.root i (omega arith)
-        ∙ sym (ap (λ (x : Word). x.root) (good-at file G i k)) in
-        omega (arith, G.rootsBelow (word_at (fileWords file) i) (word_in (fileWords file) i k), G.statesTo)
+    root_low : (i : ℕ) → i < length (take w roots) → get_or (take w roots) i 0 < most_states
+    root_low i h =
+        let l : i < w = omega (arith, size_roots) in
+        let k : i < length (file_words file) = omega (arith, A.1) in
+        let z : get_or (take w roots) i 0 ≡ (word_at (file_words file) i).root = get_or-take w roots i 0 l ∙ C.root i (omega arith)
+        ∙ sym (ap (λ (x : Word). x.root) (good_at file G i k)) in
+        omega (arith, G.roots_below (word_at (file_words file) i) (word_in (file_words file) i k), G.states_to)
 
-    goal-low : (i : ℕ) → i < length (take w goals) → get_or (take w goals) i 0 < mostStates
-    goal-low i h =
-        let l : i < w = omega (arith, size-goals) in
-        let k : i < length (fileWords file) = omega (arith, A.1) in
-        let z : get_or (take w goals) i 0 ≡ (word_at (fileWords file) i).goal = get_or-take w goals i 0 l ∙ C.goal i (omega arith)
-        ∙ sym (ap (λ (x : Word). x.goal) (good-at file G i k)) in
-        omega (arith, G.goalsBelow (word_at (fileWords file) i) (word_in (fileWords file) i k), G.statesTo)
+    goal_low : (i : ℕ) → i < length (take w goals) → get_or (take w goals) i 0 < most_states
+    goal_low i h =
+        let l : i < w = omega (arith, size_goals) in
+        let k : i < length (file_words file) = omega (arith, A.1) in
+        let z : get_or (take w goals) i 0 ≡ (word_at (file_words file) i).goal = get_or-take w goals i 0 l ∙ C.goal i (omega arith)
+        ∙ sym (ap (λ (x : Word). x.goal) (good_at file G i k)) in
+        omega (arith, G.goals_below (word_at (file_words file) i) (word_in (file_words file) i k), G.states_to)
 
-    pub words-asked : (map : List ℕ) → w * (n + 1) ≤ length map → WordsHeld n (take w roots) (take w labels) (take w goals) map
-    words-asked map room = record {
+    pub words_asked : (map : List ℕ) → w * (n + 1) ≤ length map → WordsHeld n (take w roots) (take w labels) (take w goals) map
+    words_asked map room = record {
       held = record {
-        short = G.nTo;
-        few = omega (arith, size-roots, count-few);
-        labelled = sym size-labels ∙ size-roots;
-        aimed = sym size-goals ∙ size-roots;
+        short = G.n_to;
+        few = omega (arith, size_roots, count_few);
+        labelled = sym size_labels ∙ size_roots;
+        aimed = sym size_goals ∙ size_roots;
         table = subst (Table n) (sym words_are) G.table;
       };
-      fewRoots = record { words = omega (arith, size-roots, count-few); below = root-low };
-      fewGoals = record { words = omega (arith, size-goals, count-few); below = goal-low };
-      some = omega (arith, size-roots, A.1, G.countFrom);
-      room = omega (arith, ap₂ (λ x y. x * y) (add-one n) size-roots, mul_comm w (n + 1));
+      few_roots = record { words = omega (arith, size_roots, count_few); below = root_low };
+      few_goals = record { words = omega (arith, size_goals, count_few); below = goal_low };
+      some = omega (arith, size_roots, A.1, G.count_from);
+      room = omega (arith, ap₂ (λ x y. x * y) (add-one n) size_roots, mul_comm w (n + 1));
     }
 
     pub ends_words : (map section sizes map2 section2 sizes2 : List ℕ) (a : Merged) → w * (n + 1) ≤ length map
-        → EndsSized (merged q n states held-words map section (witness n held-words))
-        (sizedBy q n states held-words sizes (witness n held-words)) a map2 section2 sizes2
-        → EndsSized (mergedTable q n states (fileWords file) map section) (sizedTable q n states (fileWords file) map sizes) a map2 section2
+        → EndsSized (merged q n states held_words map section (witness n held_words))
+        (sized_by q n states held_words sizes (witness n held_words)) a map2 section2 sizes2
+        → EndsSized (merged_table q n states (file_words file) map section) (sized_table q n states (file_words file) map sizes) a map2 section2
         sizes2
-    unfolding mergedTable sizedTable
+    unfolding merged_table sized_table
     ends_words map section sizes map2 section2 sizes2 a room E =
-        let long = le-ltb (length map) (mapLength n (fileWords file)) (omega (arith, needed-is w e)) in
+        let long = le-ltb (length map) (map_length n (file_words file)) (omega (arith, needed_is w e)) in
         record {
           ends = subst (λ m. Ends m a map2 section2)
               (ap (λ t. merged q n states t map section (witness n t)) words_are ∙ sym (simp long)) E.ends;
-          sizesAre = E.sizesAre ∙ ap (λ t. sizedBy q n states t sizes (witness n t)) words_are ∙ sym (simp long);
+          sizes_are = E.sizes_are ∙ ap (λ t. sized_by q n states t sizes (witness n t)) words_are ∙ sym (simp long);
         }

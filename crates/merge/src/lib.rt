@@ -2,11 +2,11 @@
 // arguments, is an equation with one definition, `merging`: the answer with document 01's number and values, and every place of both
 // buffers. Who asks only for the section's sizes has a table measured, with no room for a section.
 ghost use Rattle.std.specs.Prelude.{◌≡◌, ◌+◌, ◌*◌, ◌<◌, ◌≤◌, length};
-ghost use Rattle.fields.specs.Fields.{fileWords};
-ghost use Rattle.table.specs.File.{accepted, tableFile};
-ghost use Rattle.depths.specs.inner.Words.{words};
-ghost use Rattle.merging.specs.Merging.{Ends, merging, mergedTable};
-ghost use Rattle.merging.specs.inner.Sizes.{anySizes, sizedTable, sizing, EndsSized, Measured};
+ghost use Rattle.fields.specs.Fields.{file_words};
+ghost use Rattle.table.specs.File.{accepted, table_file};
+ghost use Rattle.depths.specs.Inner.Words.{words};
+ghost use Rattle.merging.specs.Merging.{Ends, merging, merged_table};
+ghost use Rattle.merging.specs.Inner.Sizes.{any_sizes, sized_table, sizing, EndsSized, Measured};
 
 use answers::merge::Merged;
 use merge_words::merge_words;
@@ -25,10 +25,10 @@ fn merge_table(
     section: &mut [u16],
     sizes: &mut [u16],
 ) -> Merged
-    requires { ((tableFile file.now ≡ accepted q n states (fileWords file.now)) × (count ≡ length (fileWords file.now)))
-        × (anySizes ≤ length sizes.old) }
-    ensures { EndsSized (mergedTable q n states (fileWords file.now) map.old section.old)
-        (sizedTable q n states (fileWords file.now) map.old sizes.old) result
+    requires { ((table_file file.now ≡ accepted q n states (file_words file.now)) × (count ≡ length (file_words file.now)))
+        × (any_sizes ≤ length sizes.old) }
+    ensures { EndsSized (merged_table q n states (file_words file.now) map.old section.old)
+        (sized_table q n states (file_words file.now) map.old sizes.old) result
         map.new section.new sizes.new }
 {
     let w = wide(count);
@@ -56,7 +56,7 @@ fn merge_table(
 
 // A file: refusals 1 to 4, or what its table comes to.
 fn merge_file(file: &[u8], map: &mut [u16], section: &mut [u16], sizes: &mut [u16]) -> Merged
-    requires { anySizes ≤ length sizes.old }
+    requires { any_sizes ≤ length sizes.old }
     ensures { EndsSized (merging file.now map.old section.old)
         (sizing file.now map.old sizes.old) result map.new section.new
         sizes.new }
@@ -87,7 +87,7 @@ pub fn merge(file: &[u8], map: &mut [u16], section: &mut [u16]) -> Merged
 // Measures the table in `file`: the map as in merging, and the section's sizes, but no section. A table that has a section is answered by
 // refusal 7 with its length.
 pub fn measure(file: &[u8], map: &mut [u16], sizes: &mut [u16]) -> Merged
-    requires { anySizes ≤ length sizes.old }
+    requires { any_sizes ≤ length sizes.old }
     ensures { Measured file.now map.old sizes.old result map.new sizes.new }
 {
     let mut none = [0u16; 0];

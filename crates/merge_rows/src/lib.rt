@@ -1,12 +1,12 @@
 // Sections from generator rows: the table of all sums of the rows, its map, and its section, built from a parity check. The promise, for
-// all arguments, is an equation with one definition, `mergingRows`, over the same `written` as merging the table's file: the answer with
+// all arguments, is an equation with one definition, `merging_rows`, over the same `written` as merging the table's file: the answer with
 // document 02's number and values, and every place of the three buffers.
 ghost use Rattle.std.specs.Prelude.{◌≡◌, ◌*◌, ◌+◌};
-ghost use Rattle.answers.specs.Answers.{mergedRowsOutcome};
-ghost use Rattle.merging_rows.specs.MergingRows.{left, mergedRows, mergingRows};
-ghost use Rattle.merging_rows.specs.inner.Stages.{BaseAsked, RowsEnd};
+ghost use Rattle.answers.specs.Answers.{merged_rows_outcome};
+ghost use Rattle.merging_rows.specs.MergingRows.{left, merged_rows, merging_rows};
+ghost use Rattle.merging_rows.specs.Inner.Stages.{BaseAsked, RowsEnd};
 
-use answers::merge_rows::MergedRows;
+use answers::merge_rows::Merged_rows;
 use merging_rows::build;
 use parity::ROW_BITS;
 use row_checks::{first_wide, sizes_fit, words_of};
@@ -22,7 +22,7 @@ fn build_with_room(
     section: &mut [u16],
 ) -> MergedRows
     requires { BaseAsked bits n rows.now columns.now }
-    ensures { RowsEnd (mergedRows bits n rows.now file.old map.old section.old) result
+    ensures { RowsEnd (merged_rows bits n rows.now file.old map.old section.old) result
         file.new map.new section.new }
 {
     let w = words_of(rows.len());
@@ -47,8 +47,8 @@ pub fn merge_rows(
     map: &mut [u16],
     section: &mut [u16],
 ) -> MergedRows
-    ensures { left (mergedRowsOutcome result) file.new map.new section.new
-        ≡ mergingRows bits n rows.now file.old map.old section.old }
+    ensures { left (merged_rows_outcome result) file.new map.new section.new
+        ≡ merging_rows bits n rows.now file.old map.old section.old }
 {
     let count = rows.len();
     if !sizes_fit(bits, n, count) {

@@ -1,10 +1,10 @@
 // Merging of a list of words, which stand in three slices: refusal 6, 7, or success.
 ghost use Rattle.std.specs.Prelude.{◌+◌, ◌≤◌, length};
 ghost use Rattle.trellis.specs.Witness.{witness};
-ghost use Rattle.depths.specs.inner.Words.{words};
-ghost use Rattle.word_lists.specs.inner.Lists.{WordsHeld};
+ghost use Rattle.depths.specs.Inner.Words.{words};
+ghost use Rattle.word_lists.specs.Inner.Lists.{WordsHeld};
 ghost use Rattle.merging.specs.Merging.{merged};
-ghost use Rattle.merging.specs.inner.Sizes.{anySizes, sizedBy, EndsSized};
+ghost use Rattle.merging.specs.Inner.Sizes.{any_sizes, sized_by, EndsSized};
 
 use answers::merge::Merged;
 use merging::finish;
@@ -23,11 +23,11 @@ pub fn merge_words(
     section: &mut [u16],
     sizes: &mut [u16],
 ) -> Merged
-    requires { WordsHeld n roots.now labels.now goals.now map.old × (anySizes ≤ length sizes.old) }
+    requires { WordsHeld n roots.now labels.now goals.now map.old × (any_sizes ≤ length sizes.old) }
     ensures { EndsSized
         (merged q n states (words roots.now labels.now goals.now) map.old
         section.old (witness n (words roots.now labels.now goals.now)))
-        (sizedBy q n states (words roots.now labels.now goals.now) sizes.old
+        (sized_by q n states (words roots.now labels.now goals.now) sizes.old
         (witness n (words roots.now labels.now goals.now))) result map.new section.new
         sizes.new }
 {

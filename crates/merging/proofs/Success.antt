@@ -7,22 +7,22 @@ use lib.ListN.{length}
 use borrow.Author.Tests.{le-ltb}
 use Rattle.trellis.specs.Lists.{over}
 use Rattle.trellis.specs.Word.{Word}
-use Rattle.trellis.specs.Layout.{sectionOf}
+use Rattle.trellis.specs.Layout.{section_of}
 use Rattle.trellis.specs.Witness.{nothing, witness}
 use Rattle.trellis.specs.Outcome.{success}
-use Rattle.table.specs.File.{accepted, tableFile}
-use Rattle.merging.specs.Merging.{left, mapOf, mapLength, written, merged, mergedTable, mergedFile, merging}
+use Rattle.table.specs.File.{accepted, table_file}
+use Rattle.merging.specs.Merging.{left, map_of, map_length, written, merged, merged_table, merged_file, merging}
 
-module _ (file map section : List ℕ) {q n states : ℕ} {table : List Word} (e : tableFile file ≡ accepted q n states table)
-    (room : mapLength n table ≤ length map) where
-  pub by-witness : merging file map section ≡ merged q n states table map section (witness n table)
-  unfolding merging mergedFile mergedTable
-  by-witness = ap (mergedFile map section) e ∙ simp (le-ltb (length map) (mapLength n table) room)
+module _ (file map section : List ℕ) {q n states : ℕ} {table : List Word} (e : table_file file ≡ accepted q n states table)
+    (room : map_length n table ≤ length map) where
+  pub by_witness : merging file map section ≡ merged q n states table map section (witness n table)
+  unfolding merging merged_file merged_table
+  by_witness = ap (merged_file map section) e ∙ simp (le-ltb (length map) (map_length n table) room)
 
-  pub by-nothing : length (sectionOf q n states table) ≤ length section → witness n table ≡ nothing
+  pub by_nothing : length (section_of q n states table) ≤ length section → witness n table ≡ nothing
       → merging file map section
-      ≡ left (success (length (sectionOf q n states table))) (over (mapOf n table) map) (over (sectionOf q n states table) section)
+      ≡ left (success (length (section_of q n states table))) (over (map_of n table) map) (over (section_of q n states table) section)
   unfolding merged written
-  by-nothing fits w =
-      by-witness ∙ ap (merged q n states table map section) w
-      ∙ simp (le-ltb (length section) (length (sectionOf q n states table)) fits)
+  by_nothing fits w =
+      by_witness ∙ ap (merged q n states table map section) w
+      ∙ simp (le-ltb (length section) (length (section_of q n states table)) fits)

@@ -1,3 +1,3 @@
 -- What merging leaves.
 pub mod Merging
-pub mod inner
+pub mod Inner

@@ -2,10 +2,10 @@
 // sizes and the section.
 ghost use Rattle.std.specs.Prelude.{◌+◌, ◌*◌, ◌<◌, ◌≤◌, length};
 ghost use Rattle.trellis.specs.Lists.{over};
-ghost use Rattle.depths.specs.inner.Words.{words};
+ghost use Rattle.depths.specs.Inner.Words.{words};
 ghost use Rattle.merging.specs.Merging.{written};
-ghost use Rattle.merging.specs.inner.Stages.{Inside};
-ghost use Rattle.merging.specs.inner.Sizes.{anySizes, sectionSizes, EndsSized};
+ghost use Rattle.merging.specs.Inner.Stages.{Inside};
+ghost use Rattle.merging.specs.Inner.Sizes.{any_sizes, section_sizes, EndsSized};
 
 use answers::merge::Merged;
 use trellis::{MOST_SYMBOLS, MOST_WORDS};
@@ -26,11 +26,11 @@ pub fn finish(
     section: &mut [u16],
     sizes: &mut [u16],
 ) -> Merged
-    requires { Inside n roots.now labels.now goals.now map.old inner × (anySizes ≤ length sizes.old) }
+    requires { Inside n roots.now labels.now goals.now map.old inner × (any_sizes ≤ length sizes.old) }
     ensures { EndsSized
         (written q n states (words roots.now labels.now goals.now) map.old
         section.old)
-        (over (sectionSizes q n states (words roots.now labels.now goals.now)) sizes.old) result
+        (over (section_sizes q n states (words roots.now labels.now goals.now)) sizes.old) result
         map.new section.new sizes.new }
 {
     let outer = outer_depths::put_outer(roots, goals, n, map, inner);

@@ -1,3 +1,3 @@
 -- What merging generator rows leaves.
 pub mod MergingRows
-pub mod inner
+pub mod Inner

@@ -1,10 +1,10 @@
 // What merging generator rows leaves, as definitions, and its last stage, for reduced rows and buffers with room: the map, the section and
 // the file, or 7.
 ghost use Rattle.std.specs.Prelude.{◌*◌};
-ghost use Rattle.merging_rows.specs.MergingRows.{mergedRows};
-ghost use Rattle.merging_rows.specs.inner.Stages.{BuildAsked, RowsEnd};
+ghost use Rattle.merging_rows.specs.MergingRows.{merged_rows};
+ghost use Rattle.merging_rows.specs.Inner.Stages.{BuildAsked, RowsEnd};
 
-use answers::merge_rows::MergedRows;
+use answers::merge_rows::Merged_rows;
 use parity::ROW_BITS;
 use row_section::put_section;
 use trellis::{MOST_SYMBOLS, MOST_WORDS};
@@ -22,7 +22,7 @@ pub fn build(
     section: &mut [u16],
 ) -> MergedRows
     requires { BuildAsked bits n rows.now columns.now w file.old map.old }
-    ensures { RowsEnd (mergedRows bits n rows.now file.old map.old section.old) result
+    ensures { RowsEnd (merged_rows bits n rows.now file.old map.old section.old) result
         file.new map.new section.new }
 {
     let depths = row_map::put_map(columns, rows, w, bits, n, map);

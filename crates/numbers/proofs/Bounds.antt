@@ -9,13 +9,13 @@ use borrow.Author.Tests.{lt-ltb, le-ltb, le-leb, lt-leb, not-false, leb-true}
 use Rattle.trellis.specs.Lists.{within}
 use Rattle.trellis.proofs.Bools.{holds, is_true, both}
 
-pub within-under : (low high x : ℕ) → x < low → false ≡ within low high x
+pub within_under : (low high x : ℕ) → x < low → false ≡ within low high x
 unfolding within
-within-under low high x h = sym (ap (λ b. b && leb x high) (lt-leb low x h))
+within_under low high x h = sym (ap (λ b. b && leb x high) (lt-leb low x h))
 
-pub within-from : (low high x : ℕ) → low ≤ x → leb x high ≡ within low high x
+pub within_from : (low high x : ℕ) → low ≤ x → leb x high ≡ within low high x
 unfolding within
-within-from low high x h = sym (ap (λ b. b && leb x high) (le-leb low x h))
+within_from low high x h = sym (ap (λ b. b && leb x high) (le-leb low x h))
 
 pub within_of : (low high x : ℕ) → within low high x ≡ true → (low ≤ x) × (x ≤ high)
 unfolding within
@@ -23,8 +23,8 @@ within_of low high x e =
     let a = both (leb low x) (leb x high) (holds e) in
     (leb-true low x (is_true _ a.0), leb-true x high (is_true _ a.1))
 
-pub within-to : (low high x : ℕ) {w : Bool} → w ≡ within low high x → not w ≡ false → x ≤ high
-within-to low high x {w} e h = (within_of low high x (sym e ∙ not-false w h)).1
+pub within_to : (low high x : ℕ) {w : Bool} → w ≡ within low high x → not w ≡ false → x ≤ high
+within_to low high x {w} e h = (within_of low high x (sym e ∙ not-false w h)).1
 
 pub at_least : (x y : ℕ) → leb x y ≡ not (ltb y x)
 at_least x y = go (dec_lt y x)

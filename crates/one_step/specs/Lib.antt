@@ -1,2 +1,2 @@
 -- One step of a section.
-pub mod inner
+pub mod Inner

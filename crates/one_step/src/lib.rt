@@ -2,15 +2,15 @@
 // limit the k best are kept.
 ghost use Rattle.std.specs.Prelude.{◌≡◌, ◌<◌, ◌≤◌, length, take};
 ghost use mathlib.Core.List.{flat_map};
-ghost use Rattle.trellis.specs.Bounds.{mostPaths, mostWords, mostQ};
+ghost use Rattle.trellis.specs.Bounds.{most_paths, most_words, most_q};
 ghost use Rattle.trellis.specs.Lists.{run};
 ghost use Rattle.paths.specs.Chain.{unreached};
-ghost use Rattle.dearest.specs.inner.Items.{Kept};
-ghost use Rattle.edges.specs.inner.Edges.{edgeIn, meantEdge};
-ghost use Rattle.whole_section.specs.inner.StepAt.{StepEdges};
-ghost use Rattle.codes.specs.inner.Codes.{furtherCode};
-ghost use Rattle.one_step.specs.inner.Steps.{candidate, candidates};
-ghost use Rattle.one_step.specs.inner.Loops.{StepRoom, limited, Streamed, Stepped};
+ghost use Rattle.dearest.specs.Inner.Items.{Kept};
+ghost use Rattle.edges.specs.Inner.Edges.{edge_in, meant_edge};
+ghost use Rattle.whole_section.specs.Inner.StepAt.{StepEdges};
+ghost use Rattle.codes.specs.Inner.Codes.{further_code};
+ghost use Rattle.one_step.specs.Inner.Steps.{candidate, candidates};
+ghost use Rattle.one_step.specs.Inner.Loops.{StepRoom, limited, Streamed, Stepped};
 
 use codes::vertex_of;
 use dearest::{code_of, item};
@@ -23,8 +23,8 @@ use trellis::MOST_PATHS;
 
 // The code of a beginning along an edge. What comes of the code alone stands apart, so that it is worked out once for all edges.
 fn further_code(code: u32, e: Edge) -> u32
-    requires { (e.symbol < mostQ) × (e.to < mostWords) }
-    ensures { result ≡ furtherCode code (meantEdge e) }
+    requires { (e.symbol < most_q) × (e.to < most_words) }
+    ensures { result ≡ further_code code (meant_edge e) }
 {
     code / 67108864 * 67108864 + code % 16384 * 4 + ((e.to as u32) * 65536 + (e.symbol as u32))
 }
@@ -42,10 +42,10 @@ fn keep_edge(
     before: Held,
     items: &mut [u64; MOST_PATHS],
 ) -> Held
-    requires { StepRoom k t rows.now prices.now × (paid < 4294967296) × (e.symbol < mostQ) × (e.to < mostWords)
+    requires { StepRoom k t rows.now prices.now × (paid < 4294967296) × (e.symbol < most_q) × (e.to < most_words)
         × Kept k items.old before.count before.worst × (limit < unreached) }
     ensures { Streamed k before.count items.old
-        (limited limit (candidate rows.now prices.now t paid code (meantEdge e)))
+        (limited limit (candidate rows.now prices.now t paid code (meant_edge e)))
         items.new result.count result.worst }
 {
     let cost = total(rows, prices, t, paid, e);
@@ -71,9 +71,9 @@ fn keep_item(
     items: &mut [u64; MOST_PATHS],
 ) -> Held
     requires { StepEdges pairs.now symbols.now edges × StepRoom k t rows.now prices.now
-        × Kept k items.old before.count before.worst × (each ≤ mostWords) × (limit < unreached) }
+        × Kept k items.old before.count before.worst × (each ≤ most_words) × (limit < unreached) }
     ensures { Streamed k before.count items.old (limited limit (candidates rows.now prices.now t
-        (run (edgeIn pairs.now symbols.now) 0 edges) x)) items.new result.count result.worst }
+        (run (edge_in pairs.now symbols.now) 0 edges) x)) items.new result.count result.worst }
 {
     let code = code_of(x);
     let vertex = vertex_of(code);
@@ -107,9 +107,9 @@ pub fn step_within(
     items: &mut [u64; MOST_PATHS],
 ) -> Held
     requires { StepEdges pairs.now symbols.now edges × StepRoom k t rows.now prices.now × (have ≤ k)
-        × (length old.now ≡ mostPaths) × (length items.old ≡ mostPaths) × (each ≤ mostWords) × (limit < unreached) }
+        × (length old.now ≡ most_paths) × (length items.old ≡ most_paths) × (each ≤ most_words) × (limit < unreached) }
     ensures { Stepped k (limited limit (flat_map (candidates rows.now prices.now t
-        (run (edgeIn pairs.now symbols.now) 0 edges)) (take have old.now)))
+        (run (edge_in pairs.now symbols.now) 0 edges)) (take have old.now)))
         items.new result.count result.worst }
 {
     let mut held = Held { count: 0, worst: 0 };

@@ -1,3 +1,3 @@
 -- Outcomes in numbers.
-pub mod inner
+pub mod Inner
 pub mod Numbered

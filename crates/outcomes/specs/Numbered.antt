@@ -8,10 +8,10 @@ abbrev pub stored : ℕ → ℕ
 stored x = min x 4294967295
 
 -- the returned numbers in order, and 0 in the places not used
-unfoldable pub fourOf : List ℕ → List ℕ
-fourOf vs = stored (get_or vs 0 0) ∷ stored (get_or vs 1 0) ∷ stored (get_or vs 2 0) ∷ stored (get_or vs 3 0) ∷ []
+unfoldable pub four_of : List ℕ → List ℕ
+four_of vs = stored (get_or vs 0 0) ∷ stored (get_or vs 1 0) ∷ stored (get_or vs 2 0) ∷ stored (get_or vs 3 0) ∷ []
 
 -- the outcome's number and its four places
 pub record Numbered (o : Outcome) (number : ℕ) (values : List ℕ) : Type 0 where
-  pub numberIs : number ≡ o.number
-  pub valuesAre : values ≡ fourOf o.values
+  pub number_is : number ≡ o.number
+  pub values_are : values ≡ four_of o.values

@@ -1,7 +1,7 @@
 // An outcome of document 01 in numbers, as it is printed and as callers in other languages get it, stored in four places of four bytes.
 ghost use Rattle.std.specs.Prelude.{[], ◌∷◌, ◌≡◌};
 ghost use Rattle.trellis.specs.Outcome.{outcome, Outcome};
-ghost use Rattle.outcomes.specs.inner.Holds.{Holds};
+ghost use Rattle.outcomes.specs.Inner.Holds.{Holds};
 ghost use Rattle.outcomes.specs.Numbered.{stored, Numbered};
 
 // The outcome's number, how many numbers are returned with it, and these; 0 in the places not used.

@@ -1,7 +1,7 @@
 // The outer depths of the map, and the vertex counts of all depths.
 ghost use Rattle.std.specs.Prelude.{◌+◌, ◌*◌, ◌≤◌, length};
-ghost use Rattle.layout.specs.inner.States.{Few};
-ghost use Rattle.outer_depths.specs.inner.Outer.{OuterAsked, RowPut, OuterPut};
+ghost use Rattle.layout.specs.Inner.States.{Few};
+ghost use Rattle.outer_depths.specs.Inner.Outer.{OuterAsked, RowPut, OuterPut};
 
 use layout::states;
 use trellis::{MOST_STATES, MOST_SYMBOLS};

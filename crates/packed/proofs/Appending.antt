@@ -9,9 +9,9 @@ use lib.Arith.{mod-mul, digits_div, digits_mod}
 use lib.Bits.{bit_and, bit_or, or_shifted}
 use lib.Dec.{lit<}
 use Rattle.trellis.specs.Label.{symbol, front}
-use Rattle.label.proofs.Digits.{symbol-last, symbol-drop}
+use Rattle.label.proofs.Digits.{symbol_last, symbol_drop}
 use Rattle.label.proofs.Shifts.{mask_one}
-use Rattle.packed.specs.inner.Packed.{appended}
+use Rattle.packed.specs.Inner.Packed.{appended}
 
 cut : (label d : ℕ) → d < 4 → label % 4 ^ 7 * 4 + d ≡ (label * 4 + d) % 4 ^ 8
 cut label d l =
@@ -19,9 +19,9 @@ cut label d l =
     (mod-mul (label * 4 + d) {m = 4 ^ 7} {c = 4} (lit< tt) (lit< tt)
     ∙ ap₂ (λ front last. front % 4 ^ 7 * 4 + last) (digits_div label l) (digits_mod label l))
 
-pub put-behind : (label s : ℕ) → bit_or (label * 2 ^ 2 % 2 ^ 16) (bit_and s 3) ≡ appended label s
+pub put_behind : (label s : ℕ) → bit_or (label * 2 ^ 2 % 2 ^ 16) (bit_and s 3) ≡ appended label s
 unfolding appended
-put-behind label s =
+put_behind label s =
     let e : label * 4 % 4 ^ 8 ≡ label % 4 ^ 7 * 4 = omega arith in
     let l : s % 4 < 4 = omega arith in
     rw (mask_one, e, or_shifted (label % 4 ^ 7) 2 (s % 4) l) (cut label (s % 4) l)
@@ -30,19 +30,19 @@ module _ (n label s : ℕ) (short : label < 4 ^ n) (room : n < 8) (small : s < 4
   longer : label * 4 + s < 4 ^ suc n
   longer = rw pow-suc (omega arith)
 
-  pub appended-is : appended label s ≡ label * 4 + s
+  pub appended_is : appended label s ≡ label * 4 + s
   unfolding appended
-  appended-is =
+  appended_is =
       let h : 4 ^ suc n ≤ 4 ^ 8 = pow-le-pow_right (lit< tt) room in
       rw (mod-eq_of_lt small) (mod-eq_of_lt (lt_of_lt_of_le longer h))
 
-  pub appended-short : appended label s < 4 ^ suc n
-  appended-short = rw appended-is longer
+  pub appended_short : appended label s < 4 ^ suc n
+  appended_short = rw appended_is longer
 
-  pub appended-last : symbol (suc n) n (appended label s) ≡ s
-  appended-last = symbol-last n (appended label s) ∙ rw appended-is (omega arith)
+  pub appended_last : symbol (suc n) n (appended label s) ≡ s
+  appended_last = symbol_last n (appended label s) ∙ rw appended_is (omega arith)
 
-  pub appended-before : (t : ℕ) → t < n → symbol (suc n) t (appended label s) ≡ symbol n t label
-  appended-before t l =
+  pub appended_before : (t : ℕ) → t < n → symbol (suc n) t (appended label s) ≡ symbol n t label
+  appended_before t l =
       let e : (label * 4 + s) / 4 ≡ label = omega arith in
-      symbol-drop n t (appended label s) l ∙ rw (appended-is, e)
+      symbol_drop n t (appended label s) l ∙ rw (appended_is, e)

@@ -1,2 +1,2 @@
 -- Labels as numbers.
-pub mod inner
+pub mod Inner

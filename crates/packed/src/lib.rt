@@ -1,7 +1,7 @@
 // Labels put together and told from other numbers: a symbol put behind a label, and whether a number is a label of n symbols below q.
 ghost use Rattle.std.specs.Prelude.{◌≡◌, ◌-◌, ◌<◌, min};
-ghost use Rattle.trellis.specs.Label.{isLabel};
-ghost use Rattle.packed.specs.inner.Packed.{appended};
+ghost use Rattle.trellis.specs.Label.{is_label};
+ghost use Rattle.packed.specs.Inner.Packed.{appended};
 
 // The label with the symbol s behind it.
 pub fn append(label: u16, s: u16) -> u16
@@ -20,7 +20,7 @@ fn held(n: usize) -> usize
 // Whether the label is one of n symbols below q. It is enough to look at eight symbols: those in front of them are zeros, and a zero is
 // below q if the last symbol is.
 pub fn is_label(label: u16, q: u16, n: usize) -> bool
-    ensures { result ≡ isLabel q n label }
+    ensures { result ≡ is_label q n label }
 {
     let mut rest = label;
     let mut left = held(n);

@@ -10,10 +10,10 @@ use lib.ListN.{length, get_or, drop, set, length-map, length-set, get_or-map}
 use lib.Seq.{drop-cons, drop-length, get_or-set_same, get_or-set_other, ext_get_or}
 use lib.Bits.{bit_and, bit_xor, and_mask, xor_zero_r}
 use Rattle.rows.specs.Sums.{◌⊕◌, chosen, sum_of}
-use Rattle.rows.specs.inner.Reduced.{bit_at, cleared, addRow}
+use Rattle.rows.specs.Inner.Reduced.{bit_at, cleared, add_row}
 use Rattle.rows.proofs.Xor.{xor_assoc}
-use Rattle.rows.proofs.Sums.{sum-nil, additive-zero}
-use Rattle.rows.proofs.Check.{cleared-adds}
+use Rattle.rows.proofs.Sums.{sum_nil, additive_zero}
+use Rattle.rows.proofs.Check.{cleared_adds}
 
 -- ---- what is picked
 
@@ -29,9 +29,9 @@ picked_all (suc b) r d = refl
 low_bit : (x : ℕ) → bit_and x 1 ≡ x % 2
 low_bit x = and_mask x 1
 
-pub column-by : (p z y : ℕ) {r : ℕ} → r ≡ chosen (bit_and (y / 2 ^ p) 1) z → bit_xor y r ≡ cleared p z y
+pub column_by : (p z y : ℕ) {r : ℕ} → r ≡ chosen (bit_and (y / 2 ^ p) 1) z → bit_xor y r ≡ cleared p z y
 unfolding cleared bit_at
-column-by p z y e = ap (λ k. y ⊕ k) (e ∙ ap (λ k. chosen k z) (low_bit (y / 2 ^ p)))
+column_by p z y e = ap (λ k. y ⊕ k) (e ∙ ap (λ k. chosen k z) (low_bit (y / 2 ^ p)))
 
 -- ---- a syndrome
 
@@ -39,13 +39,13 @@ column-by p z y e = ap (λ k. y ⊕ k) (e ∙ ap (λ k. chosen k z) (low_bit (y 
 pub record Summed (columns : List ℕ) (x m sum rest : ℕ) : Type 0 where
   pub whole : sum_of columns x ≡ sum ⊕ sum_of (drop m columns) rest
 
-pub summed-none : (columns : List ℕ) (x : ℕ) → Summed columns x 0 0 x
-summed-none columns x = record { whole = refl }
+pub summed_none : (columns : List ℕ) (x : ℕ) → Summed columns x 0 0 x
+summed_none columns x = record { whole = refl }
 
-pub summed-next : {columns : List ℕ} {x m sum rest r : ℕ} → Summed columns x m sum rest → m < length columns
+pub summed_next : {columns : List ℕ} {x m sum rest r : ℕ} → Summed columns x m sum rest → m < length columns
     → r ≡ chosen (bit_and rest 1) (get_or columns m 0) → Summed columns x (m + 1) (bit_xor sum r) (rest / 2)
 unfolding sum_of
-summed-next {columns} {x} {m} {sum} {rest} {r} S h e = record {
+summed_next {columns} {x} {m} {sum} {rest} {r} S h e = record {
   whole =
       S.whole ∙ ap (λ l. sum ⊕ sum_of l rest) (drop-cons columns m 0 h)
       ∙ sym (xor_assoc sum (chosen (rest % 2) (get_or columns m 0)) (sum_of (drop (suc m) columns) (rest / 2)))
@@ -54,12 +54,12 @@ summed-next {columns} {x} {m} {sum} {rest} {r} S h e = record {
       (sym (add-one m));
 }
 
-pub summed-all : {columns : List ℕ} {x m sum rest : ℕ} → Summed columns x m sum rest → length columns ≡ 16 → 16 ≤ m → m ≤ 16
+pub summed_all : {columns : List ℕ} {x m sum rest : ℕ} → Summed columns x m sum rest → length columns ≡ 16 → 16 ≤ m → m ≤ 16
     → sum ≡ sum_of columns x
-summed-all {columns} {x} {m} {sum} {rest} S l h k =
+summed_all {columns} {x} {m} {sum} {rest} S l h k =
     let e : m ≡ length columns = omega arith in
     sym (S.whole ∙ ap (λ d. sum ⊕ sum_of d rest) (ap (λ i. drop i columns) e ∙ drop-length columns)
-    ∙ ap (λ d. sum ⊕ d) (sum-nil rest) ∙ xor_zero_r sum)
+    ∙ ap (λ d. sum ⊕ d) (sum_nil rest) ∙ xor_zero_r sum)
 
 -- ---- a row added
 
@@ -69,8 +69,8 @@ pub record Mapped (f : ℕ → ℕ) (old : List ℕ) (m : ℕ) (new : List ℕ) 
   pub done : (i : ℕ) → i < m → get_or new i 0 ≡ f (get_or old i 0)
   pub left : (i : ℕ) → m ≤ i → get_or new i 0 ≡ get_or old i 0
 
-pub mapped-none : (f : ℕ → ℕ) (old : List ℕ) → Mapped f old 0 old
-mapped-none f old = record { len = refl; done = λ i h. absurd (omega arith); left = λ i h. refl }
+pub mapped_none : (f : ℕ → ℕ) (old : List ℕ) → Mapped f old 0 old
+mapped_none f old = record { len = refl; done = λ i h. absurd (omega arith); left = λ i h. refl }
 
 pub mapped_next : {f : ℕ → ℕ} {old : List ℕ} {m : ℕ} {new : List ℕ} {y : ℕ} → Mapped f old m new → m < length old
     → y ≡ f (get_or new m 0) → Mapped f old (m + 1) (set new m y)
@@ -86,10 +86,10 @@ mapped_next {f} {old} {m} {new} {y} M h e = record {
         ∙ e ∙ ap f (M.left m (omega arith) ∙ ap (λ j. get_or old j 0) (sym q))
     now i k (no q) = get_or-set_other new m i y 0 q ∙ M.done i (omega arith)
 
-pub mapped-all : (p z : ℕ) {old : List ℕ} {m : ℕ} {new : List ℕ} → Mapped (cleared p z) old m new → length old ≤ m → new ≡ addRow p z old
-unfolding addRow
-mapped-all p z {old} {m} {new} M h = ext_get_or 0 new (map (cleared p z) old) (M.len ∙ sym (length-map old (cleared p z)))
+pub mapped_all : (p z : ℕ) {old : List ℕ} {m : ℕ} {new : List ℕ} → Mapped (cleared p z) old m new → length old ≤ m → new ≡ add_row p z old
+unfolding add_row
+mapped_all p z {old} {m} {new} M h = ext_get_or 0 new (map (cleared p z) old) (M.len ∙ sym (length-map old (cleared p z)))
     (λ i k. M.done i (omega (arith, M.len)) ∙ sym (mapped i))
   where
     mapped : (i : ℕ) → get_or (map (cleared p z) old) i 0 ≡ cleared p z (get_or old i 0)
-    mapped i = ap (λ d. get_or (map (cleared p z) old) i d) (sym (additive-zero (cleared-adds p z))) ∙ get_or-map (cleared p z) old i 0
+    mapped i = ap (λ d. get_or (map (cleared p z) old) i d) (sym (additive_zero (cleared_adds p z))) ∙ get_or-map (cleared p z) old i 0

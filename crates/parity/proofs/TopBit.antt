@@ -5,7 +5,7 @@ use native.Mathlib.Omega.{arith}
 use native.Mathlib.Nat.{div-one, pow-suc, mod-lt}
 use native.Mathlib.Decide.{dec_lt}
 use lib.Pow.{pow_pos, pow_mono, split, shr-shr}
-use Rattle.parity.specs.inner.Steps.{Top}
+use Rattle.parity.specs.Inner.Steps.{Top}
 
 -- rest is what is left of z without its last p bits
 pub record Shifted (z p rest : ℕ) : Type 0 where

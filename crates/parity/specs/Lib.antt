@@ -1,2 +1,2 @@
 -- Parity checks by their columns.
-pub mod inner
+pub mod Inner

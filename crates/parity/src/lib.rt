@@ -2,8 +2,8 @@
 // and a row of syndrome 0 is a sum of those before it. What the columns say in the end is in the definitions of `rows`.
 ghost use Rattle.std.specs.Prelude.{◌≡◌, ◌+◌, ◌<◌, length};
 ghost use Rattle.rows.specs.Sums.{chosen, sum_of};
-ghost use Rattle.rows.specs.inner.Reduced.{cleared, addRow, Narrow, Spans};
-ghost use Rattle.parity.specs.inner.Steps.{Top, TakenUp, Checked};
+ghost use Rattle.rows.specs.Inner.Reduced.{cleared, add_row, Narrow, Spans};
+ghost use Rattle.parity.specs.Inner.Steps.{Top, TakenUp, Checked};
 
 // As many bits as any row has.
 pub const ROW_BITS: usize = 16;
@@ -61,7 +61,7 @@ fn column_cleared(p: usize, z: u16, y: u16) -> u16
 // z added to the columns that have bit p.
 fn add_row(columns: &mut [u16; ROW_BITS], p: usize, z: u16)
     requires { (p < 16) × (length columns.old ≡ 16) }
-    ensures { columns.new ≡ addRow p z columns.old }
+    ensures { columns.new ≡ add_row p z columns.old }
 {
     let mut m: usize = 0;
     while m < ROW_BITS {

@@ -1,2 +1,2 @@
 -- The partners of vertices.
-pub mod inner
+pub mod Inner

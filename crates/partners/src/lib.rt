@@ -1,10 +1,10 @@
 // Where the edges of a step lead, in a table by the vertex that they start from and their symbol, and the partners that they give the
 // vertices which they reach.
 ghost use Rattle.std.specs.Prelude.{◌≡◌, true, not, ◌&&◌, ◌||◌, ◌+◌, ◌*◌, ◌<◌, ◌≤◌, eqb, length, get_or};
-ghost use Rattle.trellis.specs.Bounds.{mostWords, mostQ};
-ghost use Rattle.edges.specs.inner.Edges.{edgeIn, meantEdge, EdgesSmall};
-ghost use Rattle.twins.specs.inner.Twins.{turnedIn};
-ghost use Rattle.partners.specs.inner.Following.{slot, endFor, Single, Leads, Partners, StepCarried};
+ghost use Rattle.trellis.specs.Bounds.{most_words, most_q};
+ghost use Rattle.edges.specs.Inner.Edges.{edge_in, meant_edge, EdgesSmall};
+ghost use Rattle.twins.specs.Inner.Twins.{turned_in};
+ghost use Rattle.partners.specs.Inner.Following.{slot, end_for, Single, Leads, Partners, StepCarried};
 
 use edges::{Edge, edge_at};
 use numbers::wide;
@@ -18,8 +18,8 @@ pub fn ends_of(
     count: usize,
     back: bool,
 ) -> [u16; MOST_Q * MOST_WORDS]
-    requires { EdgesSmall pairs.now symbols.now count × Single (turnedIn back pairs.now symbols.now) count }
-    ensures { Leads (turnedIn back pairs.now symbols.now) count result }
+    requires { EdgesSmall pairs.now symbols.now count × Single (turned_in back pairs.now symbols.now) count }
+    ensures { Leads (turned_in back pairs.now symbols.now) count result }
 {
     let mut ends = [0u16; MOST_Q * MOST_WORDS];
     let mut k: usize = 0;
@@ -34,9 +34,9 @@ pub fn ends_of(
 
 // Where the edge ends that leaves the partner of an edge's vertex by the edge's symbol.
 fn end_for(ends: &[u16; MOST_Q * MOST_WORDS], matched: &[u16; MOST_WORDS], e: Edge) -> u16
-    requires { (e.from < mostWords) × (e.symbol < mostQ) × (length ends.now ≡ mostQ * mostWords) × (length matched.now ≡ mostWords)
-        × (0 < get_or matched.now e.from 0) × (get_or matched.now e.from 0 ≤ mostWords) }
-    ensures { result ≡ endFor ends.now matched.now (meantEdge e) }
+    requires { (e.from < most_words) × (e.symbol < most_q) × (length ends.now ≡ most_q * most_words) × (length matched.now ≡ most_words)
+        × (0 < get_or matched.now e.from 0) × (get_or matched.now e.from 0 ≤ most_words) }
+    ensures { result ≡ end_for ends.now matched.now (meant_edge e) }
 {
     let v = e.from;
     let slot = MOST_Q * (wide(matched[v]) - 1) + e.symbol;
@@ -65,9 +65,9 @@ pub fn carry(
     old: &[u16; MOST_WORDS],
     new: &mut [u16; MOST_WORDS],
 ) -> bool
-    requires { EdgesSmall pairs.now symbols.now count × (length ends.now ≡ mostQ * mostWords)
-        × Partners (edgeIn pairs.now symbols.now) count old.now }
-    ensures { StepCarried (edgeIn pairs.now symbols.now) count ends.now old.now
+    requires { EdgesSmall pairs.now symbols.now count × (length ends.now ≡ most_q * most_words)
+        × Partners (edge_in pairs.now symbols.now) count old.now }
+    ensures { StepCarried (edge_in pairs.now symbols.now) count ends.now old.now
         new.new result }
 {
     *new = [0u16; MOST_WORDS];

@@ -1,2 +1,2 @@
 -- One block of a chain: what passing it leaves, and what its loops keep.
-pub mod inner
+pub mod Inner

@@ -2,15 +2,15 @@
 // to what is left to pay before it, over the edges of the block's section and never over its words; and for each state a note, with the
 // label and the goal of the first word of least cost. Blocks are passed from the last to the first; the notes are followed in `traceback`.
 ghost use Rattle.std.specs.Prelude.{◌≡◌, ◌%◌, ◌<◌, length};
-ghost use Rattle.trellis.specs.Bounds.{mostStates, mostWords};
-ghost use Rattle.trellis.specs.Layout.{n_of, vertexCountOf};
+ghost use Rattle.trellis.specs.Bounds.{most_states, most_words};
+ghost use Rattle.trellis.specs.Layout.{n_of, vertex_count_of};
 ghost use Rattle.paths.specs.Chain.{unreached};
-ghost use Rattle.paths.specs.inner.Ranked.{PriceRoom};
-ghost use Rattle.section_file.specs.inner.View.{Seen};
-ghost use Rattle.lowering.specs.inner.Loops.{Cleared};
-ghost use Rattle.lowering.specs.inner.Rows.{side};
-ghost use Rattle.passes.specs.inner.Blocks.{BlockPassed};
-ghost use Rattle.passes.specs.inner.Loops.{GoalsRanked, RootsAsked, RootsPut};
+ghost use Rattle.paths.specs.Inner.Ranked.{PriceRoom};
+ghost use Rattle.section_file.specs.Inner.View.{Seen};
+ghost use Rattle.lowering.specs.Inner.Loops.{Cleared};
+ghost use Rattle.lowering.specs.Inner.Rows.{side};
+ghost use Rattle.passes.specs.Inner.Blocks.{BlockPassed};
+ghost use Rattle.passes.specs.Inner.Loops.{GoalsRanked, RootsAsked, RootsPut};
 
 use numbers::wide;
 use ranks::{cost_of, note_of, ranked_left};
@@ -22,9 +22,9 @@ pub const NO_PATH: u32 = 4294967295;
 
 // The row of depth n: what it costs to end in each goal.
 fn put_goals(l: &[u16], at: View, left: &[u32; COSTS_A_BLOCK], row: &mut [u64; MOST_WORDS])
-    requires { Seen l.now at × (length left.now ≡ mostStates) × (length row.old ≡ mostWords) }
+    requires { Seen l.now at × (length left.now ≡ most_states) × (length row.old ≡ most_words) }
     ensures { GoalsRanked l.now left.now row.new
-        (vertexCountOf l.now (n_of l.now)) }
+        (vertex_count_of l.now (n_of l.now)) }
 {
     let goals = at.goals;
     let count = at.pairs - goals;
@@ -44,11 +44,11 @@ pub fn put_goals_side(
     even: &mut [u64; MOST_WORDS],
     odd: &mut [u64; MOST_WORDS],
 )
-    requires { Seen l.now at × (length left.now ≡ mostStates) × (length even.old ≡ mostWords) × (length odd.old ≡ mostWords) }
+    requires { Seen l.now at × (length left.now ≡ most_states) × (length even.old ≡ most_words) × (length odd.old ≡ most_words) }
     ensures { GoalsRanked l.now left.now
         (side (n_of l.now) even.new odd.new)
-        (vertexCountOf l.now (n_of l.now))
-        × (length even.new ≡ mostWords) × (length odd.new ≡ mostWords) }
+        (vertex_count_of l.now (n_of l.now))
+        × (length even.new ≡ most_words) × (length odd.new ≡ most_words) }
 {
     if at.n % 2 == 0 {
         put_goals(l, at, left, even);
@@ -59,8 +59,8 @@ pub fn put_goals_side(
 
 // No path is noted in any state.
 fn clear_row(notes: &mut [u32])
-    requires { length notes.old ≡ mostStates }
-    ensures { Cleared mostStates unreached notes.new mostStates }
+    requires { length notes.old ≡ most_states }
+    ensures { Cleared most_states unreached notes.new most_states }
 {
     let mut s: usize = 0;
     while s < COSTS_A_BLOCK {
@@ -78,7 +78,7 @@ fn put_roots(
     notes: &mut [u32],
 )
     requires { Seen l.now at × RootsAsked l.now row.now notes.old }
-    ensures { RootsPut l.now row.now left.new notes.new (vertexCountOf l.now 0) }
+    ensures { RootsPut l.now row.now left.new notes.new (vertex_count_of l.now 0) }
 {
     *left = [NO_PATH; COSTS_A_BLOCK];
     clear_row(notes);
@@ -105,10 +105,10 @@ pub fn pass_block(
     even: &mut [u64; MOST_WORDS],
     odd: &mut [u64; MOST_WORDS],
 )
-    requires { Seen l.now at × PriceRoom prices.now × (length left.old ≡ mostStates) × (length notes.old ≡ mostStates)
-        × (length even.old ≡ mostWords) × (length odd.old ≡ mostWords) }
+    requires { Seen l.now at × PriceRoom prices.now × (length left.old ≡ most_states) × (length notes.old ≡ most_states)
+        × (length even.old ≡ most_words) × (length odd.old ≡ most_words) }
     ensures { BlockPassed l.now prices.now left.old left.new notes.new
-        × (length even.new ≡ mostWords) × (length odd.new ≡ mostWords) }
+        × (length even.new ≡ most_words) × (length odd.new ≡ most_words) }
 {
     put_goals_side(l, at, left, even, odd);
     sweep::sweep(l, at, prices, even, odd);

@@ -10,14 +10,14 @@ use lib.ListN.{length, get_or, length-append, length-map, get_or-append, get_or-
 use lib.Seq.{get_or-append-add}
 use Rattle.trellis.specs.Lists.{◌∈◌, over}
 use Rattle.trellis.specs.Word.{Word, word, word_at}
-use Rattle.trellis.proofs.Buffers.{over-is}
+use Rattle.trellis.proofs.Buffers.{over_is}
 
 module _ {A B : Type 0} (f : A → List B) (n : ℕ) where
-  pub joined-long : (xs : List A) → ((x : A) → x ∈ xs → length (f x) ≡ n) → length (flat_map f xs) ≡ length xs * n
+  pub joined_long : (xs : List A) → ((x : A) → x ∈ xs → length (f x) ≡ n) → length (flat_map f xs) ≡ length xs * n
   unfolding flat_map
-  joined-long [] h = sym (zero-mul n)
-  joined-long (x ∷ xs) h =
-      let e = joined-long xs (λ y m. h y (Memᴰ.tail m)) in
+  joined_long [] h = sym (zero-mul n)
+  joined_long (x ∷ xs) h =
+      let e = joined_long xs (λ y m. h y (Memᴰ.tail m)) in
       length-append (f x) (flat_map f xs) ∙ omega (arith, h x (Memᴰ.head refl), e, suc-mul (length xs) n)
 
   pub joined_at : (xs : List A) (a : A) (b : B) → ((x : A) → x ∈ xs → length (f x) ≡ n) → (q i : ℕ) → q < length xs → i < n
@@ -33,19 +33,19 @@ module _ {A B : Type 0} (f : A → List B) (n : ℕ) where
       ∙ joined_at xs a b (λ y m. h y (Memᴰ.tail m)) q i (omega arith) l
 
 -- paths of n words, one behind another, and a number for each word
-pub paths-over : (g : Word → ℕ) (n : ℕ) (paths : List (List Word)) (old written : List ℕ) → 0 < n
+pub paths_over : (g : Word → ℕ) (n : ℕ) (paths : List (List Word)) (old written : List ℕ) → 0 < n
     → ((p : List Word) → p ∈ paths → length p ≡ n) → length paths * n ≤ length old → length written ≡ length old
     → ((q i : ℕ) → q < length paths → i < n → get_or written (q * n + i) 0 ≡ g (word_at (get_or paths q []) i))
     → ((j : ℕ) → length paths * n ≤ j → get_or written j 0 ≡ get_or old j 0)
     → g (word 0 0 0) ≡ 0 → written ≡ over (flat_map (map g) paths) old
-paths-over g n paths old written pos each fits same front behind blank =
-    over-is (flat_map (map g) paths) old written (omega (arith, long)) same at (λ j h. behind j (omega (arith, long)))
+paths_over g n paths old written pos each fits same front behind blank =
+    over_is (flat_map (map g) paths) old written (omega (arith, long)) same at (λ j h. behind j (omega (arith, long)))
   where
     mapped : (p : List Word) → p ∈ paths → length (map g p) ≡ n
     mapped p m = length-map p g ∙ each p m
 
     long : length (flat_map (map g) paths) ≡ length paths * n
-    long = joined-long (map g) n paths mapped
+    long = joined_long (map g) n paths mapped
 
     number_at : (p : List Word) (i : ℕ) → get_or (map g p) i 0 ≡ g (word_at p i)
     number_at p i = ap (get_or (map g p) i) (sym blank) ∙ get_or-map g p i (word 0 0 0)

@@ -1,3 +1,3 @@
 -- What listing the best paths of a frame leaves.
 pub mod Listing
-pub mod inner
+pub mod Inner

@@ -1,15 +1,15 @@
 // What listing the best paths of a frame leaves, as definitions, and its last stage, for a frame and buffers that passed their checks: the
 // cost table as in decoding, and where there is a path the k best, forward over the blocks, sorted and read out.
 ghost use Rattle.std.specs.Prelude.{◌≡◌, ℕ, ◌*◌, ◌≤◌, length};
-ghost use Rattle.answers.specs.Answers.{decodedListOutcome};
+ghost use Rattle.answers.specs.Answers.{decoded_list_outcome};
 ghost use Rattle.frame.specs.Frame.{frame};
-ghost use Rattle.frame.specs.inner.Checked.{Checked};
-ghost use Rattle.room.specs.inner.Fitting.{Few, RoomToList};
-ghost use Rattle.forward.specs.inner.Fronts.{Tabled};
+ghost use Rattle.frame.specs.Inner.Checked.{Checked};
+ghost use Rattle.room.specs.Inner.Fitting.{Few, RoomToList};
+ghost use Rattle.forward.specs.Inner.Fronts.{Tabled};
 ghost use Rattle.path_list.specs.Listing.{left, fitted};
-ghost use Rattle.path_list.specs.inner.Paths.{PathsListed};
+ghost use Rattle.path_list.specs.Inner.Paths.{PathsListed};
 
-use answers::decode_list::DecodedList;
+use answers::decode_list::Decoded_list;
 use beginnings::BACK;
 use cost_table::{ends_in, fill};
 use forward::keep_blocks;
@@ -82,7 +82,7 @@ pub fn list_with(
 ) -> DecodedList
     requires { Checked sections.now starts.now views indices.now received.now erased.now start end × Few paths
         × RoomToList indices.now paths costs.old distances.old labels.old goals.old }
-    ensures { (k : ℕ) → left (decodedListOutcome result) costs.new distances.new labels.new goals.new
+    ensures { (k : ℕ) → left (decoded_list_outcome result) costs.new distances.new labels.new goals.new
         ≡ fitted (frame sections.now k indices.now received.now erased.now start end) paths
         costs.old distances.old labels.old goals.old }
 {

@@ -11,44 +11,44 @@ use lib.Dec.{eqb}
 use borrow.Author.Tests.{eq-eqb, ne_eqb}
 use Rattle.trellis.specs.Lists.{◌∈◌}
 use Rattle.paths.specs.Choice.{Choice, none, some}
-use Rattle.paths.specs.inner.Graph.{Graph}
-use Rattle.paths.specs.inner.Costs.{plus, least, firstWith, next, orStop, trace}
+use Rattle.paths.specs.Inner.Graph.{Graph}
+use Rattle.paths.specs.Inner.Costs.{plus, least, first_with, next, or_stop, trace}
 use Rattle.paths.proofs.Choose.{extend}
-use Rattle.paths.proofs.First.{Chosen, all-chosen, chosen-in}
+use Rattle.paths.proofs.First.{Chosen, all_chosen, chosen_in}
 use Rattle.paths.proofs.Walk.{Prices, ahead}
-use Rattle.paths.proofs.Capped.{least-ahead, capped-extend, capped_is, capped-above, capped}
+use Rattle.paths.proofs.Capped.{least_ahead, capped_extend, capped_is, capped_above, capped}
 
-pub first-hit : {A : Type 0} (test : A → Bool) (front : List A) (x : A) (back : List A) → ((y : A) → y ∈ front → test y ≡ false)
+pub first_hit : {A : Type 0} (test : A → Bool) (front : List A) (x : A) (back : List A) → ((y : A) → y ∈ front → test y ≡ false)
     → test x ≡ true
-    → firstWith test (front ++ (x ∷ back)) ≡ just x
-unfolding firstWith
-first-hit test [] x back miss hit = rw hit
-first-hit test (y ∷ front) x back miss hit =
-    rw (miss y (Memᴰ.head refl)) (first-hit test front x back (λ z m. miss z (Memᴰ.tail m)) hit)
+    → first_with test (front ++ (x ∷ back)) ≡ just x
+unfolding first_with
+first_hit test [] x back miss hit = rw hit
+first_hit test (y ∷ front) x back miss hit =
+    rw (miss y (Memᴰ.head refl)) (first_hit test front x back (λ z m. miss z (Memᴰ.tail m)) hit)
 
-pub of-first : {A : Type 0} (test : A → Bool) (xs : List A) {y : A} → firstWith test xs ≡ just y → (y ∈ xs) × (test y ≡ true)
-unfolding firstWith
-of-first test [] e = let z : ◌≡◌ {A = ℕ} 0 1 = cc in absurd (omega arith)
-of-first {A} test (x ∷ xs) {y} e = go (test x) refl (of-first test xs) e
+pub of_first : {A : Type 0} (test : A → Bool) (xs : List A) {y : A} → first_with test xs ≡ just y → (y ∈ xs) × (test y ≡ true)
+unfolding first_with
+of_first test [] e = let z : ◌≡◌ {A = ℕ} 0 1 = cc in absurd (omega arith)
+of_first {A} test (x ∷ xs) {y} e = go (test x) refl (of_first test xs) e
   where
-    go : (b : Bool) → test x ≡ b → (firstWith test xs ≡ just y → (y ∈ xs) × (test y ≡ true)) → cond b (just x) (firstWith test xs) ≡ just y
+    go : (b : Bool) → test x ≡ b → (first_with test xs ≡ just y → (y ∈ xs) × (test y ≡ true)) → cond b (just x) (first_with test xs) ≡ just y
         → (y ∈ x ∷ xs) × (test y ≡ true)
     go true h r k = let i : y ≡ x = cc in (Memᴰ.head i, ap test i ∙ h)
     go false h r k = let w = r k in (Memᴰ.tail w.0, w.1)
 
 -- the chosen member is the first whose number is the chosen cost
-pub chosen-first : {A P : Type 0} (top : ℕ) (f : A → Choice P) (number : A → ℕ) {xs : List A}
+pub chosen_first : {A P : Type 0} (top : ℕ) (f : A → Choice P) (number : A → ℕ) {xs : List A}
     → ((x : A) → x ∈ xs → number x ≡ capped top (f x))
-    → {c : ℕ} {p : P} (C : Chosen f xs c p) → c < top → firstWith (λ x. eqb (number x) c) xs ≡ just C.member
-chosen-first {A} {P} top f number {xs} is {c} {p} C h =
-    ap (firstWith (λ x. eqb (number x) c)) C.split
-    ∙ first-hit (λ x. eqb (number x) c) C.front C.member C.back miss
-    (eq-eqb (number C.member) c (is C.member (chosen-in f C) ∙ capped_is top (f C.member) C.offers h))
+    → {c : ℕ} {p : P} (C : Chosen f xs c p) → c < top → first_with (λ x. eqb (number x) c) xs ≡ just C.member
+chosen_first {A} {P} top f number {xs} is {c} {p} C h =
+    ap (first_with (λ x. eqb (number x) c)) C.split
+    ∙ first_hit (λ x. eqb (number x) c) C.front C.member C.back miss
+    (eq-eqb (number C.member) c (is C.member (chosen_in f C) ∙ capped_is top (f C.member) C.offers h))
   where
     miss : (y : A) → Memᴰ y C.front → eqb (number y) c ≡ false
     miss y m =
         let e = is y (subst (Memᴰ y) (sym C.split) (Memᴰ.append_left (C.member ∷ C.back) m)) in
-        let l = capped-above top c (f y) h (C.dearer y m) in
+        let l = capped_above top c (f y) h (C.dearer y m) in
         ne_eqb (number y) c (omega arith)
 
 -- what was extended
@@ -56,13 +56,13 @@ pub record Extended {P Q : Type 0} (d : ℕ) (f : P → Q) (a : Choice P) (c : �
   pub cost : ℕ
   pub path : P
   pub had : a ≡ some cost path
-  pub cost-is : c ≡ d + cost
-  pub path-is : q ≡ f path
+  pub cost_is : c ≡ d + cost
+  pub path_is : q ≡ f path
 
 pub extended : {P Q : Type 0} (d : ℕ) (f : P → Q) (a : Choice P) {c : ℕ} {q : Q} → extend d f a ≡ some c q → Extended d f a c q
 unfolding extend
 extended d f none e = let z : ◌≡◌ {A = ℕ} 0 1 = cc in absurd (omega arith)
-extended d f (some u p) e = record { cost = u; path = p; had = refl; cost-is = cc; path-is = cc }
+extended d f (some u p) e = record { cost = u; path = p; had = refl; cost_is = cc; path_is = cc }
 
 module _ {E P : Type 0} {G : Graph E P} (Q : Prices G) (top : ℕ) (final : ℕ → ℕ)
     (ended : (t v : ℕ) → final v ≡ capped top (ahead Q zero t v)) where
@@ -72,11 +72,11 @@ module _ {E P : Type 0} {G : Graph E P} (Q : Prices G) (top : ℕ) (final : ℕ 
     pub found : next G Q.cost top final k t v ≡ just edge
     pub behind : Extended (Q.cost t edge) (G.onto edge) (ahead Q k (suc t) (G.to edge)) c p
 
-  pub onwardCost : (k t v : ℕ) {c : ℕ} {p : P} → ahead Q (suc k) t v ≡ some c p → c < top → Onward k t v c p
+  pub onward_cost : (k t v : ℕ) {c : ℕ} {p : P} → ahead Q (suc k) t v ≡ some c p → c < top → Onward k t v c p
   unfolding next ahead
-  onwardCost k t v {c} {p} e h = record {
+  onward_cost k t v {c} {p} e h = record {
     edge = C.member;
-    found = ap (λ n. firstWith (λ x. eqb (number x) n) (G.out t v)) total ∙ chosen-first top through number (λ x m. is x) C h;
+    found = ap (λ n. first_with (λ x. eqb (number x) n) (G.out t v)) total ∙ chosen_first top through number (λ x m. is x) C h;
     behind = extended _ _ _ C.offers;
   }
     where
@@ -84,27 +84,27 @@ module _ {E P : Type 0} {G : Graph E P} (Q : Prices G) (top : ℕ) (final : ℕ 
       through x = extend (Q.cost t x) (G.onto x) (ahead Q k (suc t) (G.to x))
 
       C : Chosen through (G.out t v) c p
-      C = all-chosen through (G.out t v) e
+      C = all_chosen through (G.out t v) e
 
       number : E → ℕ
       number x = plus top (Q.cost t x) (least G Q.cost top final k (suc t) (G.to x))
 
       is : (x : E) → number x ≡ capped top (through x)
       is x =
-          ap (plus top (Q.cost t x)) (least-ahead top Q final ended k (suc t) (G.to x))
-          ∙ sym (capped-extend top (Q.cost t x) (G.onto x) (ahead Q k (suc t) (G.to x)))
+          ap (plus top (Q.cost t x)) (least_ahead top Q final ended k (suc t) (G.to x))
+          ∙ sym (capped_extend top (Q.cost t x) (G.onto x) (ahead Q k (suc t) (G.to x)))
 
       total : least G Q.cost top final (suc k) t v ≡ c
-      total = least-ahead top Q final ended (suc k) t v ∙ capped_is top (ahead Q (suc k) t v) e h
+      total = least_ahead top Q final ended (suc k) t v ∙ capped_is top (ahead Q (suc k) t v) e h
 
-  pub trace-best : (stop : ℕ → P) → ((t v c : ℕ) (p : P) → ahead Q zero t v ≡ some c p → stop v ≡ p) → (k t v : ℕ) {c : ℕ} {p : P}
+  pub trace_best : (stop : ℕ → P) → ((t v c : ℕ) (p : P) → ahead Q zero t v ≡ some c p → stop v ≡ p) → (k t v : ℕ) {c : ℕ} {p : P}
       → ahead Q k t v ≡ some c p → c < top
       → trace G Q.cost top final stop k t v ≡ p
-  unfolding trace orStop
-  trace-best stop s zero t v {c} {p} e h = s t v c p e
-  trace-best stop s (suc k) t v {c} {p} e h =
-      let O = onwardCost k t v e h in
+  unfolding trace or_stop
+  trace_best stop s zero t v {c} {p} e h = s t v c p e
+  trace_best stop s (suc k) t v {c} {p} e h =
+      let O = onward_cost k t v e h in
       let B = O.behind in
       let l = B.cost-is in
-      ap (orStop (stop v) _) O.found ∙ ap (G.onto O.edge) (trace-best stop s k (suc t) (G.to O.edge) B.had (omega arith))
+      ap (or_stop (stop v) _) O.found ∙ ap (G.onto O.edge) (trace_best stop s k (suc t) (G.to O.edge) B.had (omega arith))
       ∙ sym B.path-is

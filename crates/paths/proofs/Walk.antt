@@ -4,8 +4,8 @@ use mathlib.Core.Path.{◌≡◌, refl, sym, ap, ◌∙◌}
 use mathlib.Core.List.{List, map, flat_map}
 use Prim.Native.Nat.{ℕ, zero, suc}
 use Rattle.paths.specs.Choice.{Choice}
-use Rattle.paths.specs.inner.Graph.{Graph}
-use Rattle.paths.proofs.Choose.{all_map, all-flatMap, all-extend, all_same, extend, chooseAll}
+use Rattle.paths.specs.Inner.Graph.{Graph}
+use Rattle.paths.proofs.Choose.{all_map, all_flat_map, all_extend, all_same, extend, choose_all}
 
 -- all paths of k steps from vertex v, the first of them step t, in the order of their edges
 unfoldable pub paths : {E P : Type 0} → Graph E P → ℕ → ℕ → ℕ → List P
@@ -21,20 +21,20 @@ pub record Prices {E P : Type 0} (G : Graph E P) : Type 0 where
 
 -- backward: what is best from v follows from what is best one step on
 unfoldable pub ahead : {E P : Type 0} {G : Graph E P} → Prices G → ℕ → ℕ → ℕ → Choice P
-ahead {E} {P} {G} Q zero t v = chooseAll (Q.offer t) (G.ends v)
-ahead {E} {P} {G} Q (suc k) t v = chooseAll (λ e. extend (Q.cost t e) (G.onto e) (ahead Q k (suc t) (G.to e))) (G.out t v)
+ahead {E} {P} {G} Q zero t v = choose_all (Q.offer t) (G.ends v)
+ahead {E} {P} {G} Q (suc k) t v = choose_all (λ e. extend (Q.cost t e) (G.onto e) (ahead Q k (suc t) (G.to e))) (G.out t v)
 
 module _ {E P : Type 0} {G : Graph E P} (Q : Prices G) where
   through : (t : ℕ) (e : E) (ps : List P)
-      → chooseAll (Q.offer t) (map (G.onto e) ps) ≡ extend (Q.cost t e) (G.onto e) (chooseAll (Q.offer (suc t)) ps)
+      → choose_all (Q.offer t) (map (G.onto e) ps) ≡ extend (Q.cost t e) (G.onto e) (choose_all (Q.offer (suc t)) ps)
   through t e ps =
-      all_map (Q.offer t) (G.onto e) ps ∙ all_same (Q.more t e) ps ∙ all-extend (Q.offer (suc t)) (Q.cost t e) (G.onto e) ps
+      all_map (Q.offer t) (G.onto e) ps ∙ all_same (Q.more t e) ps ∙ all_extend (Q.offer (suc t)) (Q.cost t e) (G.onto e) ps
 
   -- it is the first of least cost among all paths
-  pub ahead-best : (k t v : ℕ) → ahead Q k t v ≡ chooseAll (Q.offer t) (paths G k t v)
+  pub ahead_best : (k t v : ℕ) → ahead Q k t v ≡ choose_all (Q.offer t) (paths G k t v)
   unfolding ahead paths
-  ahead-best zero t v = refl
-  ahead-best (suc k) t v =
-      all_same (λ e. ap (extend (Q.cost t e) (G.onto e)) (ahead-best k (suc t) (G.to e))
+  ahead_best zero t v = refl
+  ahead_best (suc k) t v =
+      all_same (λ e. ap (extend (Q.cost t e) (G.onto e)) (ahead_best k (suc t) (G.to e))
       ∙ sym (through t e (paths G k (suc t) (G.to e)))) (G.out t v)
-      ∙ sym (all-flatMap (Q.offer t) (λ e. map (G.onto e) (paths G k (suc t) (G.to e))) (G.out t v))
+      ∙ sym (all_flat_map (Q.offer t) (λ e. map (G.onto e) (paths G k (suc t) (G.to e))) (G.out t v))

@@ -5,38 +5,38 @@ use Rattle.std.specs.Prelude.{◌≡◌, Bool, true, cond, ◌⊎◌, ℕ, zero,
 use mathlib.Core.List.{List, [], ◌∷◌, map, flat_map}
 use Rattle.trellis.specs.Lists.{◌∈◌, keep}
 use Rattle.trellis.specs.Word.{Word, Before}
-use Rattle.paths.specs.Choice.{Choice, best, paidOr}
+use Rattle.paths.specs.Choice.{Choice, best, paid_or}
 
 -- no path, in a cost table
 abbrev pub unreached : ℕ
 unreached = 4294967295
 
 -- a path may end in the end state
-abbrev pub endsIn : ℕ → ℕ → Bool
-endsIn end s = eqb s end
+abbrev pub ends_in : ℕ → ℕ → Bool
+ends_in end s = eqb s end
 
 -- the words that start in state s
-unfoldable pub rootedAt : ℕ → List Word → List Word
-rootedAt s ws = keep (λ w. eqb w.root s) ws
+unfoldable pub rooted_at : ℕ → List Word → List Word
+rooted_at s ws = keep (λ w. eqb w.root s) ws
 
 -- all paths through k blocks from state s before block b to a state where a path may end: a word's goal is the next word's root
-unfoldable pub chainPaths : (ℕ → List Word) → (ℕ → Bool) → ℕ → ℕ → ℕ → List (List Word)
-chainPaths words ends zero b s = cond (ends s) ([] ∷ []) []
-chainPaths words ends (suc k) b s = flat_map (λ w. map (λ ws. w ∷ ws) (chainPaths words ends k (suc b) w.goal)) (rootedAt s (words b))
+unfoldable pub chain_paths : (ℕ → List Word) → (ℕ → Bool) → ℕ → ℕ → ℕ → List (List Word)
+chain_paths words ends zero b s = cond (ends s) ([] ∷ []) []
+chain_paths words ends (suc k) b s = flat_map (λ w. map (λ ws. w ∷ ws) (chain_paths words ends k (suc b) w.goal)) (rooted_at s (words b))
 
 -- the distance of a path whose first word is that of block b
-unfoldable pub pathDistance : (ℕ → Word → ℕ) → ℕ → List Word → ℕ
-pathDistance dist b [] = 0
-pathDistance dist b (w ∷ ws) = dist b w + pathDistance dist (suc b) ws
+unfoldable pub path_distance : (ℕ → Word → ℕ) → ℕ → List Word → ℕ
+path_distance dist b [] = 0
+path_distance dist b (w ∷ ws) = dist b w + path_distance dist (suc b) ws
 
 module _ (words : ℕ → List Word) (ends : ℕ → Bool) (dist : ℕ → Word → ℕ) where
   -- the first path of least distance
-  unfoldable pub bestPath : ℕ → ℕ → ℕ → Choice (List Word)
-  bestPath k b s = best (pathDistance dist b) (chainPaths words ends k b s)
+  unfoldable pub best_path : ℕ → ℕ → ℕ → Choice (List Word)
+  best_path k b s = best (path_distance dist b) (chain_paths words ends k b s)
 
   -- the least distance, `unreached` where there is no path
-  unfoldable pub costTable : ℕ → ℕ → ℕ → ℕ
-  costTable k b s = paidOr unreached (bestPath k b s)
+  unfoldable pub cost_table : ℕ → ℕ → ℕ → ℕ
+  cost_table k b s = paid_or unreached (best_path k b s)
 
 -- ---- what a path is, word by word: p goes from state s before block b to a state where a path may end
 

@@ -18,6 +18,6 @@ best cost [] = none
 best cost (p ∷ ps) = choose (some (cost p) p) (best cost ps)
 
 -- what is paid, or `top` where there is nothing
-unfoldable pub paidOr : {P : Type 0} → ℕ → Choice P → ℕ
-paidOr top none = top
-paidOr top (some c p) = c
+unfoldable pub paid_or : {P : Type 0} → ℕ → Choice P → ℕ
+paid_or top none = top
+paid_or top (some c p) = c

@@ -1,4 +1,4 @@
 -- The theory of best paths, lowest first: what each file defines is used by those below it.
 pub mod Choice
 pub mod Chain
-pub mod inner
+pub mod Inner

@@ -1,7 +1,7 @@
 // The pairs (from, to) and the symbols of one step's edges, from the first word on each.
 ghost use Rattle.std.specs.Prelude.{◌+◌, ◌-◌, ◌*◌, ◌<◌, ◌≤◌, length};
-ghost use Rattle.trellis.specs.inner.Write.{Wrote};
-ghost use Rattle.takers.specs.inner.Pieces.{part, pairsOf, symbolsOf, WordsAt};
+ghost use Rattle.trellis.specs.Inner.Write.{Wrote};
+ghost use Rattle.takers.specs.Inner.Pieces.{part, pairs_of, symbols_of, WordsAt};
 
 use numbers::wide;
 
@@ -17,7 +17,7 @@ pub fn put_pairs(
     at: usize,
 ) -> usize
     requires { WordsAt words.now lo hi w × (row + w + w ≤ length map.now) × (at + 2 * (hi - lo) ≤ length section.old) }
-    ensures { Wrote section.old at (pairsOf map.now w row (part words.now lo (hi - lo)))
+    ensures { Wrote section.old at (pairs_of map.now w row (part words.now lo (hi - lo)))
         section.new result }
 {
     let mut to = at;
@@ -44,7 +44,7 @@ pub fn put_symbols(
     at: usize,
 ) -> usize
     requires { WordsAt words.now lo hi (length labels.now) × (at + (hi - lo) ≤ length section.old) }
-    ensures { Wrote section.old at (symbolsOf labels.now n t (part words.now lo (hi - lo)))
+    ensures { Wrote section.old at (symbols_of labels.now n t (part words.now lo (hi - lo)))
         section.new result }
 {
     let mut to = at;

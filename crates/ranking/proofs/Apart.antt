@@ -9,12 +9,12 @@ use native.Mathlib.Omega.{arith}
 use lib.ListN.{length, get_or}
 use Rattle.trellis.specs.Word.{Word, Before}
 use Rattle.trellis.proofs.Lists.{in_place}
-use Rattle.trellis.proofs.ThreeNumbers.{lower-never}
-use Rattle.paths.specs.Chain.{ChainBefore, pathDistance}
-use Rattle.paths.specs.inner.Ordered.{Ordered, ended, leads}
-use Rattle.ranking.specs.Several.{bestPaths}
-use Rattle.ranking.specs.inner.Bests.{Prior}
-use Rattle.ranking.proofs.Chain.{paths-best}
+use Rattle.trellis.proofs.ThreeNumbers.{lower_never}
+use Rattle.paths.specs.Chain.{ChainBefore, path_distance}
+use Rattle.paths.specs.Inner.Ordered.{Ordered, ended, leads}
+use Rattle.ranking.specs.Several.{best_paths}
+use Rattle.ranking.specs.Inner.Bests.{Prior}
+use Rattle.ranking.proofs.Chain.{paths_best}
 
 pub in_order : {A : Type 0} {R : A → A → Type 0} {best : List A} → Ordered R best → (d : A) (i j : ℕ) → i < j → j < length best
     → R (get_or best i d) (get_or best j d)
@@ -35,14 +35,14 @@ module _ {A : Type 0} (cost : A → ℕ) (R : A → A → Type 0) (never : (x : 
 
 -- ---- the k best paths
 
-pub chain-never : (p : List Word) → ChainBefore p p → ⊥
-chain-never [] h = h
-chain-never (w ∷ p) h = ⊎_elim (lower-never w.root w.label w.goal) (λ l. chain-never p l.1) h
+pub chain_never : (p : List Word) → ChainBefore p p → ⊥
+chain_never [] h = h
+chain_never (w ∷ p) h = ⊎_elim (lower_never w.root w.label w.goal) (λ l. chain_never p l.1) h
 
 module _ (words : ℕ → List Word) (ends : ℕ → Bool) (dist : ℕ → Word → ℕ) (blocks : ℕ)
     (ordered : (b : ℕ) → b < blocks → Ordered Before (words b)) where
   -- no path is listed twice
-  pub paths-apart : (k m b s : ℕ) → b + m ≤ blocks → (d : List Word) (i j : ℕ) → i < j → j < length (bestPaths words ends dist k m b s)
-      → get_or (bestPaths words ends dist k m b s) i d ≡ get_or (bestPaths words ends dist k m b s) j d → ⊥
-  paths-apart k m b s h d i j =
-      apart (pathDistance dist b) ChainBefore chain-never (paths-best words ends dist blocks ordered k m b s h).ordered d i j
+  pub paths_apart : (k m b s : ℕ) → b + m ≤ blocks → (d : List Word) (i j : ℕ) → i < j → j < length (best_paths words ends dist k m b s)
+      → get_or (best_paths words ends dist k m b s) i d ≡ get_or (best_paths words ends dist k m b s) j d → ⊥
+  paths_apart k m b s h d i j =
+      apart (path_distance dist b) ChainBefore chain_never (paths_best words ends dist blocks ordered k m b s h).ordered d i j

@@ -13,7 +13,7 @@ use lib.ListN.{length, length-append}
 use borrow.Author.Tests.{ltb-true, ltb-false, lt-ltb}
 use Rattle.trellis.specs.Lists.{◌∈◌}
 use Rattle.trellis.proofs.Bools.{settle}
-use Rattle.ranking.specs.inner.Kept.{all_below, cut, cuts, keepBest}
+use Rattle.ranking.specs.Inner.Kept.{all_below, cut, cuts, keep_best}
 
 module _ {A : Type 0} (cost : A → ℕ) where
   -- ---- all below a number
@@ -34,8 +34,8 @@ module _ {A : Type 0} (cost : A → ℕ) where
   each_below c (x ∷ xs) h = rw (lt-ltb (cost x) c (h x (Memᴰ.head refl))) (each_below c xs (λ y m. h y (Memᴰ.tail m)))
 
   -- some member is not below c, so it is not below a lesser number
-  pub not-below : (c d : ℕ) (xs : List A) → d ≤ c → all_below cost c xs ≡ false → all_below cost d xs ≡ false
-  not-below c d xs h e = ⊎_elim all (λ k. k) (settle (all_below cost d xs))
+  pub not_below : (c d : ℕ) (xs : List A) → d ≤ c → all_below cost c xs ≡ false → all_below cost d xs ≡ false
+  not_below c d xs h e = ⊎_elim all (λ k. k) (settle (all_below cost d xs))
     where
       all : all_below cost d xs ≡ true → all_below cost d xs ≡ false
       all k =
@@ -52,39 +52,39 @@ module _ {A : Type 0} (cost : A → ℕ) where
     pub back : List A
     pub split : xs ≡ front ++ (last ∷ back)
     pub left : cut cost xs ≡ front ++ back
-    pub inFront : (y : A) → y ∈ front → cost y ≤ cost last
+    pub in_front : (y : A) → y ∈ front → cost y ≤ cost last
     pub behind : (y : A) → y ∈ back → cost y < cost last
 
-  first-dearest : (x : A) (xs : List A) → all_below cost (cost x) xs ≡ true → Dearest (x ∷ xs)
+  first_dearest : (x : A) (xs : List A) → all_below cost (cost x) xs ≡ true → Dearest (x ∷ xs)
   unfolding cut
-  first-dearest x xs e =
+  first_dearest x xs e =
       record {
         front = [];
         last = x;
         back = xs;
         split = refl;
         left = rw e;
-        inFront = λ y m. absurd (Memᴰ.not-nil m);
+        in_front = λ y m. absurd (Memᴰ.not-nil m);
         behind = below_each (cost x) xs e;
       }
 
-  later-dearest : (x : A) (xs : List A) → all_below cost (cost x) xs ≡ false → Dearest xs → Dearest (x ∷ xs)
+  later_dearest : (x : A) (xs : List A) → all_below cost (cost x) xs ≡ false → Dearest xs → Dearest (x ∷ xs)
   unfolding cut
-  later-dearest x xs e D =
+  later_dearest x xs e D =
       record {
         front = x ∷ D.front;
         last = D.last;
         back = D.back;
         split = ap (λ l. x ∷ l) D.split;
         left = rw e (ap (λ l. x ∷ l) D.left);
-        inFront =
-            λ y m. ⊎_elim (λ k. let i = ap cost k in let o = over in omega arith) (D.inFront y) (Memᴰ.cases_cons m);
+        in_front =
+            λ y m. ⊎_elim (λ k. let i = ap cost k in let o = over in omega arith) (D.in_front y) (Memᴰ.cases_cons m);
         behind = D.behind;
       }
     where
       each : (y : A) → y ∈ xs → cost y ≤ cost D.last
       each y m =
-          ⊎_elim (D.inFront y)
+          ⊎_elim (D.in_front y)
           (λ k. ⊎_elim (λ i. let j = ap cost i in omega arith) (λ l. let j = D.behind y l in omega arith) (Memᴰ.cases_cons k))
           (Memᴰ.append_cases D.front (subst (Memᴰ y) D.split m))
 
@@ -101,29 +101,29 @@ module _ {A : Type 0} (cost : A → ℕ) where
               absurd (omega arith)
           go (inr t) = ltb-false (cost D.last) (cost x) t
 
-  pub dearest-of : (x : A) (xs : List A) → Dearest (x ∷ xs)
+  pub dearest_of : (x : A) (xs : List A) → Dearest (x ∷ xs)
   unfolding all_below
-  dearest-of x [] = first-dearest x [] refl
-  dearest-of x (y ∷ ys) =
-      ⊎_elim (first-dearest x (y ∷ ys)) (λ e. later-dearest x (y ∷ ys) e (dearest-of y ys)) (settle (all_below cost (cost x) (y ∷ ys)))
+  dearest_of x [] = first_dearest x [] refl
+  dearest_of x (y ∷ ys) =
+      ⊎_elim (first_dearest x (y ∷ ys)) (λ e. later_dearest x (y ∷ ys) e (dearest_of y ys)) (settle (all_below cost (cost x) (y ∷ ys)))
 
-  pub some-dearest : (xs : List A) → 0 < length xs → Dearest xs
-  some-dearest [] h = absurd (omega arith)
-  some-dearest (x ∷ xs) h = dearest-of x xs
+  pub some_dearest : (xs : List A) → 0 < length xs → Dearest xs
+  some_dearest [] h = absurd (omega arith)
+  some_dearest (x ∷ xs) h = dearest_of x xs
 
   pub length_cut : (xs : List A) → length (cut cost xs) ≡ length xs - 1
   unfolding cut
   length_cut [] = omega arith
   length_cut (x ∷ xs) =
-      let D = dearest-of x xs in
+      let D = dearest_of x xs in
       let a = ap length D.split in
       let b = ap length D.left in
       omega (arith, length-append D.front (D.last ∷ D.back), length-append D.front D.back, a, b)
 
-  pub cut-member : (xs : List A) (y : A) → y ∈ cut cost xs → y ∈ xs
+  pub cut_member : (xs : List A) (y : A) → y ∈ cut cost xs → y ∈ xs
   unfolding cut
-  cut-member [] y m = m
-  cut-member (x ∷ xs) y m = go (all_below cost (cost x) xs) (cut-member xs y) m
+  cut_member [] y m = m
+  cut_member (x ∷ xs) y m = go (all_below cost (cost x) xs) (cut_member xs y) m
     where
       go : (b : Bool) → (y ∈ cut cost xs → y ∈ xs) → y ∈ cond b xs (x ∷ cut cost xs) → y ∈ x ∷ xs
       go true r k = Memᴰ.tail k
@@ -131,43 +131,43 @@ module _ {A : Type 0} (cost : A → ℕ) where
 
   -- ---- as long as there are more than k, a cut changes nothing of what follows: then keeping does not
 
-  cuts-steady : {B : Type 0} (F : List A → B) (Good : List A → Type 0) (k : ℕ)
+  cuts_steady : {B : Type 0} (F : List A → B) (Good : List A → Type 0) (k : ℕ)
       → ((xs : List A) → Good xs → k < length xs → F xs ≡ F (cut cost xs))
       → ((xs : List A) → Good xs → Good (cut cost xs))
       → (m : ℕ) (xs : List A) → length xs - k ≡ m → Good xs → F xs ≡ F (cuts cost m xs)
   unfolding cuts
-  cuts-steady F Good k step stays zero xs e g = refl
-  cuts-steady F Good k step stays (suc m) xs e g =
+  cuts_steady F Good k step stays zero xs e g = refl
+  cuts_steady F Good k step stays (suc m) xs e g =
       let l = length_cut xs in
-      step xs g (omega arith) ∙ cuts-steady F Good k step stays m (cut cost xs) (omega arith) (stays xs g)
+      step xs g (omega arith) ∙ cuts_steady F Good k step stays m (cut cost xs) (omega arith) (stays xs g)
 
-  pub keep-steady : {B : Type 0} (F : List A → B) (Good : List A → Type 0) (k : ℕ)
+  pub keep_steady : {B : Type 0} (F : List A → B) (Good : List A → Type 0) (k : ℕ)
       → ((xs : List A) → Good xs → k < length xs → F xs ≡ F (cut cost xs))
-      → ((xs : List A) → Good xs → Good (cut cost xs)) → (xs : List A) → Good xs → F xs ≡ F (keepBest cost k xs)
-  unfolding keepBest
-  keep-steady F Good k step stays xs g = cuts-steady F Good k step stays (length xs - k) xs refl g
+      → ((xs : List A) → Good xs → Good (cut cost xs)) → (xs : List A) → Good xs → F xs ≡ F (keep_best cost k xs)
+  unfolding keep_best
+  keep_steady F Good k step stays xs g = cuts_steady F Good k step stays (length xs - k) xs refl g
 
-  length-cuts : (m : ℕ) (xs : List A) → length (cuts cost m xs) ≡ length xs - m
+  length_cuts : (m : ℕ) (xs : List A) → length (cuts cost m xs) ≡ length xs - m
   unfolding cuts
-  length-cuts zero xs = omega arith
-  length-cuts (suc m) xs = let l = length_cut xs in let i = length-cuts m (cut cost xs) in omega arith
+  length_cuts zero xs = omega arith
+  length_cuts (suc m) xs = let l = length_cut xs in let i = length_cuts m (cut cost xs) in omega arith
 
-  pub length-kept : (k : ℕ) (xs : List A) → length (keepBest cost k xs) ≡ min k (length xs)
-  unfolding keepBest
-  length-kept k xs = let i = length-cuts (length xs - k) xs in omega arith
+  pub length_kept : (k : ℕ) (xs : List A) → length (keep_best cost k xs) ≡ min k (length xs)
+  unfolding keep_best
+  length_kept k xs = let i = length_cuts (length xs - k) xs in omega arith
 
-  cuts-member : (m : ℕ) (xs : List A) (y : A) → y ∈ cuts cost m xs → y ∈ xs
+  cuts_member : (m : ℕ) (xs : List A) (y : A) → y ∈ cuts cost m xs → y ∈ xs
   unfolding cuts
-  cuts-member zero xs y m = m
-  cuts-member (suc n) xs y m = cut-member xs y (cuts-member n (cut cost xs) y m)
+  cuts_member zero xs y m = m
+  cuts_member (suc n) xs y m = cut_member xs y (cuts_member n (cut cost xs) y m)
 
-  pub kept-member : (k : ℕ) (xs : List A) (y : A) → y ∈ keepBest cost k xs → y ∈ xs
-  unfolding keepBest
-  kept-member k xs y m = cuts-member (length xs - k) xs y m
+  pub kept_member : (k : ℕ) (xs : List A) (y : A) → y ∈ keep_best cost k xs → y ∈ xs
+  unfolding keep_best
+  kept_member k xs y m = cuts_member (length xs - k) xs y m
 
-  pub kept-all : (k : ℕ) (xs : List A) → length xs ≤ k → keepBest cost k xs ≡ xs
-  unfolding keepBest cuts
-  kept-all k xs h = let e : length xs - k ≡ 0 = omega arith in ap (λ j. cuts cost j xs) e
+  pub kept_all : (k : ℕ) (xs : List A) → length xs ≤ k → keep_best cost k xs ≡ xs
+  unfolding keep_best cuts
+  kept_all k xs h = let e : length xs - k ≡ 0 = omega arith in ap (λ j. cuts cost j xs) e
 
-  pub keep-again : (k : ℕ) (xs : List A) → keepBest cost k (keepBest cost k xs) ≡ keepBest cost k xs
-  keep-again k xs = let l = length-kept k xs in kept-all k (keepBest cost k xs) (omega arith)
+  pub keep_again : (k : ℕ) (xs : List A) → keep_best cost k (keep_best cost k xs) ≡ keep_best cost k xs
+  keep_again k xs = let l = length_kept k xs in kept_all k (keep_best cost k xs) (omega arith)

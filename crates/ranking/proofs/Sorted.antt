@@ -16,51 +16,51 @@ use borrow.Author.Tests.{lt-ltb, le-leb, lt-leb}
 use Rattle.trellis.specs.Lists.{◌∈◌}
 use Rattle.trellis.proofs.Bools.{settle}
 use Rattle.paths.specs.Choice.{some, choose, best}
-use Rattle.paths.specs.inner.Ordered.{Ordered, ended, leads}
-use Rattle.ranking.specs.Several.{insertBy, sortBy, severalBest}
-use Rattle.ranking.specs.inner.Bests.{head_of, Prior, Bests}
-use Rattle.ranking.specs.inner.Kept.{all_below, cut, keepBest}
-use Rattle.ranking.proofs.Lists.{take-member}
-use Rattle.ranking.proofs.Cut.{below_each, each_below, length_cut, keep-steady, length-kept}
+use Rattle.paths.specs.Inner.Ordered.{Ordered, ended, leads}
+use Rattle.ranking.specs.Several.{insert_by, sort_by, several_best}
+use Rattle.ranking.specs.Inner.Bests.{head_of, Prior, Bests}
+use Rattle.ranking.specs.Inner.Kept.{all_below, cut, keep_best}
+use Rattle.ranking.proofs.Lists.{take_member}
+use Rattle.ranking.proofs.Cut.{below_each, each_below, length_cut, keep_steady, length_kept}
 
 module _ {A : Type 0} (cost : A → ℕ) where
   -- ---- one insertion
 
-  pub insert-front : (x y : A) (ys : List A) → cost x ≤ cost y → insertBy cost x (y ∷ ys) ≡ x ∷ (y ∷ ys)
-  unfolding insertBy
-  insert-front x y ys h = ap (λ b. cond b (x ∷ (y ∷ ys)) (y ∷ insertBy cost x ys)) (le-leb (cost x) (cost y) h)
+  pub insert_front : (x y : A) (ys : List A) → cost x ≤ cost y → insert_by cost x (y ∷ ys) ≡ x ∷ (y ∷ ys)
+  unfolding insert_by
+  insert_front x y ys h = ap (λ b. cond b (x ∷ (y ∷ ys)) (y ∷ insert_by cost x ys)) (le-leb (cost x) (cost y) h)
 
-  pub insert-later : (x y : A) (ys : List A) → cost y < cost x → insertBy cost x (y ∷ ys) ≡ y ∷ insertBy cost x ys
-  unfolding insertBy
-  insert-later x y ys h = ap (λ b. cond b (x ∷ (y ∷ ys)) (y ∷ insertBy cost x ys)) (lt-leb (cost x) (cost y) h)
+  pub insert_later : (x y : A) (ys : List A) → cost y < cost x → insert_by cost x (y ∷ ys) ≡ y ∷ insert_by cost x ys
+  unfolding insert_by
+  insert_later x y ys h = ap (λ b. cond b (x ∷ (y ∷ ys)) (y ∷ insert_by cost x ys)) (lt-leb (cost x) (cost y) h)
 
-  length-insert : (x : A) (ys : List A) → length (insertBy cost x ys) ≡ suc (length ys)
-  unfolding insertBy
-  length-insert x [] = refl
-  length-insert x (y ∷ ys) = go (leb (cost x) (cost y)) (length-insert x ys)
+  length_insert : (x : A) (ys : List A) → length (insert_by cost x ys) ≡ suc (length ys)
+  unfolding insert_by
+  length_insert x [] = refl
+  length_insert x (y ∷ ys) = go (leb (cost x) (cost y)) (length_insert x ys)
     where
-      go : (b : Bool) → length (insertBy cost x ys) ≡ suc (length ys)
-          → length (cond b (x ∷ (y ∷ ys)) (y ∷ insertBy cost x ys)) ≡ suc (suc (length ys))
+      go : (b : Bool) → length (insert_by cost x ys) ≡ suc (length ys)
+          → length (cond b (x ∷ (y ∷ ys)) (y ∷ insert_by cost x ys)) ≡ suc (suc (length ys))
       go true r = refl
       go false r = ap suc r
 
-  of-insert : (x : A) (ys : List A) (z : A) → z ∈ insertBy cost x ys → (z ≡ x) ⊎ (z ∈ ys)
-  unfolding insertBy
-  of-insert x [] z m = Memᴰ.cases_cons m
-  of-insert x (y ∷ ys) z m = go (leb (cost x) (cost y)) (of-insert x ys z) m
+  of_insert : (x : A) (ys : List A) (z : A) → z ∈ insert_by cost x ys → (z ≡ x) ⊎ (z ∈ ys)
+  unfolding insert_by
+  of_insert x [] z m = Memᴰ.cases_cons m
+  of_insert x (y ∷ ys) z m = go (leb (cost x) (cost y)) (of_insert x ys z) m
     where
-      go : (b : Bool) → (z ∈ insertBy cost x ys → (z ≡ x) ⊎ (z ∈ ys)) → z ∈ cond b (x ∷ (y ∷ ys)) (y ∷ insertBy cost x ys)
+      go : (b : Bool) → (z ∈ insert_by cost x ys → (z ≡ x) ⊎ (z ∈ ys)) → z ∈ cond b (x ∷ (y ∷ ys)) (y ∷ insert_by cost x ys)
           → (z ≡ x) ⊎ (z ∈ y ∷ ys)
       go true r k = Memᴰ.cases_cons k
       go false r k = ⊎_elim (λ e. inr (Memᴰ.head e)) (λ l. ⊎_elim inl (λ i. inr (Memᴰ.tail i)) (r l)) (Memᴰ.cases_cons k)
 
-  in_insert : (x : A) (ys : List A) (z : A) → (z ≡ x) ⊎ (z ∈ ys) → z ∈ insertBy cost x ys
-  unfolding insertBy
+  in_insert : (x : A) (ys : List A) (z : A) → (z ≡ x) ⊎ (z ∈ ys) → z ∈ insert_by cost x ys
+  unfolding insert_by
   in_insert x [] z o = ⊎_elim (λ e. Memᴰ.head e) (λ m. absurd (Memᴰ.not-nil m)) o
   in_insert x (y ∷ ys) z o = go (leb (cost x) (cost y)) (in_insert x ys z) o
     where
-      go : (b : Bool) → ((z ≡ x) ⊎ (z ∈ ys) → z ∈ insertBy cost x ys) → (z ≡ x) ⊎ (z ∈ y ∷ ys)
-          → z ∈ cond b (x ∷ (y ∷ ys)) (y ∷ insertBy cost x ys)
+      go : (b : Bool) → ((z ≡ x) ⊎ (z ∈ ys) → z ∈ insert_by cost x ys) → (z ≡ x) ⊎ (z ∈ y ∷ ys)
+          → z ∈ cond b (x ∷ (y ∷ ys)) (y ∷ insert_by cost x ys)
       go true r k = ⊎_elim (λ e. Memᴰ.head e) (λ m. Memᴰ.tail m) k
       go false r k =
           ⊎_elim (λ e. Memᴰ.tail (r (inl e)))
@@ -69,68 +69,68 @@ module _ {A : Type 0} (cost : A → ℕ) where
 
   -- ---- the sorted list
 
-  pub length-sort : (xs : List A) → length (sortBy cost xs) ≡ length xs
-  unfolding sortBy
-  length-sort [] = refl
-  length-sort (x ∷ xs) = length-insert x (sortBy cost xs) ∙ ap suc (length-sort xs)
+  pub length_sort : (xs : List A) → length (sort_by cost xs) ≡ length xs
+  unfolding sort_by
+  length_sort [] = refl
+  length_sort (x ∷ xs) = length_insert x (sort_by cost xs) ∙ ap suc (length_sort xs)
 
-  pub of-sort : (xs : List A) (z : A) → z ∈ sortBy cost xs → z ∈ xs
-  unfolding sortBy
-  of-sort [] z m = m
-  of-sort (x ∷ xs) z m = ⊎_elim (λ e. Memᴰ.head e) (λ k. Memᴰ.tail (of-sort xs z k)) (of-insert x (sortBy cost xs) z m)
+  pub of_sort : (xs : List A) (z : A) → z ∈ sort_by cost xs → z ∈ xs
+  unfolding sort_by
+  of_sort [] z m = m
+  of_sort (x ∷ xs) z m = ⊎_elim (λ e. Memᴰ.head e) (λ k. Memᴰ.tail (of_sort xs z k)) (of_insert x (sort_by cost xs) z m)
 
-  pub in-sort : (xs : List A) (z : A) → z ∈ xs → z ∈ sortBy cost xs
-  unfolding sortBy
-  in-sort [] z m = m
-  in-sort (x ∷ xs) z m = in_insert x (sortBy cost xs) z (⊎_elim inl (λ k. inr (in-sort xs z k)) (Memᴰ.cases_cons m))
+  pub in_sort : (xs : List A) (z : A) → z ∈ xs → z ∈ sort_by cost xs
+  unfolding sort_by
+  in_sort [] z m = m
+  in_sort (x ∷ xs) z m = in_insert x (sort_by cost xs) z (⊎_elim inl (λ k. inr (in_sort xs z k)) (Memᴰ.cases_cons m))
 
   module _ (R : A → A → Type 0) where
-    prior-le : {x y : A} → Prior cost R x y → cost x ≤ cost y
-    prior-le (inl h) = omega arith
-    prior-le (inr h) = let e = h.0 in omega arith
+    prior_le : {x y : A} → Prior cost R x y → cost x ≤ cost y
+    prior_le (inl h) = omega arith
+    prior_le (inr h) = let e = h.0 in omega arith
 
-    prior-of : (x y : A) → cost x ≤ cost y → R x y → Prior cost R x y
-    prior-of x y h r = go (dec_le (cost y) (cost x))
+    prior_of : (x y : A) → cost x ≤ cost y → R x y → Prior cost R x y
+    prior_of x y h r = go (dec_le (cost y) (cost x))
       where
         go : Dec (cost y ≤ cost x) → Prior cost R x y
         go (yes l) = inr (omega arith, r)
         go (no l) = inl (omega arith)
 
-    insert-ordered : (x : A) {ys : List A} → ((y : A) → y ∈ ys → R x y) → Ordered (Prior cost R) ys
-        → Ordered (Prior cost R) (insertBy cost x ys)
-    unfolding insertBy
-    insert-ordered x r ended = leads (λ y m. absurd (Memᴰ.not-nil m)) ended
-    insert-ordered x r (leads {x = y} {xs = ys} f a) =
-        go (dec_le (cost x) (cost y)) (insert-ordered x (λ z m. r z (Memᴰ.tail m)) a)
+    insert_ordered : (x : A) {ys : List A} → ((y : A) → y ∈ ys → R x y) → Ordered (Prior cost R) ys
+        → Ordered (Prior cost R) (insert_by cost x ys)
+    unfolding insert_by
+    insert_ordered x r ended = leads (λ y m. absurd (Memᴰ.not-nil m)) ended
+    insert_ordered x r (leads {x = y} {xs = ys} f a) =
+        go (dec_le (cost x) (cost y)) (insert_ordered x (λ z m. r z (Memᴰ.tail m)) a)
       where
-        go : Dec (cost x ≤ cost y) → Ordered (Prior cost R) (insertBy cost x ys) → Ordered (Prior cost R) (insertBy cost x (y ∷ ys))
+        go : Dec (cost x ≤ cost y) → Ordered (Prior cost R) (insert_by cost x ys) → Ordered (Prior cost R) (insert_by cost x (y ∷ ys))
         go (yes h) i =
-            subst (Ordered (Prior cost R)) (sym (insert-front x y ys h))
-            (leads (λ z m. prior-of x z (over z m) (r z m)) (leads f a))
+            subst (Ordered (Prior cost R)) (sym (insert_front x y ys h))
+            (leads (λ z m. prior_of x z (over z m) (r z m)) (leads f a))
           where
             over : (z : A) → z ∈ y ∷ ys → cost x ≤ cost z
             over z m =
-                ⊎_elim (λ e. let k = ap cost e in omega arith) (λ k. let l = prior-le (f z k) in omega arith) (Memᴰ.cases_cons m)
+                ⊎_elim (λ e. let k = ap cost e in omega arith) (λ k. let l = prior_le (f z k) in omega arith) (Memᴰ.cases_cons m)
         go (no h) i =
-            subst (Ordered (Prior cost R)) (sym (insert-later x y ys (omega arith)))
-            (leads (λ z m. ⊎_elim (λ e. inl (let k = ap cost e in omega arith)) (f z) (of-insert x ys z m)) i)
+            subst (Ordered (Prior cost R)) (sym (insert_later x y ys (omega arith)))
+            (leads (λ z m. ⊎_elim (λ e. inl (let k = ap cost e in omega arith)) (f z) (of_insert x ys z m)) i)
 
-    pub sort-ordered : {xs : List A} → Ordered R xs → Ordered (Prior cost R) (sortBy cost xs)
-    unfolding sortBy
-    sort-ordered ended = ended
-    sort-ordered (leads {x = x} {xs = xs} f a) = insert-ordered x (λ y m. f y (of-sort xs y m)) (sort-ordered a)
+    pub sort_ordered : {xs : List A} → Ordered R xs → Ordered (Prior cost R) (sort_by cost xs)
+    unfolding sort_by
+    sort_ordered ended = ended
+    sort_ordered (leads {x = x} {xs = xs} f a) = insert_ordered x (λ y m. f y (of_sort xs y m)) (sort_ordered a)
 
     front_ordered : (k : ℕ) {ys : List A} → Ordered (Prior cost R) ys → Ordered (Prior cost R) (take k ys)
     front_ordered zero a = ended
     front_ordered (suc k) ended = ended
-    front_ordered (suc k) (leads {x = y} {xs = ys} f a) = leads (λ z m. f z (take-member k ys z m)) (front_ordered k a)
+    front_ordered (suc k) (leads {x = y} {xs = ys} f a) = leads (λ z m. f z (take_member k ys z m)) (front_ordered k a)
 
-    taken-or-after : (k : ℕ) {ys : List A} → Ordered (Prior cost R) ys → (x : A) → x ∈ ys
+    taken_or_after : (k : ℕ) {ys : List A} → Ordered (Prior cost R) ys → (x : A) → x ∈ ys
         → (x ∈ take k ys) ⊎ ((y : A) → y ∈ take k ys → Prior cost R y x)
-    taken-or-after zero a x m = inr (λ y n. absurd (Memᴰ.not-nil n))
-    taken-or-after (suc k) ended x m = absurd (Memᴰ.not-nil m)
-    taken-or-after (suc k) (leads {x = y} {xs = ys} f a) x m =
-        ⊎_elim (λ e. inl (Memᴰ.head e)) (λ l. go l (taken-or-after k a x l)) (Memᴰ.cases_cons m)
+    taken_or_after zero a x m = inr (λ y n. absurd (Memᴰ.not-nil n))
+    taken_or_after (suc k) ended x m = absurd (Memᴰ.not-nil m)
+    taken_or_after (suc k) (leads {x = y} {xs = ys} f a) x m =
+        ⊎_elim (λ e. inl (Memᴰ.head e)) (λ l. go l (taken_or_after k a x l)) (Memᴰ.cases_cons m)
       where
         go : x ∈ ys → (x ∈ take k ys) ⊎ ((z : A) → z ∈ take k ys → Prior cost R z x)
             → (x ∈ y ∷ take k ys) ⊎ ((z : A) → z ∈ y ∷ take k ys → Prior cost R z x)
@@ -138,67 +138,67 @@ module _ {A : Type 0} (cost : A → ℕ) where
         go l (inr i) = inr (λ z n. ⊎_elim (λ e. subst (λ w. Prior cost R w x) (sym e) (f x l)) (i z) (Memᴰ.cases_cons n))
 
     -- what the k best are
-    pub bests : (k : ℕ) {xs : List A} → Ordered R xs → Bests cost R k xs (severalBest cost k xs)
-    unfolding severalBest
+    pub bests : (k : ℕ) {xs : List A} → Ordered R xs → Bests cost R k xs (several_best cost k xs)
+    unfolding several_best
     bests k {xs} a =
         record {
-          listed = λ x m. of-sort xs x (take-member k (sortBy cost xs) x m);
-          many = let l = length-sort xs in omega (arith, length-take k (sortBy cost xs));
-          ordered = front_ordered k (sort-ordered a);
-          before = λ x m. taken-or-after k (sort-ordered a) x (in-sort xs x m);
+          listed = λ x m. of_sort xs x (take_member k (sort_by cost xs) x m);
+          many = let l = length_sort xs in omega (arith, length-take k (sort_by cost xs));
+          ordered = front_ordered k (sort_ordered a);
+          before = λ x m. taken_or_after k (sort_ordered a) x (in_sort xs x m);
         }
 
   -- the list for a smaller number is the start of a longer one
-  pub best-start : (j k : ℕ) (xs : List A) → j ≤ k → take j (severalBest cost k xs) ≡ severalBest cost j xs
-  unfolding severalBest
-  best-start j k xs h = take-take j k (sortBy cost xs) h
+  pub best_start : (j k : ℕ) (xs : List A) → j ≤ k → take j (several_best cost k xs) ≡ several_best cost j xs
+  unfolding several_best
+  best_start j k xs h = take-take j k (sort_by cost xs) h
 
   -- ---- the first is the first of least cost
 
-  insert-head : (x : A) (ys : List A) → head_of cost (insertBy cost x ys) ≡ choose (some (cost x) x) (head_of cost ys)
-  unfolding insertBy choose
-  insert-head x [] = refl
-  insert-head x (y ∷ ys) = go (leb (cost x) (cost y))
+  insert_head : (x : A) (ys : List A) → head_of cost (insert_by cost x ys) ≡ choose (some (cost x) x) (head_of cost ys)
+  unfolding insert_by choose
+  insert_head x [] = refl
+  insert_head x (y ∷ ys) = go (leb (cost x) (cost y))
     where
-      go : (b : Bool) → head_of cost (cond b (x ∷ (y ∷ ys)) (y ∷ insertBy cost x ys)) ≡ cond b (some (cost x) x) (some (cost y) y)
+      go : (b : Bool) → head_of cost (cond b (x ∷ (y ∷ ys)) (y ∷ insert_by cost x ys)) ≡ cond b (some (cost x) x) (some (cost y) y)
       go true = refl
       go false = refl
 
-  pub sort-head : (xs : List A) → head_of cost (sortBy cost xs) ≡ best cost xs
-  unfolding sortBy best
-  sort-head [] = refl
-  sort-head (x ∷ xs) = insert-head x (sortBy cost xs) ∙ ap (choose (some (cost x) x)) (sort-head xs)
+  pub sort_head : (xs : List A) → head_of cost (sort_by cost xs) ≡ best cost xs
+  unfolding sort_by best
+  sort_head [] = refl
+  sort_head (x ∷ xs) = insert_head x (sort_by cost xs) ∙ ap (choose (some (cost x) x)) (sort_head xs)
 
   take_head : (k : ℕ) (ys : List A) → head_of cost (take (suc k) ys) ≡ head_of cost ys
   take_head k [] = refl
   take_head k (y ∷ ys) = refl
 
-  pub best-head : (k : ℕ) (xs : List A) → head_of cost (severalBest cost (suc k) xs) ≡ best cost xs
-  unfolding severalBest
-  best-head k xs = take_head k (sortBy cost xs) ∙ sort-head xs
+  pub best_head : (k : ℕ) (xs : List A) → head_of cost (several_best cost (suc k) xs) ≡ best cost xs
+  unfolding several_best
+  best_head k xs = take_head k (sort_by cost xs) ∙ sort_head xs
 
   -- ---- the last is the last dearest
 
-  insert-last : (x : A) (ys : List A) → ((y : A) → y ∈ ys → cost y < cost x) → insertBy cost x ys ≡ ys ++ (x ∷ [])
-  unfolding insertBy
-  insert-last x [] h = refl
-  insert-last x (y ∷ ys) h =
-      insert-later x y ys (h y (Memᴰ.head refl)) ∙ ap (λ l. y ∷ l) (insert-last x ys (λ z m. h z (Memᴰ.tail m)))
+  insert_last : (x : A) (ys : List A) → ((y : A) → y ∈ ys → cost y < cost x) → insert_by cost x ys ≡ ys ++ (x ∷ [])
+  unfolding insert_by
+  insert_last x [] h = refl
+  insert_last x (y ∷ ys) h =
+      insert_later x y ys (h y (Memᴰ.head refl)) ∙ ap (λ l. y ∷ l) (insert_last x ys (λ z m. h z (Memᴰ.tail m)))
 
-  insert-before : (x : A) (ys : List A) (w : A) → cost x ≤ cost w → insertBy cost x (ys ++ (w ∷ [])) ≡ insertBy cost x ys ++ (w ∷ [])
-  unfolding insertBy
-  insert-before x [] w h = insert-front x w [] h
-  insert-before x (y ∷ ys) w h = go (leb (cost x) (cost y)) (insert-before x ys w h)
+  insert_before : (x : A) (ys : List A) (w : A) → cost x ≤ cost w → insert_by cost x (ys ++ (w ∷ [])) ≡ insert_by cost x ys ++ (w ∷ [])
+  unfolding insert_by
+  insert_before x [] w h = insert_front x w [] h
+  insert_before x (y ∷ ys) w h = go (leb (cost x) (cost y)) (insert_before x ys w h)
     where
-      go : (b : Bool) → insertBy cost x (ys ++ (w ∷ [])) ≡ insertBy cost x ys ++ (w ∷ [])
-          → cond b (x ∷ (y ∷ (ys ++ (w ∷ [])))) (y ∷ insertBy cost x (ys ++ (w ∷ [])))
-          ≡ cond b (x ∷ (y ∷ ys)) (y ∷ insertBy cost x ys) ++ (w ∷ [])
+      go : (b : Bool) → insert_by cost x (ys ++ (w ∷ [])) ≡ insert_by cost x ys ++ (w ∷ [])
+          → cond b (x ∷ (y ∷ (ys ++ (w ∷ [])))) (y ∷ insert_by cost x (ys ++ (w ∷ [])))
+          ≡ cond b (x ∷ (y ∷ ys)) (y ∷ insert_by cost x ys) ++ (w ∷ [])
       go true r = refl
       go false r = ap (λ l. y ∷ l) r
 
   record LastOut (xs : List A) : Type 0 where
     last : A
-    is : sortBy cost xs ≡ sortBy cost (cut cost xs) ++ (last ∷ [])
+    is : sort_by cost xs ≡ sort_by cost (cut cost xs) ++ (last ∷ [])
     most : (c : ℕ) → all_below cost c xs ≡ false → c ≤ cost last
 
   -- the head of a list that is below c, and the rest that is not
@@ -207,16 +207,16 @@ module _ {A : Type 0} (cost : A → ℕ) where
   rest_over c x xs h e = rw (lt-ltb (cost x) c h) at e
 
   here_out : (x : A) (xs : List A) → all_below cost (cost x) xs ≡ true → LastOut (x ∷ xs)
-  unfolding sortBy cut
+  unfolding sort_by cut
   here_out x xs e =
       record {
         last = x;
-        is = rw e (insert-last x (sortBy cost xs) (λ y m. below_each cost (cost x) xs e y (of-sort xs y m)));
-        most = most-of;
+        is = rw e (insert_last x (sort_by cost xs) (λ y m. below_each cost (cost x) xs e y (of_sort xs y m)));
+        most = most_of;
       }
     where
-      most-of : (c : ℕ) → all_below cost c (x ∷ xs) ≡ false → c ≤ cost x
-      most-of c k = go (dec_le c (cost x))
+      most_of : (c : ℕ) → all_below cost c (x ∷ xs) ≡ false → c ≤ cost x
+      most_of c k = go (dec_le c (cost x))
         where
           go : Dec (c ≤ cost x) → c ≤ cost x
           go (yes h) = h
@@ -226,17 +226,17 @@ module _ {A : Type 0} (cost : A → ℕ) where
               let z : ◌≡◌ {A = ℕ} 0 1 = cc in
               absurd (omega arith)
 
-  later-out : (x : A) (xs : List A) → all_below cost (cost x) xs ≡ false → LastOut xs → LastOut (x ∷ xs)
-  unfolding sortBy cut
-  later-out x xs e L =
+  later_out : (x : A) (xs : List A) → all_below cost (cost x) xs ≡ false → LastOut xs → LastOut (x ∷ xs)
+  unfolding sort_by cut
+  later_out x xs e L =
       record {
         last = L.last;
-        is = rw e (ap (insertBy cost x) L.is ∙ insert-before x (sortBy cost (cut cost xs)) L.last (L.most (cost x) e));
-        most = most-of;
+        is = rw e (ap (insert_by cost x) L.is ∙ insert_before x (sort_by cost (cut cost xs)) L.last (L.most (cost x) e));
+        most = most_of;
       }
     where
-      most-of : (c : ℕ) → all_below cost c (x ∷ xs) ≡ false → c ≤ cost L.last
-      most-of c k = go (dec_le c (cost x))
+      most_of : (c : ℕ) → all_below cost c (x ∷ xs) ≡ false → c ≤ cost L.last
+      most_of c k = go (dec_le c (cost x))
         where
           go : Dec (c ≤ cost x) → c ≤ cost L.last
           go (yes h) = let l = L.most (cost x) e in omega arith
@@ -246,21 +246,21 @@ module _ {A : Type 0} (cost : A → ℕ) where
   unfolding all_below
   last_out x [] = here_out x [] refl
   last_out x (y ∷ ys) =
-      ⊎_elim (here_out x (y ∷ ys)) (λ e. later-out x (y ∷ ys) e (last_out y ys)) (settle (all_below cost (cost x) (y ∷ ys)))
+      ⊎_elim (here_out x (y ∷ ys)) (λ e. later_out x (y ∷ ys) e (last_out y ys)) (settle (all_below cost (cost x) (y ∷ ys)))
 
-  sort-cut : (k : ℕ) (xs : List A) → k < length xs → take k (sortBy cost xs) ≡ take k (sortBy cost (cut cost xs))
-  sort-cut k [] h = absurd (omega arith)
-  sort-cut k (x ∷ xs) h =
+  sort_cut : (k : ℕ) (xs : List A) → k < length xs → take k (sort_by cost xs) ≡ take k (sort_by cost (cut cost xs))
+  sort_cut k [] h = absurd (omega arith)
+  sort_cut k (x ∷ xs) h =
       let L = last_out x xs in
-      let l = length-sort (cut cost (x ∷ xs)) in
+      let l = length_sort (cut cost (x ∷ xs)) in
       let m = length_cut cost (x ∷ xs) in
-      ap (take k) L.is ∙ take-append-le k (sortBy cost (cut cost (x ∷ xs))) (L.last ∷ []) (omega arith)
+      ap (take k) L.is ∙ take-append-le k (sort_by cost (cut cost (x ∷ xs))) (L.last ∷ []) (omega arith)
 
   -- the k that are kept, sorted, are the k best
-  pub kept-sorted : (k : ℕ) (xs : List A) → sortBy cost (keepBest cost k xs) ≡ severalBest cost k xs
-  unfolding severalBest
-  kept-sorted k xs =
-      let l = length-sort (keepBest cost k xs) in
-      let m = length-kept cost k xs in
-      sym (keep-steady cost (λ l. take k (sortBy cost l)) (λ l. Unit {0}) k (λ l g h. sort-cut k l h) (λ l g. g) xs tt
-      ∙ take_all k (sortBy cost (keepBest cost k xs)) (omega arith))
+  pub kept_sorted : (k : ℕ) (xs : List A) → sort_by cost (keep_best cost k xs) ≡ several_best cost k xs
+  unfolding several_best
+  kept_sorted k xs =
+      let l = length_sort (keep_best cost k xs) in
+      let m = length_kept cost k xs in
+      sym (keep_steady cost (λ l. take k (sort_by cost l)) (λ l. Unit {0}) k (λ l g h. sort_cut k l h) (λ l g. g) xs tt
+      ∙ take_all k (sort_by cost (keep_best cost k xs)) (omega arith))

@@ -2,8 +2,8 @@
 use mathlib.Core.Path.{◌≡◌}
 use Prim.Native.Nat.{ℕ, ◌+◌, ◌*◌}
 use native.Mathlib.Omega.{arith}
-use Rattle.paths.specs.inner.Ranked.{distanceUnit, ranked, rankedLeft}
+use Rattle.paths.specs.Inner.Ranked.{distance_unit, ranked, ranked_left}
 
-pub left_is : (cost s : ℕ) → cost * distanceUnit + s ≡ rankedLeft cost s
-unfolding rankedLeft ranked
+pub left_is : (cost s : ℕ) → cost * distance_unit + s ≡ ranked_left cost s
+unfolding ranked_left ranked
 left_is cost s = omega arith

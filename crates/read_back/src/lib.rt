@@ -1,11 +1,11 @@
 // Reading a section back into the table file of its words, for any numbers and any buffer, by document 01's checks 8, 12 and 10.
 ghost use Rattle.std.specs.Prelude.{◌≡◌, true, ◌+◌, ◌*◌, ◌<◌};
-ghost use Rattle.answers.specs.Answers.{readBackOutcome};
-ghost use Rattle.section_file.specs.inner.View.{Seen};
-ghost use Rattle.section_file.specs.Usable.{isSection};
-ghost use Rattle.read_back.specs.ReadingBack.{left, readingBack};
+ghost use Rattle.answers.specs.Answers.{read_back_outcome};
+ghost use Rattle.section_file.specs.Inner.View.{Seen};
+ghost use Rattle.section_file.specs.Usable.{is_section};
+ghost use Rattle.read_back.specs.ReadingBack.{left, reading_back};
 
-use answers::read_back::ReadBack;
+use answers::read_back::Read_back;
 use gathering::gather;
 use section_file::View;
 use trellis::MOST_WORDS;
@@ -15,8 +15,8 @@ use word_file::put_file;
 
 // Writes the table file of a section's words.
 fn put_words(section: &[u16], at: View, file: &mut [u8]) -> ReadBack
-    requires { Seen section.now at × (isSection section.now ≡ true) }
-    ensures { left (readBackOutcome result) file.new ≡ readingBack section.now file.old }
+    requires { Seen section.now at × (is_section section.now ≡ true) }
+    ensures { left (read_back_outcome result) file.new ≡ reading_back section.now file.old }
 {
     let goals = at.goals;
     let mut codes = [0u32; MOST_WORDS];
@@ -34,7 +34,7 @@ fn put_words(section: &[u16], at: View, file: &mut [u8]) -> ReadBack
 
 // Writes the table file of the words of `section` to the front of `file`.
 pub fn read_back(section: &[u16], file: &mut [u8]) -> ReadBack
-    ensures { left (readBackOutcome result) file.new ≡ readingBack section.now file.old }
+    ensures { left (read_back_outcome result) file.new ≡ reading_back section.now file.old }
 {
     let part = section_of(section);
     match part {

@@ -1,9 +1,9 @@
 // A reader over the table file of document 01, which holds the lent slice and the index of the word that comes next. Its functions are
 // thin: the work is done by functions of `fields`, which take a slice and an index, and each answers for all arguments.
 ghost use Rattle.std.specs.Prelude.{◌≡◌};
-ghost use Rattle.fields.specs.Fields.{fileWord};
-ghost use Rattle.fields.specs.inner.Answer.{heldWord, foundAt};
-ghost use Rattle.fields.specs.inner.ReadOn.{placeAfter};
+ghost use Rattle.fields.specs.Fields.{file_word};
+ghost use Rattle.fields.specs.Inner.Answer.{held_word, found_at};
+ghost use Rattle.fields.specs.Inner.ReadOn.{place_after};
 
 use fields::{Found, Word};
 use file_words::{found_at, place_after, word_of};
@@ -38,15 +38,15 @@ pub fn position<'a>(r: Reader<'a>) -> u16
 
 // The word that comes next, without moving on. Past the end it reads bytes that are not there as 0, so that it needs no condition.
 pub fn word_here<'a>(r: Reader<'a>) -> Word
-    ensures { result ≡ heldWord (fileWord r.entry.file.now r.entry.at) }
+    ensures { result ≡ held_word (file_word r.entry.file.now r.entry.at) }
 {
     word_of(r.file, r.at)
 }
 
 // The word that comes next, or the end. The reader moves on by one word, and at the end it stays.
 pub fn next<'s, 'a>(r: &'s mut Reader<'a>) -> Found
-    ensures { (result ≡ foundAt r.old.file.now r.old.at) × (r.new.file ≡ r.old.file)
-        × (r.new.at ≡ placeAfter r.old.file.now r.old.at) }
+    ensures { (result ≡ found_at r.old.file.now r.old.at) × (r.new.file ≡ r.old.file)
+        × (r.new.at ≡ place_after r.old.file.now r.old.at) }
 {
     let file = r.file;
     let at = r.at;
@@ -57,7 +57,7 @@ pub fn next<'s, 'a>(r: &'s mut Reader<'a>) -> Found
 
 // Word i, read through a reader that is placed there: what the rest of the kit calls, since its parameters are plain.
 pub fn word_through(file: &[u8], i: u16) -> Word
-    ensures { result ≡ heldWord (fileWord file.now i) }
+    ensures { result ≡ held_word (file_word file.now i) }
 {
     word_here(placed(file, i))
 }

@@ -1,2 +1,2 @@
 -- The paths that were kept, read out.
-pub mod inner
+pub mod Inner

@@ -1,9 +1,9 @@
 // The paths that were kept, read out: each from the last block to the first along its back pointers, one path behind another.
 ghost use Rattle.std.specs.Prelude.{◌≡◌, ◌+◌, ◌*◌, ◌<◌, ◌≤◌, length};
-ghost use Rattle.trellis.specs.Bounds.{mostPaths, mostBlocks};
-ghost use Rattle.dearest.specs.inner.Items.{costIn};
-ghost use Rattle.beginnings.specs.inner.Trails.{NotedWell};
-ghost use Rattle.readout.specs.inner.Read.{ReadPath, Placed, PathsRead};
+ghost use Rattle.trellis.specs.Bounds.{most_paths, most_blocks};
+ghost use Rattle.dearest.specs.Inner.Items.{cost_in};
+ghost use Rattle.beginnings.specs.Inner.Trails.{NotedWell};
+ghost use Rattle.readout.specs.Inner.Read.{ReadPath, Placed, PathsRead};
 
 use beginnings::BACK;
 use codes::{label_of, root_of, vertex_of};
@@ -19,7 +19,7 @@ fn read_path(
     labels: &mut [u16],
     goals: &mut [u8],
 )
-    requires { (blocks ≤ mostBlocks) × (slot < mostPaths) × (at ≤ mostPaths * mostBlocks) × (at + blocks ≤ length labels.old)
+    requires { (blocks ≤ most_blocks) × (slot < most_paths) × (at ≤ most_paths * most_blocks) × (at + blocks ≤ length labels.old)
         × (at + blocks ≤ length goals.old) × NotedWell back.now }
     ensures { ReadPath back.now blocks slot at labels.old labels.new goals.old
         goals.new }
@@ -37,7 +37,7 @@ fn read_path(
 
 // The cost of a slot in the width of a distance.
 fn distance_of(slot: u64) -> u32
-    ensures { result ≡ costIn slot }
+    ensures { result ≡ cost_in slot }
 {
     (slot / 4294967296) as u32
 }
@@ -52,7 +52,7 @@ pub fn read_paths(
     labels: &mut [u16],
     goals: &mut [u8],
 )
-    requires { (count ≤ mostPaths) × (blocks ≤ mostBlocks) × (count ≤ length distances.old) × (count * blocks ≤ length labels.old)
+    requires { (count ≤ most_paths) × (blocks ≤ most_blocks) × (count ≤ length distances.old) × (count * blocks ≤ length labels.old)
         × (count * blocks ≤ length goals.old) × Placed slots.now count × NotedWell back.now }
     ensures { PathsRead slots.now back.now blocks distances.old distances.new
         labels.old labels.new goals.old goals.new count }

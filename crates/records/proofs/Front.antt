@@ -36,9 +36,9 @@ module _ {M : Type 1} {𝓤 : Ura M} (𝓛 : Logic 𝓤) (R : RattleType) (q : S
       split ! $ rewrite ! 0 (λ (F : Fml). ‵ F) (sym (parts-cells R q (take k xs) b o)) refl $
       feq_i ! ℕ (length (take k xs)) (length (take k xs)) refl $ fjoin ! $ done !
 
-  pub front-join : (n : ℕ) → length xs ≡ n
+  pub front_join : (n : ℕ) → length xs ≡ n
       → ent 𝓤 (sep 𝓤 (sem 𝓛 (First R q k xs b o)) (sem 𝓛 (Behind R q k xs b o))) (sem 𝓛 (All R q n xs b o))
-  front-join n e =
+  front_join n e =
       qed 𝓛 (‵ (First R q k xs b o) ∷ ‵ (Behind R q k xs b o) ∷ []) ∵ fsplit ! $ drop ! $
       rewrite ! 0 (λ (F : Fml). ‵ F) (parts-cells R q (take k xs) b o) refl $
       use2 𝓛 (‵ (cells (Sh R q) (take k xs ++ behind k xs) b o)) (join_app 𝓛 (Sh R q) (take k xs) (behind k xs) b o) $

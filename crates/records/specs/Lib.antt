@@ -1,3 +1,3 @@
 -- The records of a block sheet and their sums.
 pub mod Records
-pub mod inner
+pub mod Inner

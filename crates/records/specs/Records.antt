@@ -1,28 +1,28 @@
 -- The sums over a list of a block sheet's records, and the outcome of counting them. Everything here computes.
 use Rattle.std.specs.Prelude.{cond, List, [], ◌∷◌, ℕ, ◌+◌, length, ltb}
-use Rattle.trellis.specs.Bounds.{mostBlocks}
-use Rattle.trellis.specs.Outcome.{Outcome, outcome, badBlock}
+use Rattle.trellis.specs.Bounds.{most_blocks}
+use Rattle.trellis.specs.Outcome.{Outcome, outcome, bad_block}
 use Rattle.records.specs.declared.BlockRecord.{BlockRecord}
 use Rattle.records.specs.declared.Counted.{Counted}
 use Rattle.records.specs.declared.Counted.TheVariants.{Totals, TooMany}
 
 -- the sum of one cost over all records
-unfoldable pub sumOver : (BlockRecord → ℕ) → List BlockRecord → ℕ
-sumOver cost [] = 0
-sumOver cost (r ∷ rs) = cost r + sumOver cost rs
+unfoldable pub sum_over : (BlockRecord → ℕ) → List BlockRecord → ℕ
+sum_over cost [] = 0
+sum_over cost (r ∷ rs) = cost r + sum_over cost rs
 
-abbrev pub additionsSum : List BlockRecord → ℕ
-additionsSum records = sumOver (λ r. r.additions) records
+abbrev pub additions_sum : List BlockRecord → ℕ
+additions_sum records = sum_over (λ r. r.additions) records
 
-abbrev pub selectionsSum : List BlockRecord → ℕ
-selectionsSum records = sumOver (λ r. r.selections) records
+abbrev pub selections_sum : List BlockRecord → ℕ
+selections_sum records = sum_over (λ r. r.selections) records
 
 -- both sums are returned, or 9 with the number of records where they are more than a frame can have blocks
-abbrev pub countedOutcome : Counted → Outcome
-countedOutcome (Totals sums) = outcome 0 (sums.additions ∷ sums.selections ∷ [])
-countedOutcome (TooMany count) = badBlock count
+abbrev pub counted_outcome : Counted → Outcome
+counted_outcome (Totals sums) = outcome 0 (sums.additions ∷ sums.selections ∷ [])
+counted_outcome (TooMany count) = bad_block count
 
 unfoldable pub counting : List BlockRecord → Outcome
 counting records =
-    cond (ltb mostBlocks (length records)) (badBlock (length records))
-    (outcome 0 (additionsSum records ∷ selectionsSum records ∷ []))
+    cond (ltb most_blocks (length records)) (bad_block (length records))
+    (outcome 0 (additions_sum records ∷ selections_sum records ∷ []))

@@ -1,9 +1,9 @@
 // The records of a block sheet, one for each block of a frame, and the sums over a lent list of them. The list is a slice of structs, so
 // the functions that take it are thin and are proved by hand along their code; what they call takes and gives plain values.
 ghost use Rattle.std.specs.Prelude.{◌≡◌, ◌+◌, ◌<◌, ◌≤◌, ◌^◌, length, get_or, take};
-ghost use Rattle.trellis.specs.Bounds.{mostBlocks};
-ghost use Rattle.records.specs.Records.{additionsSum, selectionsSum, countedOutcome, counting};
-ghost use Rattle.records.specs.inner.Blank.{blank};
+ghost use Rattle.trellis.specs.Bounds.{most_blocks};
+ghost use Rattle.records.specs.Records.{additions_sum, selections_sum, counted_outcome, counting};
+ghost use Rattle.records.specs.Inner.Blank.{blank};
 
 use trellis::MOST_BLOCKS;
 
@@ -49,8 +49,8 @@ fn added(sums: Sums, block: BlockRecord) -> Sums
 
 // Sums of 32 bits each over as many records as a frame has blocks stay far below 64 bits.
 fn sum(records: &[BlockRecord]) -> Sums
-    requires { length records.now ≤ mostBlocks }
-    ensures { (result.additions ≡ additionsSum records.now) × (result.selections ≡ selectionsSum records.now) }
+    requires { length records.now ≤ most_blocks }
+    ensures { (result.additions ≡ additions_sum records.now) × (result.selections ≡ selections_sum records.now) }
 {
     let mut sums = Sums {
         additions: 0,
@@ -79,7 +79,7 @@ fn too_many(count: usize) -> Counted
 
 // The sums over a lent list of records.
 pub fn count(records: &[BlockRecord]) -> Counted
-    ensures { countedOutcome result ≡ counting records.now }
+    ensures { counted_outcome result ≡ counting records.now }
 {
     if records.len() > MOST_BLOCKS {
         return too_many(records.len());
@@ -90,7 +90,7 @@ pub fn count(records: &[BlockRecord]) -> Counted
 // The sums over the first records of an array, lent as a list: for callers whose own proofs speak of plain values only.
 pub fn count_first(records: [BlockRecord; MOST_BLOCKS], blocks: usize) -> Counted
     requires { blocks ≤ length records }
-    ensures { countedOutcome result ≡ counting (take blocks records) }
+    ensures { counted_outcome result ≡ counting (take blocks records) }
 {
     count(&records[..blocks])
 }

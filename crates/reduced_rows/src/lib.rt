@@ -1,14 +1,14 @@
 // The reduced rows of a parity check, read off its columns.
 ghost use Rattle.std.specs.Prelude.{◌≡◌, ◌+◌, ◌<◌, ◌≤◌, length, ltb};
-ghost use Rattle.trellis.specs.Lists.{one-if};
-ghost use Rattle.parity.specs.inner.Steps.{Basis};
+ghost use Rattle.trellis.specs.Lists.{one_if};
+ghost use Rattle.parity.specs.Inner.Steps.{Basis};
 
 use parity::{POWERS, ROW_BITS};
 
 // One more where x is below y.
 fn counted(count: usize, x: u16, y: u16) -> usize
     requires { count ≤ 16 }
-    ensures { result ≡ count + one-if (ltb x y) }
+    ensures { result ≡ count + one_if (ltb x y) }
 {
     if x < y { count + 1 } else { count }
 }

@@ -1,9 +1,9 @@
 // The line of a refusal, put into a lent buffer as far as it has room for it.
 ghost use Rattle.std.specs.Prelude.{◌-◌, ◌≤◌};
 ghost use Rattle.trellis.specs.Outcome.{Outcome};
-ghost use Rattle.outcomes.specs.inner.Holds.{Holds};
-ghost use Rattle.text.specs.inner.Put.{Put};
-ghost use Rattle.lines.specs.Text.{refusalLine};
+ghost use Rattle.outcomes.specs.Inner.Holds.{Holds};
+ghost use Rattle.text.specs.Inner.Put.{Put};
+ghost use Rattle.lines.specs.Text.{refusal_line};
 
 use numbers::number;
 use outcomes::Returned;
@@ -13,7 +13,7 @@ use text::put_line;
 pub fn put_refusal(text: &mut [u8], refusal: Returned) -> usize
     requires { refusal.count ≤ 4 }
     ensures { (o : Outcome) → Holds o refusal.number refusal.count refusal.values
-        → Put text.old 0 (refusalLine o) text.new result }
+        → Put text.old 0 (refusal_line o) text.new result }
 {
     let values = refusal.values;
     let numbers = [

@@ -1,2 +1,2 @@
 -- What refusing a table asks and leaves.
-pub mod inner
+pub mod Inner

@@ -1,10 +1,10 @@
 // The refusal of a table that is not rectangular, at the first inner depth that fails.
 ghost use Rattle.std.specs.Prelude.{◌≡◌, ◌+◌, ◌*◌, ◌<◌, ◌≤◌, length};
 ghost use Rattle.trellis.specs.Witness.{witness};
-ghost use Rattle.answers.specs.Answers.{mergedOutcome};
-ghost use Rattle.depths.specs.inner.Words.{words};
-ghost use Rattle.merging.specs.Merging.{refusalOf};
-ghost use Rattle.refusing.specs.inner.Refused.{cleared, RefusedAt};
+ghost use Rattle.answers.specs.Answers.{merged_outcome};
+ghost use Rattle.depths.specs.Inner.Words.{words};
+ghost use Rattle.merging.specs.Merging.{refusal_of};
+ghost use Rattle.refusing.specs.Inner.Refused.{cleared, RefusedAt};
 
 use answers::merge::Merged;
 
@@ -30,7 +30,7 @@ pub fn refuse(
     map: &mut [u16],
 ) -> Merged
     requires { RefusedAt n t roots.now labels.now goals.now map.old }
-    ensures { (mergedOutcome result ≡ refusalOf (witness n (words roots.now labels.now goals.now)))
+    ensures { (merged_outcome result ≡ refusal_of (witness n (words roots.now labels.now goals.now)))
         × (map.new
         ≡ cleared (length roots.now * (n + 1)) map.old) }
 {

@@ -1,3 +1,3 @@
 -- What buffers need.
 pub mod Room
-pub mod inner
+pub mod Inner

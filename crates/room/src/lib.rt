@@ -1,7 +1,7 @@
 // Check 10: the length that the first short buffer needs, for decoding and for listing paths; 0 where none is short.
 ghost use Rattle.std.specs.Prelude.{◌≡◌, ◌≤◌};
-ghost use Rattle.trellis.specs.Bounds.{mostBlocks, mostPaths};
-ghost use Rattle.room.specs.Room.{short_of, neededToDecode, neededToList};
+ghost use Rattle.trellis.specs.Bounds.{most_blocks, most_paths};
+ghost use Rattle.room.specs.Room.{short_of, needed_to_decode, needed_to_list};
 
 use trellis::COSTS_A_BLOCK;
 
@@ -20,8 +20,8 @@ pub fn needed_to_decode(
     goals: usize,
     masks: usize,
 ) -> usize
-    requires { blocks ≤ mostBlocks }
-    ensures { result ≡ neededToDecode blocks costs labels goals masks }
+    requires { blocks ≤ most_blocks }
+    ensures { result ≡ needed_to_decode blocks costs labels goals masks }
 {
     let for_masks = short_of(masks, blocks, 0);
     let for_goals = short_of(goals, blocks, for_masks);
@@ -38,8 +38,8 @@ pub fn needed_to_list(
     labels: usize,
     goals: usize,
 ) -> usize
-    requires { (blocks ≤ mostBlocks) × (paths ≤ mostPaths) }
-    ensures { result ≡ neededToList blocks paths costs distances labels goals }
+    requires { (blocks ≤ most_blocks) × (paths ≤ most_paths) }
+    ensures { result ≡ needed_to_list blocks paths costs distances labels goals }
 {
     let words = paths * blocks;
     let for_goals = short_of(goals, words, 0);

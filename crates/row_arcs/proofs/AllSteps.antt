@@ -12,74 +12,74 @@ use lib.Dec.{ltb}
 use lib.Pow.{pow_mono}
 use lib.Seq.{get_or-set_same, get_or-set_other}
 use Rattle.trellis.specs.Lists.{each}
-use Rattle.trellis.specs.Layout.{joinedUp}
-use Rattle.trellis.specs.inner.Write.{Wrote}
+use Rattle.trellis.specs.Layout.{joined_up}
+use Rattle.trellis.specs.Inner.Write.{Wrote}
 use Rattle.trellis.proofs.Lists.{length_run}
-use Rattle.trellis.proofs.Ascending.{numbers, ascending-length}
-use Rattle.trellis.proofs.Write.{wrote_none, wrote_then, wrote-length}
+use Rattle.trellis.proofs.Ascending.{numbers, ascending_length}
+use Rattle.trellis.proofs.Write.{wrote_none, wrote_then, wrote_length}
 use Rattle.rows.specs.Sums.{sum_of, choices, sums}
 use Rattle.rows.specs.Table.{cut_at}
-use Rattle.rows.specs.inner.Reduced.{Narrow}
-use Rattle.row_arcs.specs.inner.Arcs.{arcsOf, StepAsked, stepArcs, stepSums, EdgesAsked, AllEdges}
-use Rattle.row_arcs.proofs.RowArcs.{arcs-length}
+use Rattle.rows.specs.Inner.Reduced.{Narrow}
+use Rattle.row_arcs.specs.Inner.Arcs.{arcs_of, StepAsked, step_arcs, step_sums, EdgesAsked, AllEdges}
+use Rattle.row_arcs.proofs.RowArcs.{arcs_length}
 
 -- k rows have at most 2 ^ k sums
-sums-few : (rows : List ℕ) → length (sums rows) ≤ 2 ^ length rows
+sums_few : (rows : List ℕ) → length (sums rows) ≤ 2 ^ length rows
 unfolding sums
-sums-few rows = omega (
+sums_few rows = omega (
   arith,
-  ascending-length ltb numbers (each (sum_of rows) (choices rows)),
+  ascending_length ltb numbers (each (sum_of rows) (choices rows)),
   length_run (sum_of rows) 0 (choices rows),
 )
 
 -- the edges of the first t steps are written
 pub record InEdges (map : List ℕ) (w : ℕ) (rows : List ℕ) (s n : ℕ) (dims old out counts : List ℕ) (at t : ℕ) : Type 0 where
-  pub t-le : t ≤ n
-  pub noted : Wrote old 0 (joinedUp (stepSums map w rows s n dims) t) out at
-  pub at-le : at ≤ t * w
-  pub counted : (u : ℕ) → u < t → get_or counts u 0 ≡ length (stepSums map w rows s n dims u)
+  pub t_le : t ≤ n
+  pub noted : Wrote old 0 (joined_up (step_sums map w rows s n dims) t) out at
+  pub at_le : at ≤ t * w
+  pub counted : (u : ℕ) → u < t → get_or counts u 0 ≡ length (step_sums map w rows s n dims u)
   pub places : length counts ≡ 8
   pub len : length out ≡ length old
 
 pub edges_none : (map : List ℕ) (w : ℕ) (rows : List ℕ) (s n : ℕ) (dims old counts : List ℕ) → length counts ≡ 8
     → InEdges map w rows s n dims old old counts 0 0
-unfolding joinedUp
+unfolding joined_up
 edges_none map w rows s n dims old counts h = record {
-  t-le = omega arith;
+  t_le = omega arith;
   noted = wrote_none;
-  at-le = omega arith;
+  at_le = omega arith;
   counted = λ u l. absurd (omega arith);
   places = h;
   len = refl;
 }
 
 module _ {map : List ℕ} {w : ℕ} {rows : List ℕ} {s n : ℕ} {dims : List ℕ} (E : EdgesAsked map w rows s n dims) where
-  pub words-most : w ≤ 1024
-  words-most = omega (arith, E.words, pow_mono {i = length rows} {j = 10} E.few)
+  pub words_most : w ≤ 1024
+  words_most = omega (arith, E.words, pow_mono {i = length rows} {j = 10} E.few)
 
   module _ (t : ℕ) (h : t < n) where
     -- the edges as the code names the step
-    same-arcs : arcsOf map (t * w) w rows (n - t - 1 + s) (get_or dims (t + 1) 0) ≡ stepArcs map w rows s n dims t
-    same-arcs =
+    same_arcs : arcs_of map (t * w) w rows (n - t - 1 + s) (get_or dims (t + 1) 0) ≡ step_arcs map w rows s n dims t
+    same_arcs =
         let e : n - t - 1 + s ≡ cut_at s n (suc t) = omega arith in
-        ap₂ (λ c d. arcsOf map (t * w) w rows c d) e (ap (λ k. get_or dims k 0) (add-one t))
+        ap₂ (λ c d. arcs_of map (t * w) w rows c d) e (ap (λ k. get_or dims k 0) (add-one t))
 
-    step-few : length (stepSums map w rows s n dims t) ≤ w
-    step-few = omega (
+    step_few : length (step_sums map w rows s n dims t) ≤ w
+    step_few = omega (
       arith,
-      sums-few (stepArcs map w rows s n dims t),
-      ap (λ k. 2 ^ k) (arcs-length map (t * w) w rows (cut_at s n (suc t)) (get_or dims (suc t) 0)),
+      sums_few (step_arcs map w rows s n dims t),
+      ap (λ k. 2 ^ k) (arcs_length map (t * w) w rows (cut_at s n (suc t)) (get_or dims (suc t) 0)),
       E.words,
     )
 
-    pub steps-below : t * w + w ≤ 8192
-    steps-below =
+    pub steps_below : t * w + w ≤ 8192
+    steps_below =
         let q : suc t ≤ 8 = omega (arith, E.symbols) in
-        let p : suc t * w ≤ 8 * 1024 = mul-le-mul q words-most in
+        let p : suc t * w ≤ 8 * 1024 = mul-le-mul q words_most in
         omega (arith, suc-mul t w)
 
-    pub step-asked : StepAsked map (t * w) w rows (n - t - 1 + s) (get_or dims (t + 1) 0)
-    step-asked = record {
+    pub step_asked : StepAsked map (t * w) w rows (n - t - 1 + s) (get_or dims (t + 1) 0)
+    step_asked = record {
       words = E.words;
       few = E.few;
       room =
@@ -87,48 +87,48 @@ module _ {map : List ℕ} {w : ℕ} {rows : List ℕ} {s n : ℕ} {dims : List �
           omega (arith, suc-mul t w, suc-mul (suc t) w, E.room);
       near = omega (arith, E.symbols, E.states);
       short = E.short (t + 1);
-      narrow = subst (Narrow 16) (sym same-arcs) (E.narrow t h);
+      narrow = subst (Narrow 16) (sym same_arcs) (E.narrow t h);
     }
 
   module _ {old out counts : List ℕ} {at t : ℕ} (c : InEdges map w rows s n dims old out counts at t) (h : t < n) where
     pub step_room : 8192 ≤ length old → at + w ≤ length out
-    step_room k = omega (arith, steps-below t h, c.at-le, c.len)
+    step_room k = omega (arith, steps_below t h, c.at-le, c.len)
 
     module _ {new : List ℕ} {end : ℕ}
-        (W : Wrote out at (sums (arcsOf map (t * w) w rows (n - t - 1 + s) (get_or dims (t + 1) 0))) new end) where
-      written : Wrote out at (stepSums map w rows s n dims t) new end
-      written = subst (λ l. Wrote out at (sums l) new end) (same-arcs t h) W
+        (W : Wrote out at (sums (arcs_of map (t * w) w rows (n - t - 1 + s) (get_or dims (t + 1) 0))) new end) where
+      written : Wrote out at (step_sums map w rows s n dims t) new end
+      written = subst (λ l. Wrote out at (sums l) new end) (same_arcs t h) W
 
       pub step_from : at ≤ end
       step_from = omega (arith, W.end_is)
 
-      pub step-most : end ≤ at + w
-      step-most = omega (arith, written.end_is, step-few t h)
+      pub step_most : end ≤ at + w
+      step_most = omega (arith, written.end_is, step_few t h)
 
-      pub edges-next : InEdges map w rows s n dims old new (set counts t (end - at)) end (t + 1)
-      unfolding joinedUp
-      edges-next = rw (add-one t) (record {
-        t-le = h;
+      pub edges_next : InEdges map w rows s n dims old new (set counts t (end - at)) end (t + 1)
+      unfolding joined_up
+      edges_next = rw (add-one t) (record {
+        t_le = h;
         noted = wrote_then c.noted written;
-        at-le = omega (arith, c.at-le, step-most, suc-mul t w);
+        at_le = omega (arith, c.at-le, step_most, suc-mul t w);
         counted = λ u l. counted u l (ℕ_discrete u t);
         places = simp length-set c.places;
-        len = wrote-length W ∙ c.len;
+        len = wrote_length W ∙ c.len;
       })
         where
-          counted : (u : ℕ) → u < suc t → Dec (u ≡ t) → get_or (set counts t (end - at)) u 0 ≡ length (stepSums map w rows s n dims u)
+          counted : (u : ℕ) → u < suc t → Dec (u ≡ t) → get_or (set counts t (end - at)) u 0 ≡ length (step_sums map w rows s n dims u)
           counted u l (yes e) =
               ap (λ k. get_or (set counts t (end - at)) k 0) e
               ∙ get_or-set_same counts t (end - at) 0 (omega (arith, c.places, E.symbols))
-              ∙ omega (arith, written.end_is) ∙ sym (ap (λ k. length (stepSums map w rows s n dims k)) e)
+              ∙ omega (arith, written.end_is) ∙ sym (ap (λ k. length (step_sums map w rows s n dims k)) e)
           counted u l (no e) = get_or-set_other counts t u (end - at) 0 e ∙ c.counted u (omega arith)
 
-pub edges-end : {map : List ℕ} {w : ℕ} {rows : List ℕ} {s n : ℕ} {dims old out counts : List ℕ} {at t : ℕ}
+pub edges_end : {map : List ℕ} {w : ℕ} {rows : List ℕ} {s n : ℕ} {dims old out counts : List ℕ} {at t : ℕ}
     → InEdges map w rows s n dims old out counts at t → n ≤ t → AllEdges map w rows s n dims old out at counts
-edges-end {map} {w} {rows} {s} {n} {dims} {old} {out} {counts} {at} {t} c h =
+edges_end {map} {w} {rows} {s} {n} {dims} {old} {out} {counts} {at} {t} c h =
     let e : t ≡ n = omega (arith, c.t-le) in
     record {
-      noted = subst (λ k. Wrote old 0 (joinedUp (stepSums map w rows s n dims) k) out at) e c.noted;
+      noted = subst (λ k. Wrote old 0 (joined_up (step_sums map w rows s n dims) k) out at) e c.noted;
       counted = λ u l. c.counted u (omega arith);
       places = c.places;
       most = subst (λ k. at ≤ k * w) e c.at-le;

@@ -9,60 +9,60 @@ use native.Mathlib.Numerals.{add-one}
 use lib.ListN.{length, get_or, set}
 use lib.Pow.{pow_mono, pow-lt}
 use Rattle.trellis.proofs.Lists.{length_run, each_at}
-use Rattle.rows.specs.inner.Reduced.{bit_at}
-use Rattle.rows.specs.inner.Edges.{edgeNumber}
-use Rattle.parity.specs.inner.Front.{Front}
-use Rattle.parity.proofs.Fronts.{Fills, fills-none, fills-next, fills-all}
-use Rattle.row_arcs.specs.inner.Arcs.{arcsOf, StepAsked}
+use Rattle.rows.specs.Inner.Reduced.{bit_at}
+use Rattle.rows.specs.Inner.Edges.{edge_number}
+use Rattle.parity.specs.Inner.Front.{Front}
+use Rattle.parity.proofs.Fronts.{Fills, fills_none, fills_next, fills_all}
+use Rattle.row_arcs.specs.Inner.Arcs.{arcs_of, StepAsked}
 
 module _ (map : List ℕ) (row w : ℕ) (rows : List ℕ) (cut dim : ℕ) where
   -- the edge that row b takes, where i is its word
-  abbrev arcAt : ℕ → ℕ → ℕ
-  arcAt i b = edgeNumber dim (get_or map (row + i) 0) (bit_at cut (get_or rows b 0)) (get_or map (row + w + i) 0)
+  abbrev arc_at : ℕ → ℕ → ℕ
+  arc_at i b = edge_number dim (get_or map (row + i) 0) (bit_at cut (get_or rows b 0)) (get_or map (row + w + i) 0)
 
-  pub arcs-length : length (arcsOf map row w rows cut dim) ≡ length rows
-  unfolding arcsOf
-  arcs-length = length_run (λ b. arcAt (2 ^ b) b) 0 (length rows)
+  pub arcs_length : length (arcs_of map row w rows cut dim) ≡ length rows
+  unfolding arcs_of
+  arcs_length = length_run (λ b. arc_at (2 ^ b) b) 0 (length rows)
 
-  arc-is : (b : ℕ) → b < length rows → get_or (arcsOf map row w rows cut dim) b 0 ≡ arcAt (2 ^ b) b
-  unfolding arcsOf
-  arc-is b h = each_at (λ b. arcAt (2 ^ b) b) (length rows) b 0 h
+  arc_is : (b : ℕ) → b < length rows → get_or (arcs_of map row w rows cut dim) b 0 ≡ arc_at (2 ^ b) b
+  unfolding arcs_of
+  arc_is b h = each_at (λ b. arc_at (2 ^ b) b) (length rows) b 0 h
 
   -- the first b edges are there
   pub record InArcs (arcs : List ℕ) (i b : ℕ) : Type 0 where
-    pub fills : Fills (arcsOf map row w rows cut dim) b arcs
+    pub fills : Fills (arcs_of map row w rows cut dim) b arcs
     pub word : i ≡ 2 ^ b
 
-  pub arcs-none : {arcs : List ℕ} → length arcs ≡ 16 → InArcs arcs 1 0
-  arcs-none e = record { fills = fills-none (arcsOf map row w rows cut dim) e; word = refl }
+  pub arcs_none : {arcs : List ℕ} → length arcs ≡ 16 → InArcs arcs 1 0
+  arcs_none e = record { fills = fills_none (arcs_of map row w rows cut dim) e; word = refl }
 
-pub words-few : {map : List ℕ} {row w : ℕ} {rows : List ℕ} {cut dim : ℕ} → StepAsked map row w rows cut dim → w ≤ 1024
-words-few {map} {row} {w} {rows} A = omega (arith, A.words, pow_mono {i = length rows} {j = 10} A.few)
+pub words_few : {map : List ℕ} {row w : ℕ} {rows : List ℕ} {cut dim : ℕ} → StepAsked map row w rows cut dim → w ≤ 1024
+words_few {map} {row} {w} {rows} A = omega (arith, A.words, pow_mono {i = length rows} {j = 10} A.few)
 
 module _ {map : List ℕ} {row w : ℕ} {rows : List ℕ} {cut dim : ℕ} {arcs : List ℕ} {i b : ℕ}
     (A : StepAsked map row w rows cut dim) (c : InArcs map row w rows cut dim arcs i b) (h : b < length rows) where
   pub word_below : i < w
   word_below = omega (arith, c.word, A.words, pow-lt {i = b} {j = length rows} h)
 
-  at-word : arcAt map row w rows cut dim i b ≡ get_or (arcsOf map row w rows cut dim) b 0
-  at-word = ap (λ k. arcAt map row w rows cut dim k b) c.word ∙ sym (arc-is map row w rows cut dim b h)
+  at_word : arc_at map row w rows cut dim i b ≡ get_or (arcs_of map row w rows cut dim) b 0
+  at_word = ap (λ k. arc_at map row w rows cut dim k b) c.word ∙ sym (arc_is map row w rows cut dim b h)
 
-  pub arc-small : {s : ℕ} → s ≡ bit_at cut (get_or rows b 0)
-      → edgeNumber dim (get_or map (row + i) 0) s (get_or map (row + w + i) 0) < 2 ^ 16
-  arc-small {s} e = subst (λ k. k < 2 ^ 16)
-      (sym (ap (λ k. edgeNumber dim (get_or map (row + i) 0) k (get_or map (row + w + i) 0)) e ∙ at-word))
-      (A.narrow b (omega (arith, arcs-length map row w rows cut dim)))
+  pub arc_small : {s : ℕ} → s ≡ bit_at cut (get_or rows b 0)
+      → edge_number dim (get_or map (row + i) 0) s (get_or map (row + w + i) 0) < 2 ^ 16
+  arc_small {s} e = subst (λ k. k < 2 ^ 16)
+      (sym (ap (λ k. edge_number dim (get_or map (row + i) 0) k (get_or map (row + w + i) 0)) e ∙ at_word))
+      (A.narrow b (omega (arith, arcs_length map row w rows cut dim)))
 
-  pub arcs-next : {s x : ℕ} → s ≡ bit_at cut (get_or rows b 0)
-      → x ≡ edgeNumber dim (get_or map (row + i) 0) s (get_or map (row + w + i) 0)
+  pub arcs_next : {s x : ℕ} → s ≡ bit_at cut (get_or rows b 0)
+      → x ≡ edge_number dim (get_or map (row + i) 0) s (get_or map (row + w + i) 0)
       → InArcs map row w rows cut dim (set arcs b x) (i + i) (b + 1)
-  arcs-next {s} {x} e q = record {
-    fills = fills-next c.fills (omega (arith, arcs-length map row w rows cut dim))
-        (omega (arith, arcs-length map row w rows cut dim, A.few))
-        (q ∙ ap (λ k. edgeNumber dim (get_or map (row + i) 0) k (get_or map (row + w + i) 0)) e ∙ at-word);
+  arcs_next {s} {x} e q = record {
+    fills = fills_next c.fills (omega (arith, arcs_length map row w rows cut dim))
+        (omega (arith, arcs_length map row w rows cut dim, A.few))
+        (q ∙ ap (λ k. edge_number dim (get_or map (row + i) 0) k (get_or map (row + w + i) 0)) e ∙ at_word);
     word = rw (add-one b, pow-suc 2 b) (omega (arith, c.word));
   }
 
-pub arcs-end : {map : List ℕ} {row w : ℕ} {rows : List ℕ} {cut dim : ℕ} {arcs : List ℕ} {i b : ℕ}
-    → InArcs map row w rows cut dim arcs i b → length rows ≤ b → Front (arcsOf map row w rows cut dim) arcs
-arcs-end {map} {row} {w} {rows} {cut} {dim} c h = fills-all c.fills (omega (arith, arcs-length map row w rows cut dim))
+pub arcs_end : {map : List ℕ} {row w : ℕ} {rows : List ℕ} {cut dim : ℕ} {arcs : List ℕ} {i b : ℕ}
+    → InArcs map row w rows cut dim arcs i b → length rows ≤ b → Front (arcs_of map row w rows cut dim) arcs
+arcs_end {map} {row} {w} {rows} {cut} {dim} c h = fills_all c.fills (omega (arith, arcs_length map row w rows cut dim))

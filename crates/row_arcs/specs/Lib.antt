@@ -1,2 +1,2 @@
 -- Edges as sums of those that rows take.
-pub mod inner
+pub mod Inner

@@ -1,12 +1,12 @@
 // The edges of a table of sums, step by step. An edge is one number, (from, symbol, to), and the edges of a step are the sums of those that
 // the rows take; so in order they are the sums of a reduced basis of these. No word is looked at.
 ghost use Rattle.std.specs.Prelude.{◌≡◌, ◌+◌, ◌*◌, ◌^◌, ◌≤◌, ◌<◌, length};
-ghost use Rattle.trellis.specs.inner.Write.{Wrote};
+ghost use Rattle.trellis.specs.Inner.Write.{Wrote};
 ghost use Rattle.rows.specs.Sums.{sums};
-ghost use Rattle.rows.specs.inner.Reduced.{bit_at};
-ghost use Rattle.rows.specs.inner.Edges.{edgeNumber};
-ghost use Rattle.parity.specs.inner.Front.{Front};
-ghost use Rattle.row_arcs.specs.inner.Arcs.{arcsOf, StepAsked, EdgesAsked, AllEdges};
+ghost use Rattle.rows.specs.Inner.Reduced.{bit_at};
+ghost use Rattle.rows.specs.Inner.Edges.{edge_number};
+ghost use Rattle.parity.specs.Inner.Front.{Front};
+ghost use Rattle.row_arcs.specs.Inner.Arcs.{arcs_of, StepAsked, EdgesAsked, AllEdges};
 
 use parity::ROW_BITS;
 use row_sums::put_sums;
@@ -15,8 +15,8 @@ use trellis::MOST_SYMBOLS;
 
 // An edge as one number: from, the symbol's bit, to, where the vertices at the step's end are below 2^dim.
 fn edge_number(from: u16, symbol: u16, to: u16, dim: usize) -> u16
-    requires { (dim ≤ 10) × (edgeNumber dim from symbol to < 2 ^ 16) }
-    ensures { result ≡ edgeNumber dim from symbol to }
+    requires { (dim ≤ 10) × (edge_number dim from symbol to < 2 ^ 16) }
+    ensures { result ≡ edge_number dim from symbol to }
 {
     ((2 * from + symbol) << dim) + to
 }
@@ -39,7 +39,7 @@ fn arcs_of(
     dim: usize,
 ) -> [u16; ROW_BITS]
     requires { StepAsked map.now row w rows.now cut dim }
-    ensures { Front (arcsOf map.now row w rows.now cut dim) result }
+    ensures { Front (arcs_of map.now row w rows.now cut dim) result }
 {
     let mut arcs = [0u16; ROW_BITS];
     let mut i: usize = 1;
@@ -64,7 +64,7 @@ fn take_step(
     at: usize,
 ) -> usize
     requires { StepAsked map.now row w rows.now cut dim × (at + w ≤ length out.old) }
-    ensures { Wrote out.old at (sums (arcsOf map.now row w rows.now cut dim))
+    ensures { Wrote out.old at (sums (arcs_of map.now row w rows.now cut dim))
         out.new result }
 {
     let arcs = arcs_of(map, row, w, rows, cut, dim);

@@ -1,14 +1,14 @@
 // Generator rows looked at before anything is added up: their sizes and their number, the first that is too wide, and how many words and
 // states they make.
 ghost use Rattle.std.specs.Prelude.{◌≡◌, ◌+◌, ◌^◌, ◌≤◌, leb};
-ghost use Rattle.rows.specs.Table.{sizesFit, firstWide};
+ghost use Rattle.rows.specs.Table.{sizes_fit, first_wide};
 
 use numbers::{is_within, wide};
 use trellis::{MOST_ROWS, MOST_STATE_BITS, MOST_SYMBOLS};
 
 // Whether all sizes are within their bounds.
 pub fn sizes_fit(bits: usize, n: usize, count: usize) -> bool
-    ensures { result ≡ sizesFit bits n count }
+    ensures { result ≡ sizes_fit bits n count }
 {
     if !is_within(0, MOST_STATE_BITS, bits) {
         return false;
@@ -30,7 +30,7 @@ fn is_wide(row: u16, width: usize) -> bool
 // The first row that has, or the number of rows where none has.
 pub fn first_wide(rows: &[u16], width: usize) -> usize
     requires { width ≤ 16 }
-    ensures { result ≡ firstWide width rows.now }
+    ensures { result ≡ first_wide width rows.now }
 {
     let mut j: usize = 0;
     while j < rows.len() {

@@ -15,11 +15,11 @@ use lib.Pow.{pow_pos, pow_mono}
 use lib.Dec.{ltb}
 use borrow.Author.Tests.{lt-ltb, le-ltb}
 use Rattle.rows.specs.Sums.{◌⊕◌, sum_of}
-use Rattle.rows.specs.inner.Numbering.{number, numbersBelow, Numbered}
-use Rattle.rows.proofs.Sums.{Additive, additive-zero, sum-power}
-use Rattle.rows.proofs.Numbering.{numbered-none, numbered-old, numbered-new, number-old, number-new, high_value}
-use Rattle.row_sums.specs.inner.Doubled.{Doubled}
-use Rattle.row_depth.specs.inner.Depth.{FoundAt, syndromeOf, DepthAsked, DepthPut}
+use Rattle.rows.specs.Inner.Numbering.{number, numbers_below, Numbered}
+use Rattle.rows.proofs.Sums.{Additive, additive_zero, sum_power}
+use Rattle.rows.proofs.Numbering.{numbered_none, numbered_old, numbered_new, number_old, number_new, high_value}
+use Rattle.row_sums.specs.Inner.Doubled.{Doubled}
+use Rattle.row_depth.specs.Inner.Depth.{FoundAt, syndrome_of, DepthAsked, DepthPut}
 
 -- the first w = 2 ^ b words have their syndromes in seen and their numbers in new
 pub record Putting (g : ℕ → ℕ) (k : ℕ) (old : List ℕ) (place : ℕ) (seen new : List ℕ) (dim w b : ℕ) : Type 0 where
@@ -37,21 +37,21 @@ pub record Putting (g : ℕ → ℕ) (k : ℕ) (old : List ℕ) (place : ℕ) (s
 -- ---- before the first turn
 
 module _ {columns rows map : List ℕ} {cut place : ℕ} (A : DepthAsked columns rows cut map place) where
-  pub first-place : place < length map
-  first-place = omega (arith, A.room, pow_pos (length rows))
+  pub first_place : place < length map
+  first_place = omega (arith, A.room, pow_pos (length rows))
 
-  pub putting-none : {g : ℕ → ℕ} → Additive g → (seen : List ℕ) → length seen ≡ 1024 → get_or seen 0 0 ≡ 0
+  pub putting_none : {g : ℕ → ℕ} → Additive g → (seen : List ℕ) → length seen ≡ 1024 → get_or seen 0 0 ≡ 0
       → Putting g (length rows) (set map place 0) place seen (set map place 0) 0 1 0
-  putting-none {g} G seen l z = record {
-    numbered = numbered-none G;
+  putting_none {g} G seen l z = record {
+    numbered = numbered_none G;
     less = omega arith;
     most = omega arith;
     wide = refl;
-    values = λ i q. let e : i ≡ 0 = omega arith in ap (λ j. get_or seen j 0) e ∙ z ∙ sym (ap g e ∙ additive-zero G);
+    values = λ i q. let e : i ≡ 0 = omega arith in ap (λ j. get_or seen j 0) e ∙ z ∙ sym (ap g e ∙ additive_zero G);
     row = λ i q.
         let e : i ≡ 0 = omega arith in
         ap (λ j. get_or (set map place 0) (place + j) 0) e ∙ ap (λ j. get_or (set map place 0) j 0) (add-zero place)
-        ∙ get_or-set_same map place 0 0 first-place ∙ sym (ap (number g) e ∙ none);
+        ∙ get_or-set_same map place 0 0 first_place ∙ sym (ap (number g) e ∙ none);
     front = λ i q. refl;
     behind = λ i q. refl;
     len = refl;
@@ -59,12 +59,12 @@ module _ {columns rows map : List ℕ} {cut place : ℕ} (A : DepthAsked columns
   }
     where
       none : number g 0 ≡ 0
-      none = omega (arith, (numbered-none G).small 0 (omega arith))
+      none = omega (arith, (numbered_none G).small 0 (omega arith))
 
 -- the syndrome of the new row
-pub row-value : (columns rows : List ℕ) (cut b : ℕ) {r x : ℕ} → r ≡ get_or rows b 0 / 2 ^ cut * 2 ^ cut → x ≡ sum_of columns r
-    → x ≡ syndromeOf columns rows cut (2 ^ b)
-row-value columns rows cut b e f = f ∙ ap (sum_of columns) (e ∙ ap (λ y. y / 2 ^ cut * 2 ^ cut) (sym (sum-power rows b)))
+pub row_value : (columns rows : List ℕ) (cut b : ℕ) {r x : ℕ} → r ≡ get_or rows b 0 / 2 ^ cut * 2 ^ cut → x ≡ sum_of columns r
+    → x ≡ syndrome_of columns rows cut (2 ^ b)
+row_value columns rows cut b e f = f ∙ ap (sum_of columns) (e ∙ ap (λ y. y / 2 ^ cut * 2 ^ cut) (sym (sum_power rows b)))
 
 -- ---- a turn
 
@@ -105,10 +105,10 @@ module _ {g : ℕ → ℕ} (A : Additive g) {k : ℕ} {old : List ℕ} {place : 
     places = E.len ∙ P.places;
   }
 
-  pub putting-next : {c dim' : ℕ} {seen' new' : List ℕ} → c ≡ cond (ltb o w) (get_or new (place + o) 0) (2 ^ dim)
+  pub putting_next : {c dim' : ℕ} {seen' new' : List ℕ} → c ≡ cond (ltb o w) (get_or new (place + o) 0) (2 ^ dim)
       → dim' ≡ cond (ltb o w) dim (dim + 1) → Doubled place w c new w new' → Doubled 0 w x seen w seen'
       → Putting g k old place seen' new' dim' (w + w) (b + 1)
-  putting-next {c} {dim'} {seen'} {new'} p q D E =
+  putting_next {c} {dim'} {seen'} {new'} p q D E =
       subst (λ m. Putting g k old place seen' new' dim' (w + w) m) (sym (add-one b)) (go (dec_lt o w))
     where
       Next : ℕ → Type 0
@@ -119,13 +119,13 @@ module _ {g : ℕ → ℕ} (A : Additive g) {k : ℕ} {old : List ℕ} {place : 
           let same : g o ≡ g (2 ^ b) = sym (P.values o l) ∙ F.hit l ∙ value in
           let cs : c ≡ number g o = p ∙ ap (λ t. cond t (get_or new (place + o) 0) (2 ^ dim)) (lt-ltb o w l) ∙ P.row o l in
           subst Next (sym (q ∙ ap (λ t. cond t dim (dim + 1)) (lt-ltb o w l)))
-          (turn dim (numbered-old A P.numbered o (inside o l) same) (omega (arith, P.less))
-          (λ j s. number-old A P.numbered o (inside o l) same j s ∙ ap (λ y. y ⊕ number g j) (sym cs)) D E)
+          (turn dim (numbered_old A P.numbered o (inside o l) same) (omega (arith, P.less))
+          (λ j s. number_old A P.numbered o (inside o l) same j s ∙ ap (λ y. y ⊕ number g j) (sym cs)) D E)
       go (no l) =
           let cs : c ≡ 2 ^ dim = p ∙ ap (λ t. cond t (get_or new (place + o) 0) (2 ^ dim)) (le-ltb o w (omega arith)) in
           subst Next (sym (q ∙ ap (λ t. cond t dim (dim + 1)) (le-ltb o w (omega arith)) ∙ add-one dim))
-          (turn (suc dim) (numbered-new A P.numbered fresh) (omega (arith, P.less))
-          (λ j s. number-new A P.numbered fresh j s ∙ ap (λ y. y ⊕ number g j) (sym cs)) D E)
+          (turn (suc dim) (numbered_new A P.numbered fresh) (omega (arith, P.less))
+          (λ j s. number_new A P.numbered fresh j s ∙ ap (λ y. y ⊕ number g j) (sym cs)) D E)
         where
           fresh : (i : ℕ) → i < 2 ^ b → g i ≡ g (2 ^ b) → ⊥
           fresh i s e = let r : i < w = subst (λ m. i < m) (sym P.wide) s in F.miss i (omega arith) (P.values i r ∙ e ∙ sym value)
@@ -133,27 +133,27 @@ module _ {g : ℕ → ℕ} (A : Additive g) {k : ℕ} {old : List ℕ} {place : 
 -- ---- how large things are, and the end
 
 module _ {columns rows map seen new : List ℕ} {cut place dim w b : ℕ} (A : DepthAsked columns rows cut map place)
-    (P : Putting (syndromeOf columns rows cut) (length rows) (set map place 0) place seen new dim w b) where
+    (P : Putting (syndrome_of columns rows cut) (length rows) (set map place 0) place seen new dim w b) where
   twice : b < length rows → w + w ≤ 2 ^ length rows
   twice h = omega (arith, P.wide, pow-suc 2 b, pow_mono {i = suc b} {j = length rows} h)
 
   pub row_room : b < length rows → place + (w + w) ≤ length new
   row_room h = omega (arith, twice h, A.room, P.len, length-set map place 0)
 
-  pub seen-room : b < length rows → 0 + (w + w) ≤ length seen
-  seen-room h = omega (arith, twice h, pow_mono {i = length rows} {j = 10} A.few, P.places)
+  pub seen_room : b < length rows → 0 + (w + w) ≤ length seen
+  seen_room h = omega (arith, twice h, pow_mono {i = length rows} {j = 10} A.few, P.places)
 
-  pub dim-few : b < length rows → dim < 10
-  dim-few h = omega (arith, P.less, A.few)
+  pub dim_few : b < length rows → dim < 10
+  dim_few h = omega (arith, P.less, A.few)
 
-  pub putting-end : length rows ≤ b → DepthPut columns rows cut map place new dim
-  putting-end h =
+  pub putting_end : length rows ≤ b → DepthPut columns rows cut map place new dim
+  putting_end h =
       let e : b ≡ length rows = omega (arith, P.most) in
       let u : w ≡ 2 ^ length rows = P.wide ∙ ap (λ m. 2 ^ m) e in
       record {
         len = P.len ∙ length-set map place 0;
         row = λ i q. P.row i (omega arith);
-        counted = sym P.numbered.count ∙ ap (λ m. numbersBelow (syndromeOf columns rows cut) (2 ^ m)) e;
+        counted = sym P.numbered.count ∙ ap (λ m. numbers_below (syndrome_of columns rows cut) (2 ^ m)) e;
         few = omega (arith, P.less, A.few);
         front = λ i q. P.front i q ∙ get_or-set_other map place i 0 0 (λ d. omega arith);
         behind = λ i q. P.behind i (omega arith) ∙ get_or-set_other map place i 0 0 (λ d. omega (arith, pow_pos (length rows)));

@@ -1,2 +1,2 @@
 -- One inner depth.
-pub mod inner
+pub mod Inner

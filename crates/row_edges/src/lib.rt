@@ -1,8 +1,8 @@
 // The edges of a table of sums, each one number, (from, symbol, to), as the pairs and the symbols of a section.
 ghost use Rattle.std.specs.Prelude.{◌+◌, ◌<◌};
-ghost use Rattle.trellis.specs.Layout.{joinedUp};
-ghost use Rattle.trellis.specs.inner.Write.{Wrote};
-ghost use Rattle.row_pieces.specs.inner.Pieces.{stepPairs, stepSymbols, PiecesAsked};
+ghost use Rattle.trellis.specs.Layout.{joined_up};
+ghost use Rattle.trellis.specs.Inner.Write.{Wrote};
+ghost use Rattle.row_pieces.specs.Inner.Pieces.{step_pairs, step_symbols, PiecesAsked};
 
 use numbers::wide;
 use row_pieces::{put_pairs, put_symbols};
@@ -18,7 +18,7 @@ pub fn put_all_pairs(
     at: usize,
 ) -> usize
     requires { PiecesAsked 2 edges.now counts.now n dims.now section.old at }
-    ensures { Wrote section.old at (joinedUp (stepPairs edges.now counts.now dims.now) n)
+    ensures { Wrote section.old at (joined_up (step_pairs edges.now counts.now dims.now) n)
         section.new result }
 {
     let mut to = at;
@@ -44,7 +44,7 @@ pub fn put_all_symbols(
 ) -> usize
     requires { PiecesAsked 1 edges.now counts.now n dims.now section.old at }
     ensures { Wrote section.old at
-        (joinedUp (stepSymbols edges.now counts.now dims.now) n) section.new result }
+        (joined_up (step_symbols edges.now counts.now dims.now) n) section.new result }
 {
     let mut to = at;
     let mut lo: usize = 0;

@@ -1,2 +1,2 @@
 -- The table file of all sums of rows.
-pub mod inner
+pub mod Inner

@@ -2,12 +2,12 @@
 ghost use Rattle.std.specs.Prelude.{◌≡◌, ◌+◌, ◌*◌, ◌/◌, ◌%◌, ◌^◌, ◌≤◌, ◌<◌, length};
 ghost use mathlib.Core.List.{◌∷◌, map, flat_map};
 ghost use Rattle.trellis.specs.Lists.{each, over};
-ghost use Rattle.trellis.specs.inner.Write.{Wrote};
-ghost use Rattle.word_file.specs.TableBytes.{bytes_of, tableBytes};
+ghost use Rattle.trellis.specs.Inner.Write.{Wrote};
+ghost use Rattle.word_file.specs.TableBytes.{bytes_of, table_bytes};
 ghost use Rattle.rows.specs.Sums.{sum_of};
-ghost use Rattle.rows.specs.Table.{rowWidth, word_of};
-ghost use Rattle.rows.specs.inner.Reduced.{Narrow};
-ghost use Rattle.row_file.specs.inner.Filing.{FileAsked, stateBytes};
+ghost use Rattle.rows.specs.Table.{row_width, word_of};
+ghost use Rattle.rows.specs.Inner.Reduced.{Narrow};
+ghost use Rattle.row_file.specs.Inner.Filing.{FileAsked, state_bytes};
 
 use numbers::wide;
 use row_labels::labels_of;
@@ -49,9 +49,9 @@ fn put_sizes(n: usize, bits: usize, count: usize, file: &mut [u8])
 
 // The words' states, from place 5 on.
 fn put_states(words: &[u16], bits: usize, n: usize, file: &mut [u8]) -> usize
-    requires { Narrow (rowWidth bits n) words.now × (bits ≤ 4) × (n ≤ 8) × (length words.now ≤ 1024)
+    requires { Narrow (row_width bits n) words.now × (bits ≤ 4) × (n ≤ 8) × (length words.now ≤ 1024)
         × (5 + 2 * length words.now ≤ length file.old) }
-    ensures { Wrote file.old 5 (flat_map (stateBytes bits n) words.now) file.new result }
+    ensures { Wrote file.old 5 (flat_map (state_bytes bits n) words.now) file.new result }
 {
     let mut at: usize = 5;
     let mut i: usize = 0;
@@ -85,7 +85,7 @@ fn put_labels(labels: &[u16], start: usize, file: &mut [u8])
 pub fn put_file(rows: &[u16], bits: usize, n: usize, file: &mut [u8])
     requires { FileAsked rows.now bits n file.old }
     ensures { file.new
-        ≡ over (tableBytes 2 n (2 ^ bits) (map (word_of bits n) (each (sum_of rows.now) (2 ^ length rows.now))))
+        ≡ over (table_bytes 2 n (2 ^ bits) (map (word_of bits n) (each (sum_of rows.now) (2 ^ length rows.now))))
         file.old }
 {
     let mut words = [0u16; MOST_WORDS];

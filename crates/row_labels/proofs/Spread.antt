@@ -13,13 +13,13 @@ use lib.Dec.{lit<}
 use Rattle.trellis.specs.Lists.{run}
 use Rattle.rows.specs.Sums.{sum_of}
 use Rattle.rows.specs.Table.{spread}
-use Rattle.rows.proofs.Words.{spread-lt, spread-adds}
-use Rattle.rows.proofs.Sums.{Additive, sum-map}
-use Rattle.rows.proofs.Outer.{high-adds}
+use Rattle.rows.proofs.Words.{spread_lt, spread_adds}
+use Rattle.rows.proofs.Sums.{Additive, sum_map}
+use Rattle.rows.proofs.Outer.{high_adds}
 use Rattle.rows.proofs.Tables.{map_at}
-use Rattle.parity.specs.inner.Front.{Front}
-use Rattle.parity.proofs.Fronts.{Fills, fills-next, fills-all}
-use Rattle.row_labels.specs.inner.Labels.{labelsOf}
+use Rattle.parity.specs.Inner.Front.{Front}
+use Rattle.parity.proofs.Fronts.{Fills, fills_next, fills_all}
+use Rattle.row_labels.specs.Inner.Labels.{labels_of}
 
 -- ---- bit by bit
 
@@ -28,14 +28,14 @@ pub record Spreading (x n label left : ℕ) : Type 0 where
   pub is : label ≡ spread (n - left) (x / 2 ^ left)
   pub most : left ≤ n
 
-pub spreading-none : (x n : ℕ) → Spreading x n 0 n
+pub spreading_none : (x n : ℕ) → Spreading x n 0 n
 unfolding spread
-spreading-none x n = record { is = ap (λ k. spread k (x / 2 ^ n)) (sym (sub_self n)); most = omega arith }
+spreading_none x n = record { is = ap (λ k. spread k (x / 2 ^ n)) (sym (sub_self n)); most = omega arith }
 
-pub spreading-next : {x n label left : ℕ} → Spreading x n label left → 0 < left
+pub spreading_next : {x n label left : ℕ} → Spreading x n label left → 0 < left
     → Spreading x n (4 * label + bit_and (x / 2 ^ (left - 1)) 1) (left - 1)
 unfolding spread
-spreading-next {x} {n} {label} {left} S h =
+spreading_next {x} {n} {label} {left} S h =
     let e : suc (n - left) ≡ n - (left - 1) = omega (arith, S.most) in
     let f : left ≡ (left - 1) + 1 = omega arith in
     let g : label ≡ spread (n - left) (x / 2 ^ (left - 1) / 2) =
@@ -45,41 +45,41 @@ spreading-next {x} {n} {label} {left} S h =
     record { is = i ∙ ap (λ k. spread k (x / 2 ^ (left - 1))) e; most = omega (arith, S.most) }
 
 -- a label has room for one symbol more
-pub spreading-fits : {x n label left : ℕ} → Spreading x n label left → 0 < left → n ≤ 8 → 4 * label + 1 < 65536
-spreading-fits {x} {n} {label} {left} S h l =
-    omega (arith, S.is, spread-lt (n - left) (x / 2 ^ left), pow-suc 4 (n - left), at_most (suc (n - left)) (omega (arith, S.most)))
+pub spreading_fits : {x n label left : ℕ} → Spreading x n label left → 0 < left → n ≤ 8 → 4 * label + 1 < 65536
+spreading_fits {x} {n} {label} {left} S h l =
+    omega (arith, S.is, spread_lt (n - left) (x / 2 ^ left), pow-suc 4 (n - left), at_most (suc (n - left)) (omega (arith, S.most)))
   where
     at_most : (k : ℕ) → k ≤ 8 → 4 ^ k ≤ 65536
     at_most k q = pow-le-pow_right (lit< tt) q
 
-pub spreading-end : {x n label left : ℕ} → Spreading x n label left → left ≤ 0 → label ≡ spread n x
-spreading-end {x} {n} {label} {left} S h =
+pub spreading_end : {x n label left : ℕ} → Spreading x n label left → left ≤ 0 → label ≡ spread n x
+spreading_end {x} {n} {label} {left} S h =
     let e : left ≡ 0 = omega arith in
     S.is ∙ ap (λ k. spread (n - k) (x / 2 ^ k)) e ∙ ap₂ spread (sub-zero n) (div-one x)
 
 -- ---- row by row
 
-module _ (s n : ℕ) (rows : List ℕ) {array : List ℕ} {b : ℕ} (F : Fills (labelsOf s n rows) b array) where
+module _ (s n : ℕ) (rows : List ℕ) {array : List ℕ} {b : ℕ} (F : Fills (labels_of s n rows) b array) where
   pub labels_next : {v : ℕ} → b < length rows → length rows ≤ 10 → v ≡ spread n (get_or rows b 0 / 2 ^ s)
-      → Fills (labelsOf s n rows) (b + 1) (set array b v)
+      → Fills (labels_of s n rows) (b + 1) (set array b v)
   labels_next h few e =
       let l = length-map rows (λ r. spread n (r / 2 ^ s)) in
-      fills-next F (omega arith) (omega arith) (e ∙ sym (map_at (λ r. spread n (r / 2 ^ s)) 0 0 rows b h))
+      fills_next F (omega arith) (omega arith) (e ∙ sym (map_at (λ r. spread n (r / 2 ^ s)) 0 0 rows b h))
 
-  pub labels-all : length rows ≤ b → Front (labelsOf s n rows) array
-  labels-all h = let l = length-map rows (λ r. spread n (r / 2 ^ s)) in fills-all F (omega arith)
+  pub labels_all : length rows ≤ b → Front (labels_of s n rows) array
+  labels_all h = let l = length-map rows (λ r. spread n (r / 2 ^ s)) in fills_all F (omega arith)
 
 -- ---- sum by sum
 
-label-adds : (s n : ℕ) → Additive (λ x. spread n (x / 2 ^ s))
-label-adds s n = record {
-  adds = λ x y. ap (spread n) ((high-adds s).adds x y) ∙ (spread-adds n).adds (x / 2 ^ s) (y / 2 ^ s);
+label_adds : (s n : ℕ) → Additive (λ x. spread n (x / 2 ^ s))
+label_adds s n = record {
+  adds = λ x y. ap (spread n) ((high_adds s).adds x y) ∙ (spread_adds n).adds (x / 2 ^ s) (y / 2 ^ s);
 }
 
 -- the sums of the labels are the labels of the sums
-pub labels-sums : (s n : ℕ) (rows : List ℕ) (at count : ℕ)
-    → run (sum_of (labelsOf s n rows)) at count ≡ labelsOf s n (run (sum_of rows) at count)
+pub labels_sums : (s n : ℕ) (rows : List ℕ) (at count : ℕ)
+    → run (sum_of (labels_of s n rows)) at count ≡ labels_of s n (run (sum_of rows) at count)
 unfolding run
-labels-sums s n rows at zero = refl
-labels-sums s n rows at (suc count) =
-    ap₂ (λ x l. x ∷ l) (sum-map (label-adds s n) rows at) (labels-sums s n rows (suc at) count)
+labels_sums s n rows at zero = refl
+labels_sums s n rows at (suc count) =
+    ap₂ (λ x l. x ∷ l) (sum_map (label_adds s n) rows at) (labels_sums s n rows (suc at) count)

@@ -1,2 +1,2 @@
 -- The labels of rows.
-pub mod inner
+pub mod Inner

@@ -1,8 +1,8 @@
 // The labels of rows, two bits a symbol.
 ghost use Rattle.std.specs.Prelude.{◌≡◌, ◌+◌, ◌*◌, ◌≤◌, ◌<◌, length};
 ghost use Rattle.rows.specs.Table.{spread};
-ghost use Rattle.parity.specs.inner.Front.{Front};
-ghost use Rattle.row_labels.specs.inner.Labels.{labelsOf};
+ghost use Rattle.parity.specs.Inner.Front.{Front};
+ghost use Rattle.row_labels.specs.Inner.Labels.{labels_of};
 
 use parity::ROW_BITS;
 
@@ -23,7 +23,7 @@ fn spread_bits(x: u16, n: usize) -> u16
 // The labels of the rows.
 pub fn labels_of(rows: &[u16], bits: usize, n: usize) -> [u16; ROW_BITS]
     requires { (length rows.now ≤ 10) × (bits ≤ 4) × (n ≤ 8) }
-    ensures { Front (labelsOf bits n rows.now) result }
+    ensures { Front (labels_of bits n rows.now) result }
 {
     let mut labels = [0u16; ROW_BITS];
     let mut b: usize = 0;

@@ -1,2 +1,2 @@
 -- The map of a table of sums, depth by depth.
-pub mod inner
+pub mod Inner

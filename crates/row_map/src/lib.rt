@@ -2,7 +2,7 @@
 // rows that the bits of i choose, so a depth's vertices of twice as many words are those of the first half with one number added: the
 // vertex of the new row.
 ghost use Rattle.std.specs.Prelude.{◌≡◌, ℕ, ◌^◌, ◌≤◌, length, get_or};
-ghost use Rattle.row_map.specs.inner.Maps.{MapAsked, InnerPut, CountsOf, MapPut};
+ghost use Rattle.row_map.specs.Inner.Maps.{MapAsked, InnerPut, CountsOf, MapPut};
 
 use parity::ROW_BITS;
 use trellis::MOST_SYMBOLS;

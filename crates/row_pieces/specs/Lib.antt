@@ -1,2 +1,2 @@
 -- Pieces of a section from edges as numbers.
-pub mod inner
+pub mod Inner

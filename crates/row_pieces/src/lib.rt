@@ -1,7 +1,7 @@
 // The pairs and the symbols of one step, from edges as numbers.
 ghost use Rattle.std.specs.Prelude.{◌≡◌, ◌+◌, ◌*◌, ◌/◌, ◌%◌, ◌^◌, ◌≤◌, ◌<◌, length};
-ghost use Rattle.trellis.specs.inner.Write.{Wrote};
-ghost use Rattle.row_pieces.specs.inner.Pieces.{pairsFrom, symbols_from};
+ghost use Rattle.trellis.specs.Inner.Write.{Wrote};
+ghost use Rattle.row_pieces.specs.Inner.Pieces.{pairs_from, symbols_from};
 
 use row_arcs::bit_at;
 
@@ -23,7 +23,7 @@ fn to_of(edge: u16, dim: usize) -> u16
 // The pairs of edges, from place `at` on.
 pub fn put_pairs(edges: &[u16], dim: usize, section: &mut [u16], at: usize) -> usize
     requires { (dim ≤ 10) × (at + 2 * length edges.now ≤ length section.old) }
-    ensures { Wrote section.old at (pairsFrom dim edges.now) section.new result }
+    ensures { Wrote section.old at (pairs_from dim edges.now) section.new result }
 {
     let mut to = at;
     let mut k: usize = 0;

@@ -1,2 +1,2 @@
 -- The numbers of a section, from its parts.
-pub mod inner
+pub mod Inner

@@ -1,7 +1,7 @@
 // The section's numbers in document 01's layout, from the parts that the reduced rows give.
 ghost use Rattle.std.specs.Prelude.{◌≡◌, ◌*◌, ◌+◌};
 ghost use Rattle.trellis.specs.Lists.{over};
-ghost use Rattle.row_section.specs.inner.Parts.{numbersBy, PartsAsked};
+ghost use Rattle.row_section.specs.Inner.Parts.{numbers_by, PartsAsked};
 
 use numbers::wide;
 use row_checks::states_of;
@@ -20,7 +20,7 @@ pub fn put_section(
     requires { PartsAsked bits n depths.dims depths.counts edges.counts depths.roots depths.goals numbers.now
         section.old }
     ensures { section.new
-        ≡ over (numbersBy bits n depths.dims depths.counts edges.counts depths.roots depths.goals numbers.now)
+        ≡ over (numbers_by bits n depths.dims depths.counts edges.counts depths.roots depths.goals numbers.now)
         section.old }
 {
     let dims = depths.dims;

@@ -10,11 +10,11 @@ use lib.ListN.{length, get_or, drop, set, length-map}
 use lib.Seq.{drop-cons, drop-length}
 use lib.Dec.{ltb}
 use lib.Bits.{bit_and, and_mask}
-use Rattle.trellis.specs.Lists.{one-if, rank}
+use Rattle.trellis.specs.Lists.{one_if, rank}
 use Rattle.rows.proofs.Tables.{map_at}
-use Rattle.parity.specs.inner.Front.{Front}
-use Rattle.parity.proofs.Fronts.{Fills, fills-none, fills-next, fills-all}
-use Rattle.row_depth.proofs.Finding.{power-is}
+use Rattle.parity.specs.Inner.Front.{Front}
+use Rattle.parity.proofs.Fronts.{Fills, fills_none, fills_next, fills_all}
+use Rattle.row_depth.proofs.Finding.{power_is}
 
 -- ---- a number for each row
 
@@ -23,22 +23,22 @@ pub record Given (f : ℕ → ℕ) (rows : List ℕ) (b : ℕ) (array : List ℕ
   pub are : Fills (map f rows) b array
   pub sixteen : length array ≡ 16
 
-pub given-none : (f : ℕ → ℕ) (rows : List ℕ) {array : List ℕ} → length array ≡ 16 → Given f rows 0 array
-given-none f rows e = record { are = fills-none (map f rows) e; sixteen = e }
+pub given_none : (f : ℕ → ℕ) (rows : List ℕ) {array : List ℕ} → length array ≡ 16 → Given f rows 0 array
+given_none f rows e = record { are = fills_none (map f rows) e; sixteen = e }
 
-pub given-next : {f : ℕ → ℕ} {rows array : List ℕ} {b v : ℕ} → Given f rows b array → b < length rows → length rows ≤ 10
+pub given_next : {f : ℕ → ℕ} {rows array : List ℕ} {b v : ℕ} → Given f rows b array → b < length rows → length rows ≤ 10
     → v ≡ f (get_or rows b 0) → Given f rows (b + 1) (set array b v)
-given-next {f} {rows} {array} {b} {v} G h few e =
+given_next {f} {rows} {array} {b} {v} G h few e =
     let l = length-map rows f in
-    let F = fills-next G.are (omega arith) (omega arith) (e ∙ sym (map_at f 0 0 rows b h)) in
+    let F = fills_next G.are (omega arith) (omega arith) (e ∙ sym (map_at f 0 0 rows b h)) in
     record { are = F; sixteen = F.sixteen }
 
-pub given-all : {f : ℕ → ℕ} {rows array : List ℕ} {b : ℕ} → Given f rows b array → length rows ≤ b → Front (map f rows) array
-given-all {f} {rows} G h = let l = length-map rows f in fills-all G.are (omega arith)
+pub given_all : {f : ℕ → ℕ} {rows array : List ℕ} {b : ℕ} → Given f rows b array → length rows ≤ b → Front (map f rows) array
+given_all {f} {rows} G h = let l = length-map rows f in fills_all G.are (omega arith)
 
 -- the last bits of a number
 pub mask_is : (x s : ℕ) → s ≤ 4 → bit_and x ((1 * 2 ^ s) % 2 ^ 16 - 1) ≡ x % 2 ^ s
-mask_is x s h = ap (λ k. bit_and x (k - 1)) (power-is s (omega arith)) ∙ and_mask x s
+mask_is x s h = ap (λ k. bit_and x (k - 1)) (power_is s (omega arith)) ∙ and_mask x s
 
 -- ---- ranks
 
@@ -51,7 +51,7 @@ pub below_none : (x : ℕ) (keys : List ℕ) → Below x keys 0 0
 below_none x keys = record { whole = omega arith; few = omega arith }
 
 pub below_next : {x : ℕ} {keys : List ℕ} {v count next : ℕ} → Below x keys v count → v < length keys
-    → next ≡ count + one-if (ltb (get_or keys v 0) x) → Below x keys (v + 1) next
+    → next ≡ count + one_if (ltb (get_or keys v 0) x) → Below x keys (v + 1) next
 unfolding rank
 below_next {x} {keys} {v} {count} {next} B h e = record {
   whole = subst (λ k. rank x keys ≡ next + rank x (drop k keys)) (sym (add-one v))
@@ -59,7 +59,7 @@ below_next {x} {keys} {v} {count} {next} B h e = record {
   few = go (ltb (get_or keys v 0) x) e;
 }
   where
-    go : (b : Bool) → next ≡ count + one-if b → next ≤ v + 1
+    go : (b : Bool) → next ≡ count + one_if b → next ≤ v + 1
     go true q = omega (arith, B.few)
     go false q = omega (arith, B.few)
 

@@ -9,100 +9,100 @@ use lib.ListN.{length, take, drop, length-map}
 use lib.Seq.{length-take-le, take-append_seam}
 use lib.Pow.{pow_mono}
 use Rattle.trellis.specs.Lists.{each, rank}
-use Rattle.trellis.specs.inner.Write.{Wrote}
+use Rattle.trellis.specs.Inner.Write.{Wrote}
 use Rattle.trellis.proofs.Lists.{length_run, each_at}
-use Rattle.trellis.proofs.Write.{wrote-length, wrote-front, wrote-before, wrote_at, wrote-behind}
+use Rattle.trellis.proofs.Write.{wrote_length, wrote_front, wrote_before, wrote_at, wrote_behind}
 use Rattle.rows.specs.Sums.{sum_of, sums}
-use Rattle.rows.specs.inner.Reduced.{Narrow, Spans}
-use Rattle.rows.proofs.Growing.{spans-sums}
-use Rattle.rows.proofs.Spanning.{reduced-few}
-use Rattle.rows.proofs.Ranks.{rank-sum}
-use Rattle.parity.specs.inner.Steps.{Basis}
-use Rattle.parity.specs.inner.Front.{Front}
-use Rattle.reduced_rows.proofs.ReadingOff.{basis-length}
-use Rattle.row_states.specs.inner.Outer.{OuterAsked, OuterPut}
+use Rattle.rows.specs.Inner.Reduced.{Narrow, Spans}
+use Rattle.rows.proofs.Growing.{spans_sums}
+use Rattle.rows.proofs.Spanning.{reduced_few}
+use Rattle.rows.proofs.Ranks.{rank_sum}
+use Rattle.parity.specs.Inner.Steps.{Basis}
+use Rattle.parity.specs.Inner.Front.{Front}
+use Rattle.reduced_rows.proofs.ReadingOff.{basis_length}
+use Rattle.row_states.specs.Inner.Outer.{OuterAsked, OuterPut}
 
 -- all sums of rows by rising choice
-abbrev pub allSums : List ℕ → List ℕ
-allSums rows = each (sum_of rows) (2 ^ length rows)
+abbrev pub all_sums : List ℕ → List ℕ
+all_sums rows = each (sum_of rows) (2 ^ length rows)
 
-all-length : (rows : List ℕ) → length (allSums rows) ≡ 2 ^ length rows
-all-length rows = length_run (sum_of rows) 0 (2 ^ length rows)
+all_length : (rows : List ℕ) → length (all_sums rows) ≡ 2 ^ length rows
+all_length rows = length_run (sum_of rows) 0 (2 ^ length rows)
 
-pub values-narrow : {values old : List ℕ} {place : ℕ} → OuterAsked values old place → Narrow 16 values
-values-narrow A j h = omega (arith, A.narrow j h)
+pub values_narrow : {values old : List ℕ} {place : ℕ} → OuterAsked values old place → Narrow 16 values
+values_narrow A j h = omega (arith, A.narrow j h)
 
 module _ {values old columns base : List ℕ} {place dim : ℕ} (A : OuterAsked values old place) (S : Spans 16 values columns)
     (B : Basis columns base dim) where
   -- ---- the states
 
-  basis-few : dim ≤ 4
-  basis-few = omega (arith, basis-length B, ap length B.are, reduced-few {N = 16} {M = 4} S (values-narrow A) A.narrow)
+  basis_few : dim ≤ 4
+  basis_few = omega (arith, basis_length B, ap length B.are, reduced_few {N = 16} {M = 4} S (values_narrow A) A.narrow)
 
-  basis-sums : 2 ^ length (take dim base) ≤ 16
-  basis-sums = pow_mono {i = length (take dim base)} {j = 4} (omega (arith, basis-length B, basis-few))
+  basis_sums : 2 ^ length (take dim base) ≤ 16
+  basis_sums = pow_mono {i = length (take dim base)} {j = 4} (omega (arith, basis_length B, basis_few))
 
-  pub basis-asked : (length (take dim base) ≤ 10) × (0 + 2 ^ length (take dim base) ≤ 16)
-  basis-asked = (omega (arith, basis-length B, basis-few), omega (arith, basis-sums))
+  pub basis_asked : (length (take dim base) ≤ 10) × (0 + 2 ^ length (take dim base) ≤ 16)
+  basis_asked = (omega (arith, basis_length B, basis_few), omega (arith, basis_sums))
 
-  sums-are : allSums (take dim base) ≡ sums values
-  sums-are = ap allSums B.are ∙ sym (spans-sums S (values-narrow A))
+  sums_are : all_sums (take dim base) ≡ sums values
+  sums_are = ap all_sums B.are ∙ sym (spans_sums S (values_narrow A))
 
-  module _ {none keys : List ℕ} {count : ℕ} (W : Wrote none 0 (allSums (take dim base)) keys count) (sixteen : length none ≡ 16) where
-    count-is : count ≡ length (allSums (take dim base))
-    count-is = omega (arith, W.end_is)
+  module _ {none keys : List ℕ} {count : ℕ} (W : Wrote none 0 (all_sums (take dim base)) keys count) (sixteen : length none ≡ 16) where
+    count_is_lem : count ≡ length (all_sums (take dim base))
+    count_is_lem = omega (arith, W.end_is)
 
-    keys-sixteen : length keys ≡ 16
-    keys-sixteen = wrote-length W ∙ sixteen
+    keys_sixteen : length keys ≡ 16
+    keys_sixteen = wrote_length W ∙ sixteen
 
-    pub keys-inside : count ≤ length keys
-    keys-inside = omega (arith, count-is, all-length (take dim base), basis-sums, keys-sixteen)
+    pub keys_inside : count ≤ length keys
+    keys_inside = omega (arith, count_is_lem, all_length (take dim base), basis_sums, keys_sixteen)
 
     pub keys_length : count ≡ length (take count keys)
-    keys_length = sym (length-take-le count keys keys-inside)
+    keys_length = sym (length-take-le count keys keys_inside)
 
-    keys-are : take count keys ≡ sums values
-    keys-are =
-        let room : length (allSums (take dim base)) ≤ length none = omega (arith, count-is, keys-inside, wrote-length W) in
-        ap (λ k. take k keys) count-is ∙ ap (take (length (allSums (take dim base)))) (wrote-front W room)
-        ∙ take-append_seam (allSums (take dim base)) (drop (length (allSums (take dim base))) none) ∙ sums-are
+    keys_are : take count keys ≡ sums values
+    keys_are =
+        let room : length (all_sums (take dim base)) ≤ length none = omega (arith, count_is_lem, keys_inside, wrote_length W) in
+        ap (λ k. take k keys) count_is_lem ∙ ap (take (length (all_sums (take dim base)))) (wrote_front W room)
+        ∙ take-append_seam (all_sums (take dim base)) (drop (length (all_sums (take dim base))) none) ∙ sums_are
 
-    pub keys-few : length (take count keys) ≤ 1024
-    keys-few = omega (arith, keys_length, keys-inside, keys-sixteen)
+    pub keys_few : length (take count keys) ≤ 1024
+    keys_few = omega (arith, keys_length, keys_inside, keys_sixteen)
 
     -- ---- the words
 
     module _ {ranks : List ℕ} (R : Front (map (λ x. rank x (take count keys)) values) ranks) where
-      ranks-are : take (length values) ranks ≡ map (λ x. rank x (sums values)) values
-      ranks-are = ap (λ k. take k ranks) (sym (length-map values (λ x. rank x (take count keys)))) ∙ R.are
-          ∙ ap (λ l. map (λ x. rank x l) values) keys-are
+      ranks_are : take (length values) ranks ≡ map (λ x. rank x (sums values)) values
+      ranks_are = ap (λ k. take k ranks) (sym (length-map values (λ x. rank x (take count keys)))) ∙ R.are
+          ∙ ap (λ l. map (λ x. rank x l) values) keys_are
 
-      pub ranks-length : length values ≡ length (take (length values) ranks)
-      ranks-length = sym (length-take-le (length values) ranks (omega (arith, A.few, R.sixteen)))
+      pub ranks_length : length values ≡ length (take (length values) ranks)
+      ranks_length = sym (length-take-le (length values) ranks (omega (arith, A.few, R.sixteen)))
 
-      ranks-choices : 2 ^ length values ≡ 2 ^ length (take (length values) ranks)
-      ranks-choices = ap (λ k. 2 ^ k) ranks-length
+      ranks_choices : 2 ^ length values ≡ 2 ^ length (take (length values) ranks)
+      ranks_choices = ap (λ k. 2 ^ k) ranks_length
 
-      pub ranks-asked : (length (take (length values) ranks) ≤ 10) × (place + 2 ^ length (take (length values) ranks) ≤ length old)
-      ranks-asked = (omega (arith, ranks-length, A.few), omega (arith, ranks-choices, A.room))
+      pub ranks_asked : (length (take (length values) ranks) ≤ 10) × (place + 2 ^ length (take (length values) ranks) ≤ length old)
+      ranks_asked = (omega (arith, ranks_length, A.few), omega (arith, ranks_choices, A.room))
 
-      pub outer-put : {new : List ℕ} {end : ℕ} → Wrote old place (allSums (take (length values) ranks)) new end
+      pub outer_put : {new : List ℕ} {end : ℕ} → Wrote old place (all_sums (take (length values) ranks)) new end
           → OuterPut values old place new keys dim
-      outer-put {new} {end} P = record {
-        len = wrote-length P;
+      outer_put {new} {end} P = record {
+        len = wrote_length P;
         row = λ i h.
             wrote_at P (omega (arith, long, A.room)) i (omega (arith, long))
-            ∙ each_at (sum_of (take (length values) ranks)) (2 ^ length (take (length values) ranks)) i 0 (omega (arith, ranks-choices))
-            ∙ ap (λ l. sum_of l i) ranks-are ∙ sym (rank-sum 16 values (values-narrow A) i);
-        front = λ i h. wrote-before P i h;
-        behind = λ i h. wrote-behind P i (omega (arith, long));
-        states = record { are = ap (λ k. take k keys) (sym sums-count) ∙ keys-are; sixteen = keys-sixteen };
-        counted = ap (λ k. 2 ^ k) (basis-length B) ∙ sym (all-length (take dim base)) ∙ ap length sums-are;
-        few = basis-few;
+            ∙ each_at (sum_of (take (length values) ranks)) (2 ^ length (take (length values) ranks)) i 0 (omega (arith, ranks_choices))
+            ∙ ap (λ l. sum_of l i) ranks_are ∙ sym (rank_sum 16 values (values_narrow A) i);
+        front = λ i h. wrote_before P i h;
+        behind = λ i h. wrote_behind P i (omega (arith, long));
+        states = record { are = ap (λ k. take k keys) (sym sums_count) ∙ keys_are; sixteen = keys_sixteen };
+        counted = ap (λ k. 2 ^ k) (basis_length B) ∙ sym (all_length (take dim base)) ∙ ap length sums_are;
+        few = basis_few;
       }
         where
-          sums-count : count ≡ length (sums values)
-          sums-count = count-is ∙ ap length sums-are
+          sums_count : count ≡ length (sums values)
+          sums_count = count_is_lem ∙ ap length sums_are
 
-          long : length (allSums (take (length values) ranks)) ≡ 2 ^ length values
-          long = all-length (take (length values) ranks) ∙ sym ranks-choices
+          long : length (all_sums (take (length values) ranks)) ≡ 2 ^ length values
+          long = all_length (take (length values) ranks) ∙ sym ranks_choices

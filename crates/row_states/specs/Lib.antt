@@ -1,2 +1,2 @@
 -- The outer depths.
-pub mod inner
+pub mod Inner

@@ -1,8 +1,8 @@
 // An outer depth of the map of a table of sums: the vertex of a word is the number of its state among those that occur.
 ghost use Rattle.std.specs.Prelude.{◌≡◌, map, ◌+◌, ◌%◌, ◌^◌, ◌≤◌, ◌<◌, length, ltb};
-ghost use Rattle.trellis.specs.Lists.{one-if, rank};
-ghost use Rattle.parity.specs.inner.Front.{Front};
-ghost use Rattle.row_states.specs.inner.Outer.{rootsOf, goalsOf, OuterAsked, OuterPut};
+ghost use Rattle.trellis.specs.Lists.{one_if, rank};
+ghost use Rattle.parity.specs.Inner.Front.{Front};
+ghost use Rattle.row_states.specs.Inner.Outer.{roots_of, goals_of, OuterAsked, OuterPut};
 
 use parity::ROW_BITS;
 use row_sums::put_sums;
@@ -10,7 +10,7 @@ use row_sums::put_sums;
 // The rows' bits before the last `behind`.
 pub fn roots_of(rows: &[u16], behind: usize) -> [u16; ROW_BITS]
     requires { (length rows.now ≤ 10) × (behind < 16) }
-    ensures { Front (rootsOf behind rows.now) result }
+    ensures { Front (roots_of behind rows.now) result }
 {
     let mut values = [0u16; ROW_BITS];
     let mut b: usize = 0;
@@ -32,7 +32,7 @@ fn goal_of(x: u16, bits: usize) -> u16
 // The rows' last `bits` bits.
 pub fn goals_of(rows: &[u16], bits: usize) -> [u16; ROW_BITS]
     requires { (length rows.now ≤ 10) × (bits ≤ 4) }
-    ensures { Front (goalsOf bits rows.now) result }
+    ensures { Front (goals_of bits rows.now) result }
 {
     let mut values = [0u16; ROW_BITS];
     let mut b: usize = 0;
@@ -46,7 +46,7 @@ pub fn goals_of(rows: &[u16], bits: usize) -> [u16; ROW_BITS]
 // One more where key is below x.
 fn counted(count: u16, key: u16, x: u16) -> u16
     requires { count < 1024 }
-    ensures { result ≡ count + one-if (ltb key x) }
+    ensures { result ≡ count + one_if (ltb key x) }
 {
     if key < x { count + 1 } else { count }
 }

@@ -1,2 +1,2 @@
 -- Sums by doubling.
-pub mod inner
+pub mod Inner

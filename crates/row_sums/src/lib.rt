@@ -1,9 +1,9 @@
 // All sums of some rows, by rising choice: those of one row more are those without it, and behind them the same with it added.
 ghost use Rattle.std.specs.Prelude.{◌+◌, ◌^◌, ◌≤◌, length};
 ghost use Rattle.trellis.specs.Lists.{each};
-ghost use Rattle.trellis.specs.inner.Write.{Wrote};
+ghost use Rattle.trellis.specs.Inner.Write.{Wrote};
 ghost use Rattle.rows.specs.Sums.{sum_of};
-ghost use Rattle.row_sums.specs.inner.Doubled.{Doubled};
+ghost use Rattle.row_sums.specs.Inner.Doubled.{Doubled};
 
 // c added to the w numbers from `place` on, written behind them.
 pub fn double(row: &mut [u16], place: usize, w: usize, c: u16)

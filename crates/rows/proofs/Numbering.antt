@@ -12,26 +12,26 @@ use lib.ListN.{length-append}
 use lib.Dec.{eqb}
 use lib.Bits.{xor_lt}
 use borrow.Author.Tests.{eq-eqb, ne_eqb}
-use Rattle.trellis.specs.Lists.{one-if}
-use Rattle.runs.specs.inner.Runs.{firstLike, below, number_of}
-use Rattle.runs.proofs.FirstLike.{like-le, like_is, like-least, like-eq, eqb-iff}
-use Rattle.runs.proofs.Counting.{below-cong}
+use Rattle.trellis.specs.Lists.{one_if}
+use Rattle.runs.specs.Inner.Runs.{first_like, below, number_of}
+use Rattle.runs.proofs.FirstLike.{like_le, like_is, like_least, like_eq, eqb_iff}
+use Rattle.runs.proofs.Counting.{below_cong}
 use Rattle.rows.specs.Sums.{◌⊕◌, sum_of, choices}
-use Rattle.rows.specs.inner.Numbering.{number, numbersBelow, Numbered}
-use Rattle.rows.proofs.Xor.{power-xor, xor-again, xor-twice}
-use Rattle.rows.proofs.Sums.{Additive, sum-xor, sum-nil, sum-last-low, sum-last-high}
+use Rattle.rows.specs.Inner.Numbering.{number, numbers_below, Numbered}
+use Rattle.rows.proofs.Xor.{power_xor, xor_again, xor_twice}
+use Rattle.rows.proofs.Sums.{Additive, sum_xor, sum_nil, sum_last_low, sum_last_high}
 
 -- ---- counts
 
-below-add : (p : ℕ → Bool) (m k : ℕ) → below p (m + k) ≡ below p m + below (λ e. p (m + e)) k
+below_add : (p : ℕ → Bool) (m k : ℕ) → below p (m + k) ≡ below p m + below (λ e. p (m + e)) k
 unfolding below
-below-add p m zero = rw (add-zero m) (omega arith)
-below-add p m (suc k) = rw (add-suc m k) (omega (arith, below-add p m k))
+below_add p m zero = rw (add-zero m) (omega arith)
+below_add p m (suc k) = rw (add-suc m k) (omega (arith, below_add p m k))
 
 below_none : (p : ℕ → Bool) (k : ℕ) → ((e : ℕ) → e < k → p e ≡ false) → below p k ≡ 0
 unfolding below
 below_none p zero h = refl
-below_none p (suc k) h = omega (arith, below_none p k (λ e l. h e (omega arith)), ap one-if (h k (omega arith)))
+below_none p (suc k) h = omega (arith, below_none p k (λ e l. h e (omega arith)), ap one_if (h k (omega arith)))
 
 -- ---- the higher half
 
@@ -40,34 +40,34 @@ double b = omega (arith, pow-suc 2 b)
 
 number_same : (g : ℕ → ℕ) (i j : ℕ) → g i ≡ g j → number g i ≡ number g j
 unfolding number_of
-number_same g i j e = ap (below (λ k. eqb (firstLike g k) k)) (like-eq g i j e)
+number_same g i j e = ap (below (λ k. eqb (first_like g k) k)) (like_eq g i j e)
 
 module _ {g : ℕ → ℕ} (A : Additive g) where
-  pub numbered-none : Numbered g 0 0
+  pub numbered_none : Numbered g 0 0
   unfolding number_of below
-  numbered-none = record {
+  numbered_none = record {
     parts = [];
     wide = refl;
-    count = ap (λ b. 0 + one-if b) (eq-eqb (firstLike g 0) 0 zeroth);
-    is = λ i h. let e : i ≡ 0 = omega arith in ap (number g) e ∙ at_zero ∙ sym (sum-nil i);
+    count = ap (λ b. 0 + one_if b) (eq-eqb (first_like g 0) 0 zeroth);
+    is = λ i h. let e : i ≡ 0 = omega arith in ap (number g) e ∙ at_zero ∙ sym (sum_nil i);
     small = λ i h. let e : i ≡ 0 = omega arith in omega (arith, ap (number g) e ∙ at_zero);
   }
     where
-      zeroth : firstLike g 0 ≡ 0
-      zeroth = omega (arith, like-le g 0)
+      zeroth : first_like g 0 ≡ 0
+      zeroth = omega (arith, like_le g 0)
 
       at_zero : number g 0 ≡ 0
-      at_zero = ap (below (λ k. eqb (firstLike g k) k)) zeroth
+      at_zero = ap (below (λ k. eqb (first_like g k) k)) zeroth
 
   module _ {b d : ℕ} (L : Numbered g b d) where
     pub high_value : (j : ℕ) → j < 2 ^ b → g (2 ^ b + j) ≡ g (2 ^ b) ⊕ g j
-    high_value j h = ap g (sym (power-xor b j h)) ∙ A.adds (2 ^ b) j
+    high_value j h = ap g (sym (power_xor b j h)) ∙ A.adds (2 ^ b) j
 
-    same-choices : 2 ^ b ≡ choices L.parts
-    same-choices = ap (λ k. 2 ^ k) (sym L.wide)
+    same_choices : 2 ^ b ≡ choices L.parts
+    same_choices = ap (λ k. 2 ^ k) (sym L.wide)
 
     -- one part more, where the higher half has the numbers that this part makes
-    grow : (c e : ℕ) → numbersBelow g (2 ^ suc b) ≡ 2 ^ e → ((j : ℕ) → j < 2 ^ b → number g (2 ^ b + j) ≡ c ⊕ number g j)
+    grow : (c e : ℕ) → numbers_below g (2 ^ suc b) ≡ 2 ^ e → ((j : ℕ) → j < 2 ^ b → number g (2 ^ b + j) ≡ c ⊕ number g j)
         → ((i : ℕ) → i < 2 ^ suc b → number g i < 2 ^ e) → Numbered g (suc b) e
     grow c e n h s = record {
       parts = L.parts ++ (c ∷ []);
@@ -78,17 +78,17 @@ module _ {g : ℕ → ℕ} (A : Additive g) where
     }
       where
         high : (j : ℕ) → j < 2 ^ b → number g (2 ^ b + j) ≡ sum_of (L.parts ++ (c ∷ [])) (2 ^ b + j)
-        high j k = h j k ∙ ap (λ x. c ⊕ x) (L.is j k) ∙ sym (sum-last-high L.parts c j (subst (λ m. j < m) same-choices k))
-            ∙ ap (λ m. sum_of (L.parts ++ (c ∷ [])) (m + j)) (sym same-choices)
+        high j k = h j k ∙ ap (λ x. c ⊕ x) (L.is j k) ∙ sym (sum_last_high L.parts c j (subst (λ m. j < m) same_choices k))
+            ∙ ap (λ m. sum_of (L.parts ++ (c ∷ [])) (m + j)) (sym same_choices)
 
         go : (i : ℕ) → i < 2 ^ suc b → Dec (i < 2 ^ b) → number g i ≡ sum_of (L.parts ++ (c ∷ [])) i
-        go i k (yes l) = L.is i l ∙ sym (sum-last-low L.parts c i (subst (λ m. i < m) same-choices l))
+        go i k (yes l) = L.is i l ∙ sym (sum_last_low L.parts c i (subst (λ m. i < m) same_choices l))
         go i k (no l) =
             let q : 2 ^ b + (i - 2 ^ b) ≡ i = omega arith in
             subst (λ x. number g x ≡ sum_of (L.parts ++ (c ∷ [])) x) q (high (i - 2 ^ b) (omega (arith, double b)))
 
-    split-half : (P : ℕ → Type 0) → ((i : ℕ) → i < 2 ^ b → P i) → ((j : ℕ) → j < 2 ^ b → P (2 ^ b + j)) → (i : ℕ) → i < 2 ^ suc b → P i
-    split-half P low high i k = go (dec_lt i (2 ^ b))
+    split_half : (P : ℕ → Type 0) → ((i : ℕ) → i < 2 ^ b → P i) → ((j : ℕ) → j < 2 ^ b → P (2 ^ b + j)) → (i : ℕ) → i < 2 ^ suc b → P i
+    split_half P low high i k = go (dec_lt i (2 ^ b))
       where
         go : Dec (i < 2 ^ b) → P i
         go (yes l) = low i l
@@ -100,74 +100,74 @@ module _ {g : ℕ → ℕ} (A : Additive g) where
       old_value : (j : ℕ) → j < 2 ^ b → g (2 ^ b + j) ≡ g (o ⊕ j)
       old_value j h = high_value j h ∙ ap (λ x. x ⊕ g j) (sym same) ∙ sym (A.adds o j)
 
-      pub number-old : (j : ℕ) → j < 2 ^ b → number g (2 ^ b + j) ≡ number g o ⊕ number g j
-      number-old j h = number_same g (2 ^ b + j) (o ⊕ j) (old_value j h)
-          ∙ L.is (o ⊕ j) (xor_lt b o j early h) ∙ (sum-xor L.parts).adds o j ∙ ap₂ (λ x y. x ⊕ y) (sym (L.is o early)) (sym (L.is j h))
+      pub number_old : (j : ℕ) → j < 2 ^ b → number g (2 ^ b + j) ≡ number g o ⊕ number g j
+      number_old j h = number_same g (2 ^ b + j) (o ⊕ j) (old_value j h)
+          ∙ L.is (o ⊕ j) (xor_lt b o j early h) ∙ (sum_xor L.parts).adds o j ∙ ap₂ (λ x y. x ⊕ y) (sym (L.is o early)) (sym (L.is j h))
 
-      pub numbered-old : Numbered g (suc b) d
-      numbered-old = grow (number g o) d
-          (ap (numbersBelow g) (double b) ∙ below-add (λ j. eqb (firstLike g j) j) (2 ^ b) (2 ^ b)
-          ∙ omega (arith, L.count, below_none (λ e. eqb (firstLike g (2 ^ b + e)) (2 ^ b + e)) (2 ^ b) never))
-          number-old
-          (split-half (λ i. number g i < 2 ^ d) L.small
-          (λ j h. subst (λ x. x < 2 ^ d) (sym (number-old j h)) (xor_lt d (number g o) (number g j) (L.small o early) (L.small j h))))
+      pub numbered_old : Numbered g (suc b) d
+      numbered_old = grow (number g o) d
+          (ap (numbers_below g) (double b) ∙ below_add (λ j. eqb (first_like g j) j) (2 ^ b) (2 ^ b)
+          ∙ omega (arith, L.count, below_none (λ e. eqb (first_like g (2 ^ b + e)) (2 ^ b + e)) (2 ^ b) never))
+          number_old
+          (split_half (λ i. number g i < 2 ^ d) L.small
+          (λ j h. subst (λ x. x < 2 ^ d) (sym (number_old j h)) (xor_lt d (number g o) (number g j) (L.small o early) (L.small j h))))
         where
-          never : (e : ℕ) → e < 2 ^ b → eqb (firstLike g (2 ^ b + e)) (2 ^ b + e) ≡ false
-          never e h = ne_eqb (firstLike g (2 ^ b + e)) (2 ^ b + e)
-              (λ q. let l = like-least g (2 ^ b + e) (o ⊕ e) (sym (old_value e h)) in let k = xor_lt b o e early h in omega arith)
+          never : (e : ℕ) → e < 2 ^ b → eqb (first_like g (2 ^ b + e)) (2 ^ b + e) ≡ false
+          never e h = ne_eqb (first_like g (2 ^ b + e)) (2 ^ b + e)
+              (λ q. let l = like_least g (2 ^ b + e) (o ⊕ e) (sym (old_value e h)) in let k = xor_lt b o e early h in omega arith)
 
     -- ---- none has
 
     module _ (fresh : (o : ℕ) → o < 2 ^ b → g o ≡ g (2 ^ b) → ⊥) where
       -- no earlier one has the value of one of the higher half
-      fresh-high : (j o : ℕ) → j < 2 ^ b → o < 2 ^ b → g o ≡ g (2 ^ b + j) → ⊥
-      fresh-high j o h k e = fresh (o ⊕ j) (xor_lt b o j k h)
-          (A.adds o j ∙ ap (λ x. x ⊕ g j) (e ∙ high_value j h) ∙ xor-again (g (2 ^ b)) (g j))
+      fresh_high : (j o : ℕ) → j < 2 ^ b → o < 2 ^ b → g o ≡ g (2 ^ b + j) → ⊥
+      fresh_high j o h k e = fresh (o ⊕ j) (xor_lt b o j k h)
+          (A.adds o j ∙ ap (λ x. x ⊕ g j) (e ∙ high_value j h) ∙ xor_again (g (2 ^ b)) (g j))
 
-      same-high : (e j : ℕ) → e < 2 ^ b → j < 2 ^ b → g (2 ^ b + e) ≡ g (2 ^ b + j) → g e ≡ g j
-      same-high e j k h q = sym (xor-twice (g (2 ^ b)) (g e)) ∙ ap (λ x. g (2 ^ b) ⊕ x) (sym (high_value e k) ∙ q ∙ high_value j h)
-          ∙ xor-twice (g (2 ^ b)) (g j)
+      same_high : (e j : ℕ) → e < 2 ^ b → j < 2 ^ b → g (2 ^ b + e) ≡ g (2 ^ b + j) → g e ≡ g j
+      same_high e j k h q = sym (xor_twice (g (2 ^ b)) (g e)) ∙ ap (λ x. g (2 ^ b) ⊕ x) (sym (high_value e k) ∙ q ∙ high_value j h)
+          ∙ xor_twice (g (2 ^ b)) (g j)
 
-      first-high : (j : ℕ) → j < 2 ^ b → firstLike g (2 ^ b + j) ≡ 2 ^ b + firstLike g j
-      first-high j h = go (firstLike g (2 ^ b + j)) refl
+      first_high : (j : ℕ) → j < 2 ^ b → first_like g (2 ^ b + j) ≡ 2 ^ b + first_like g j
+      first_high j h = go (first_like g (2 ^ b + j)) refl
         where
-          up : firstLike g (2 ^ b + j) ≤ 2 ^ b + firstLike g j
-          up = like-least g (2 ^ b + j) (2 ^ b + firstLike g j)
-              (high_value (firstLike g j) (omega (arith, like-le g j)) ∙ ap (λ x. g (2 ^ b) ⊕ x) (like_is g j) ∙ sym (high_value j h))
+          up : first_like g (2 ^ b + j) ≤ 2 ^ b + first_like g j
+          up = like_least g (2 ^ b + j) (2 ^ b + first_like g j)
+              (high_value (first_like g j) (omega (arith, like_le g j)) ∙ ap (λ x. g (2 ^ b) ⊕ x) (like_is g j) ∙ sym (high_value j h))
 
-          go : (k : ℕ) → firstLike g (2 ^ b + j) ≡ k → firstLike g (2 ^ b + j) ≡ 2 ^ b + firstLike g j
+          go : (k : ℕ) → first_like g (2 ^ b + j) ≡ k → first_like g (2 ^ b + j) ≡ 2 ^ b + first_like g j
           go k q = by (dec_lt k (2 ^ b))
             where
               value : g k ≡ g (2 ^ b + j)
               value = ap g (sym q) ∙ like_is g (2 ^ b + j)
 
-              by : Dec (k < 2 ^ b) → firstLike g (2 ^ b + j) ≡ 2 ^ b + firstLike g j
-              by (yes s) = absurd (fresh-high j k h s value)
+              by : Dec (k < 2 ^ b) → first_like g (2 ^ b + j) ≡ 2 ^ b + first_like g j
+              by (yes s) = absurd (fresh_high j k h s value)
               by (no s) =
                   let m : 2 ^ b + (k - 2 ^ b) ≡ k = omega arith in
-                  let w : firstLike g j ≤ k - 2 ^ b =
-                  like-least g j (k - 2 ^ b) (same-high (k - 2 ^ b) j (omega (arith, like-le g (2 ^ b + j))) h (ap g m ∙ value)) in
+                  let w : first_like g j ≤ k - 2 ^ b =
+                  like_least g j (k - 2 ^ b) (same_high (k - 2 ^ b) j (omega (arith, like_le g (2 ^ b + j))) h (ap g m ∙ value)) in
                   omega (arith, up)
 
-      kept_high : (e : ℕ) → e < 2 ^ b → eqb (firstLike g (2 ^ b + e)) (2 ^ b + e) ≡ eqb (firstLike g e) e
-      kept_high e h = eqb-iff (firstLike g (2 ^ b + e)) (2 ^ b + e) (firstLike g e) e
-          (λ q. omega (arith, first-high e h), λ q. omega (arith, first-high e h))
+      kept_high : (e : ℕ) → e < 2 ^ b → eqb (first_like g (2 ^ b + e)) (2 ^ b + e) ≡ eqb (first_like g e) e
+      kept_high e h = eqb_iff (first_like g (2 ^ b + e)) (2 ^ b + e) (first_like g e) e
+          (λ q. omega (arith, first_high e h), λ q. omega (arith, first_high e h))
 
-      below-high : (m : ℕ) → m ≤ 2 ^ b → numbersBelow g (2 ^ b + m) ≡ 2 ^ d + numbersBelow g m
-      below-high m h = below-add (λ j. eqb (firstLike g j) j) (2 ^ b) m
+      below_high : (m : ℕ) → m ≤ 2 ^ b → numbers_below g (2 ^ b + m) ≡ 2 ^ d + numbers_below g m
+      below_high m h = below_add (λ j. eqb (first_like g j) j) (2 ^ b) m
           ∙ ap₂ (λ x y. x + y) L.count
-          (below-cong (λ e. eqb (firstLike g (2 ^ b + e)) (2 ^ b + e)) (λ e. eqb (firstLike g e) e) m (λ e k. kept_high e (omega arith)))
+          (below_cong (λ e. eqb (first_like g (2 ^ b + e)) (2 ^ b + e)) (λ e. eqb (first_like g e) e) m (λ e k. kept_high e (omega arith)))
 
-      number-add : (j : ℕ) → j < 2 ^ b → number g (2 ^ b + j) ≡ 2 ^ d + number g j
+      number_add : (j : ℕ) → j < 2 ^ b → number g (2 ^ b + j) ≡ 2 ^ d + number g j
       unfolding number_of
-      number-add j h = ap (numbersBelow g) (first-high j h) ∙ below-high (firstLike g j) (omega (arith, like-le g j))
+      number_add j h = ap (numbers_below g) (first_high j h) ∙ below_high (first_like g j) (omega (arith, like_le g j))
 
-      pub number-new : (j : ℕ) → j < 2 ^ b → number g (2 ^ b + j) ≡ 2 ^ d ⊕ number g j
-      number-new j h = number-add j h ∙ sym (power-xor d (number g j) (L.small j h))
+      pub number_new : (j : ℕ) → j < 2 ^ b → number g (2 ^ b + j) ≡ 2 ^ d ⊕ number g j
+      number_new j h = number_add j h ∙ sym (power_xor d (number g j) (L.small j h))
 
-      pub numbered-new : Numbered g (suc b) (suc d)
-      numbered-new = grow (2 ^ d) (suc d)
-          (ap (numbersBelow g) (double b) ∙ below-high (2 ^ b) (omega arith) ∙ omega (arith, L.count, double d))
-          number-new
-          (split-half (λ i. number g i < 2 ^ suc d) (λ i h. omega (arith, L.small i h, double d))
-          (λ j h. omega (arith, number-add j h, L.small j h, double d)))
+      pub numbered_new : Numbered g (suc b) (suc d)
+      numbered_new = grow (2 ^ d) (suc d)
+          (ap (numbers_below g) (double b) ∙ below_high (2 ^ b) (omega arith) ∙ omega (arith, L.count, double d))
+          number_new
+          (split_half (λ i. number g i < 2 ^ suc d) (λ i h. omega (arith, L.small i h, double d))
+          (λ j h. omega (arith, number_add j h, L.small j h, double d)))

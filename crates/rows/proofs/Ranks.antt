@@ -10,48 +10,48 @@ use lib.Pow.{pow_pos}
 use lib.Bits.{xor_lt}
 use Rattle.trellis.specs.Lists.{rank}
 use Rattle.rows.specs.Sums.{◌⊕◌, sum_of, choices, IsSum, sums}
-use Rattle.rows.specs.inner.Reduced.{reducedRows, Narrow}
-use Rattle.rows.proofs.Sums.{Additive, sum-xor, sum_is, sum_low, sum-power}
+use Rattle.rows.specs.Inner.Reduced.{reduced_rows, Narrow}
+use Rattle.rows.proofs.Sums.{Additive, sum_xor, sum_is, sum_low, sum_power}
 use Rattle.rows.proofs.Tables.{map_at}
-use Rattle.rows.proofs.Order.{sum-reduced}
-use Rattle.rows.proofs.Growing.{narrow-sum}
+use Rattle.rows.proofs.Order.{sum_reduced}
+use Rattle.rows.proofs.Growing.{narrow_sum}
 use Rattle.rows.proofs.Spanning.{Spanned, spanned}
-pub use Rattle.rows.proofs.Spanning.{spans-length}
-use Rattle.rows.proofs.Edges.{sum-parts, rank_is}
+pub use Rattle.rows.proofs.Spanning.{spans_length}
+use Rattle.rows.proofs.Edges.{sum_parts, rank_is}
 
 module _ (N : ℕ) (fs : List ℕ) (narrow : Narrow N fs) where
   -- the number of sums is a power of 2
-  pub sums-power : length (sums fs) ≡ 2 ^ length (reducedRows (spanned N fs narrow).columns)
-  sums-power = spans-length (spanned N fs narrow).spans narrow
+  pub sums_power : length (sums fs) ≡ 2 ^ length (reduced_rows (spanned N fs narrow).columns)
+  sums_power = spans_length (spanned N fs narrow).spans narrow
 
   abbrev S : Spanned N fs
   S = spanned N fs narrow
 
   abbrev B : List ℕ
-  B = reducedRows S.columns
+  B = reduced_rows S.columns
 
   -- the choice of reduced rows for the sum of choice i
   made : (i : ℕ) → IsSum B (sum_of fs i)
-  made i = sum-reduced S.spans.checks S.spans.reduced (sum_of fs i) (narrow-sum N fs narrow (sum_of fs i) (sum_is fs i)) (sum_is fs i)
+  made i = sum_reduced S.spans.checks S.spans.reduced (sum_of fs i) (narrow_sum N fs narrow (sum_of fs i) (sum_is fs i)) (sum_is fs i)
 
-  rank-of : (v x : ℕ) → v < choices B → sum_of B v ≡ x → rank x (sums fs) ≡ v
-  rank-of v x h e = rank_is S.spans.checks S.spans.reduced (narrow-sum N fs narrow) v x h e
+  rank_of : (v x : ℕ) → v < choices B → sum_of B v ≡ x → rank x (sums fs) ≡ v
+  rank_of v x h e = rank_is S.spans.checks S.spans.reduced (narrow_sum N fs narrow) v x h e
 
-  rank-made : (i : ℕ) → rank (sum_of fs i) (sums fs) ≡ (made i).choice
-  rank-made i = rank-of (made i).choice (sum_of fs i) (made i).inside (sym (made i).is)
+  rank_made : (i : ℕ) → rank (sum_of fs i) (sums fs) ≡ (made i).choice
+  rank_made i = rank_of (made i).choice (sum_of fs i) (made i).inside (sym (made i).is)
 
-  pub rank-adds : Additive (λ i. rank (sum_of fs i) (sums fs))
-  rank-adds = record {
+  pub rank_adds : Additive (λ i. rank (sum_of fs i) (sums fs))
+  rank_adds = record {
     adds = λ i j.
-        rank-of ((made i).choice ⊕ (made j).choice) (sum_of fs (i ⊕ j))
+        rank_of ((made i).choice ⊕ (made j).choice) (sum_of fs (i ⊕ j))
         (xor_lt (length B) (made i).choice (made j).choice (made i).inside (made j).inside)
-        ((sum-xor B).adds (made i).choice (made j).choice ∙ ap₂ (λ a b. a ⊕ b) (sym (made i).is) (sym (made j).is)
-        ∙ sym ((sum-xor fs).adds i j))
-        ∙ ap₂ (λ a b. a ⊕ b) (sym (rank-made i)) (sym (rank-made j));
+        ((sum_xor B).adds (made i).choice (made j).choice ∙ ap₂ (λ a b. a ⊕ b) (sym (made i).is) (sym (made j).is)
+        ∙ sym ((sum_xor fs).adds i j))
+        ∙ ap₂ (λ a b. a ⊕ b) (sym (rank_made i)) (sym (rank_made j));
   }
 
-  pub rank-sum : (i : ℕ) → rank (sum_of fs i) (sums fs) ≡ sum_of (map (λ f. rank f (sums fs)) fs) i
-  rank-sum i = ap (λ x. rank x (sums fs)) (sym (sum_low fs i)) ∙ low (i % choices fs) (mod-lt i (pow_pos (length fs)))
+  pub rank_sum : (i : ℕ) → rank (sum_of fs i) (sums fs) ≡ sum_of (map (λ f. rank f (sums fs)) fs) i
+  rank_sum i = ap (λ x. rank x (sums fs)) (sym (sum_low fs i)) ∙ low (i % choices fs) (mod-lt i (pow_pos (length fs)))
       ∙ ap (λ k. sum_of parts (i % 2 ^ k)) (sym long) ∙ sum_low parts i
     where
       parts : List ℕ
@@ -61,6 +61,6 @@ module _ (N : ℕ) (fs : List ℕ) (narrow : Narrow N fs) where
       long = length-map fs (λ f. rank f (sums fs))
 
       low : (k : ℕ) → k < choices fs → rank (sum_of fs k) (sums fs) ≡ sum_of parts k
-      low k h = sum-parts rank-adds parts
-          (λ b l. ap (λ x. rank x (sums fs)) (sum-power fs b) ∙ sym (map_at (λ f. rank f (sums fs)) 0 0 fs b (omega (arith, long))))
+      low k h = sum_parts rank_adds parts
+          (λ b l. ap (λ x. rank x (sums fs)) (sum_power fs b) ∙ sym (map_at (λ f. rank f (sums fs)) 0 0 fs b (omega (arith, long))))
           k (omega (arith, ap (λ m. 2 ^ m) long))

@@ -13,12 +13,12 @@ use lib.Dec.{ltb}
 use lib.Pow.{pow_pos, pow-lt}
 use Rattle.trellis.specs.Lists.{◌∈◌, each}
 use Rattle.trellis.proofs.Lists.{place_of, length_run}
-use Rattle.trellis.proofs.Ascending.{numbers, ascending-length}
+use Rattle.trellis.proofs.Ascending.{numbers, ascending_length}
 use Rattle.rows.specs.Sums.{sum_of, choices, sums}
-use Rattle.rows.specs.inner.Reduced.{reducedRows, no_rows, addRow, Narrow, Spans}
+use Rattle.rows.specs.Inner.Reduced.{reduced_rows, no_rows, add_row, Narrow, Spans}
 use Rattle.rows.proofs.Sums.{sum_lt, sum_is}
-use Rattle.rows.proofs.Order.{reduced-sum, reduced-rises}
-use Rattle.rows.proofs.Growing.{spans-none, spans-same, spans-more, spans-sums, narrow-sum}
+use Rattle.rows.proofs.Order.{reduced_sum, reduced_rises}
+use Rattle.rows.proofs.Growing.{spans_none, spans_same, spans_more, spans_sums, narrow_sum}
 
 -- ---- powers of 2
 
@@ -50,8 +50,8 @@ pub record Spanned (N : ℕ) (rows : List ℕ) : Type 0 where
   pub columns : List ℕ
   pub spans : Spans N rows columns
 
-pub syndrome-lt : {N : ℕ} {rows columns : List ℕ} → Spans N rows columns → (x : ℕ) → sum_of columns x < 2 ^ N
-syndrome-lt {N} {rows} {columns} S x = sum_lt N columns column x
+pub syndrome_lt : {N : ℕ} {rows columns : List ℕ} → Spans N rows columns → (x : ℕ) → sum_of columns x < 2 ^ N
+syndrome_lt {N} {rows} {columns} S x = sum_lt N columns column x
   where
     inside : (m : ℕ) → m < N → (get_or columns m 0 ≡ 2 ^ m) ⊎ (get_or columns m 0 < 2 ^ m) → get_or columns m 0 < 2 ^ N
     inside m h (inl e) = omega (arith, pow-lt {i = m} {j = N} h)
@@ -64,19 +64,19 @@ syndrome-lt {N} {rows} {columns} S x = sum_lt N columns column x
 
 module _ (N : ℕ) (rows : List ℕ) (narrow : Narrow N rows) where
   taken : (j : ℕ) → j ≤ length rows → Spanned N (take j rows)
-  taken zero h = record { columns = no_rows N; spans = spans-none N }
+  taken zero h = record { columns = no_rows N; spans = spans_none N }
   taken (suc j) h = subst (Spanned N) (sym (take-suc rows j 0 h)) (more (taken j (omega arith)))
     where
       more : Spanned N (take j rows) → Spanned N (take j rows ++ (get_or rows j 0 ∷ []))
       more S = go (ℕ_discrete (sum_of S.columns (get_or rows j 0)) 0)
         where
           go : Dec (sum_of S.columns (get_or rows j 0) ≡ 0) → Spanned N (take j rows ++ (get_or rows j 0 ∷ []))
-          go (yes e) = record { columns = S.columns; spans = spans-same S.spans (get_or rows j 0) (narrow j h) e }
+          go (yes e) = record { columns = S.columns; spans = spans_same S.spans (get_or rows j 0) (narrow j h) e }
           go (no d) =
-              let H = highest N (sum_of S.columns (get_or rows j 0)) (omega arith) (syndrome-lt S.spans (get_or rows j 0)) in
+              let H = highest N (sum_of S.columns (get_or rows j 0)) (omega arith) (syndrome_lt S.spans (get_or rows j 0)) in
               record {
-                columns = addRow H.place (sum_of S.columns (get_or rows j 0)) S.columns;
-                spans = spans-more S.spans (get_or rows j 0) (narrow j h) H.place H.below H.least H.most;
+                columns = add_row H.place (sum_of S.columns (get_or rows j 0)) S.columns;
+                spans = spans_more S.spans (get_or rows j 0) (narrow j h) H.place H.below H.least H.most;
               }
 
   pub spanned : Spanned N rows
@@ -89,29 +89,29 @@ rising f W h zero k = omega arith
 rising f W h (suc i) k = omega (arith, rising f W h i (omega arith), h i (suc i) (omega arith) k)
 
 -- rows of M bits have no more than M reduced rows, however wide the check is
-pub reduced-few : {N M : ℕ} {rows columns : List ℕ} → Spans N rows columns → Narrow N rows → Narrow M rows
-    → length (reducedRows columns) ≤ M
-reduced-few {N} {M} {rows} {columns} S narrow few = power_le (length (reducedRows columns)) M (omega (
+pub reduced_few : {N M : ℕ} {rows columns : List ℕ} → Spans N rows columns → Narrow N rows → Narrow M rows
+    → length (reduced_rows columns) ≤ M
+reduced_few {N} {M} {rows} {columns} S narrow few = power_le (length (reduced_rows columns)) M (omega (
   arith,
-  pow_pos (length (reducedRows columns)),
-  rising (sum_of (reducedRows columns)) (choices (reducedRows columns)) (reduced-rises S.checks S.reduced) last
-      (omega (arith, pow_pos (length (reducedRows columns)))),
-  narrow-sum M rows few (sum_of (reducedRows columns) last)
-      (reduced-sum S.checks S.reduced (sum_of (reducedRows columns) last) (sum_is (reducedRows columns) last)),
+  pow_pos (length (reduced_rows columns)),
+  rising (sum_of (reduced_rows columns)) (choices (reduced_rows columns)) (reduced_rises S.checks S.reduced) last
+      (omega (arith, pow_pos (length (reduced_rows columns)))),
+  narrow_sum M rows few (sum_of (reduced_rows columns) last)
+      (reduced_sum S.checks S.reduced (sum_of (reduced_rows columns) last) (sum_is (reduced_rows columns) last)),
 ))
   where
     last : ℕ
-    last = choices (reducedRows columns) - 1
+    last = choices (reduced_rows columns) - 1
 
 module _ {N : ℕ} {rows columns : List ℕ} (S : Spans N rows columns) (narrow : Narrow N rows) where
-  pub spans-length : length (sums rows) ≡ 2 ^ length (reducedRows columns)
-  spans-length = ap length (spans-sums S narrow) ∙ length_run (sum_of (reducedRows columns)) 0 (choices (reducedRows columns))
+  pub spans_length : length (sums rows) ≡ 2 ^ length (reduced_rows columns)
+  spans_length = ap length (spans_sums S narrow) ∙ length_run (sum_of (reduced_rows columns)) 0 (choices (reduced_rows columns))
 
-  pub reduced-most : length (reducedRows columns) ≤ length rows
+  pub reduced_most : length (reduced_rows columns) ≤ length rows
   unfolding sums
-  reduced-most = power_le (length (reducedRows columns)) (length rows) (omega (
+  reduced_most = power_le (length (reduced_rows columns)) (length rows) (omega (
     arith,
-    spans-length,
-    ascending-length ltb numbers (each (sum_of rows) (choices rows)),
+    spans_length,
+    ascending_length ltb numbers (each (sum_of rows) (choices rows)),
     length_run (sum_of rows) 0 (choices rows),
   ))

@@ -8,5 +8,5 @@ pub record ParityCheck (N : ℕ) (rows columns : List ℕ) : Type 0 where
   pub tells : (x : ℕ) → x < 2 ^ N → (sum_of columns x ≡ 0) ↔ IsSum rows x
 
 -- the partial syndrome of a word at a cut with c bits behind it: only the bits before the cut count
-abbrev pub syndromeAt : List ℕ → ℕ → ℕ → ℕ
-syndromeAt columns c x = sum_of columns (x / 2 ^ c * 2 ^ c)
+abbrev pub syndrome_at : List ℕ → ℕ → ℕ → ℕ
+syndrome_at columns c x = sum_of columns (x / 2 ^ c * 2 ^ c)

@@ -3,4 +3,4 @@ pub mod Sums
 pub mod Table
 pub mod Check
 pub mod Power
-pub mod inner
+pub mod Inner

@@ -2,7 +2,7 @@
 -- row; choice 0 is the empty sum. Everything here computes.
 use Rattle.std.specs.Prelude.{◌≡◌, Bool, List, [], ◌∷◌, ℕ, zero, suc, ◌/◌, ◌%◌, ◌^◌, ◌<◌, length, get_or, take, ltb, eqb}
 use Rattle.std.specs.Int.Bits.{bit_xor}
-use Rattle.trellis.specs.Lists.{each, first, isIn, ascending}
+use Rattle.trellis.specs.Lists.{each, first, is_in, ascending}
 
 -- two rows added bit by bit modulo 2
 infix 60 ◌⊕◌
@@ -34,9 +34,9 @@ unfoldable pub sums : List ℕ → List ℕ
 sums rows = ascending ltb (each (sum_of rows) (choices rows))
 
 -- whether row j is a sum of the rows before it; a row of zeros is
-unfoldable pub isDependent : List ℕ → ℕ → Bool
-isDependent rows j = isIn eqb (get_or rows j 0) (sums (take j rows))
+unfoldable pub is_dependent : List ℕ → ℕ → Bool
+is_dependent rows j = is_in eqb (get_or rows j 0) (sums (take j rows))
 
 -- the first row that is a sum of those before it, or the number of rows where none is
-unfoldable pub firstDependent : List ℕ → ℕ
-firstDependent rows = first (isDependent rows) (length rows)
+unfoldable pub first_dependent : List ℕ → ℕ
+first_dependent rows = first (is_dependent rows) (length rows)

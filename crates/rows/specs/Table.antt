@@ -2,13 +2,13 @@
 -- 2 ^ (s + n + s). Everything here computes.
 use Rattle.std.specs.Prelude.{List, map, Bool, ◌&&◌, ℕ, zero, suc, ◌+◌, ◌-◌, ◌*◌, ◌/◌, ◌%◌, ◌^◌, length, get_or, leb}
 use Rattle.trellis.specs.Word.{Word, word}
-use Rattle.trellis.specs.Bounds.{mostSymbols, mostStateBits, mostRows}
+use Rattle.trellis.specs.Bounds.{most_symbols, most_state_bits, most_rows}
 use Rattle.trellis.specs.Lists.{first, within}
 use Rattle.rows.specs.Sums.{sums}
 
 -- how many bits a row has
-abbrev pub rowWidth : ℕ → ℕ → ℕ
-rowWidth s n = (s + n) + s
+abbrev pub row_width : ℕ → ℕ → ℕ
+row_width s n = (s + n) + s
 
 -- the last k bits of x as a packed label of k symbols
 unfoldable pub spread : ℕ → ℕ → ℕ
@@ -28,9 +28,9 @@ abbrev pub cut_at : ℕ → ℕ → ℕ → ℕ
 cut_at s n t = (n - t) + s
 
 -- 0 to 4 state bits, 1 to 8 symbols, 1 to 10 rows
-unfoldable pub sizesFit : ℕ → ℕ → ℕ → Bool
-sizesFit s n count = within 0 mostStateBits s && (within 1 mostSymbols n && within 1 mostRows count)
+unfoldable pub sizes_fit : ℕ → ℕ → ℕ → Bool
+sizes_fit s n count = within 0 most_state_bits s && (within 1 most_symbols n && within 1 most_rows count)
 
 -- the first row that has bits above its width, or the number of rows where none has
-unfoldable pub firstWide : ℕ → List ℕ → ℕ
-firstWide width rows = first (λ j. leb (2 ^ width) (get_or rows j 0)) (length rows)
+unfoldable pub first_wide : ℕ → List ℕ → ℕ
+first_wide width rows = first (λ j. leb (2 ^ width) (get_or rows j 0)) (length rows)

@@ -1,2 +1,2 @@
 -- Runs of words with one beginning, and words cut at a depth as pairs of numbers.
-pub mod inner
+pub mod Inner

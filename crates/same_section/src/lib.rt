@@ -2,12 +2,12 @@
 // of vertices is followed from depth 0 on, in a few looks at each number, however many words the sections have. Nothing is written.
 ghost use Rattle.std.specs.Prelude.{◌≡◌, true, ◌<◌, get_or, eqb};
 ghost use Rattle.trellis.specs.Lists.{all};
-ghost use Rattle.answers.specs.Answers.{sameSectionOutcome};
-ghost use Rattle.section_file.specs.inner.View.{Seen};
-ghost use Rattle.section_file.specs.Usable.{isSection};
-ghost use Rattle.same_section.specs.Comparing.{sameCode, comparing};
+ghost use Rattle.answers.specs.Answers.{same_section_outcome};
+ghost use Rattle.section_file.specs.Inner.View.{Seen};
+ghost use Rattle.section_file.specs.Usable.{is_section};
+ghost use Rattle.same_section.specs.Comparing.{same_code, comparing};
 
-use answers::same_section::SameSection;
+use answers::same_section::Same_section;
 use following::follow;
 use numbers::number;
 use section_file::View;
@@ -32,8 +32,8 @@ fn alike(a: &[u16], b: &[u16], count: usize) -> bool
 // one, so all numbers are the same; else the matching is followed. There being as many vertices and edges in both, what carries the edges
 // of the one to edges of the other meets them all.
 fn same_code(a: &[u16], b: &[u16], at: View) -> bool
-    requires { Seen a.now at × (isSection a.now ≡ true) × (isSection b.now ≡ true) }
-    ensures { result ≡ sameCode a.now b.now }
+    requires { Seen a.now at × (is_section a.now ≡ true) × (is_section b.now ≡ true) }
+    ensures { result ≡ same_code a.now b.now }
 {
     if !alike(a, b, at.pairs) {
         return false;
@@ -46,8 +46,8 @@ fn same_code(a: &[u16], b: &[u16], at: View) -> bool
 
 // The first of the two is a section.
 fn compare(a: &[u16], at: View, b: &[u16]) -> SameSection
-    requires { Seen a.now at × (isSection a.now ≡ true) }
-    ensures { sameSectionOutcome result ≡ comparing a.now b.now }
+    requires { Seen a.now at × (is_section a.now ≡ true) }
+    ensures { same_section_outcome result ≡ comparing a.now b.now }
 {
     let part = section_of(b);
     match part {
@@ -64,7 +64,7 @@ fn compare(a: &[u16], at: View, b: &[u16]) -> SameSection
 
 // Whether two lists of numbers are sections with the same q, n, S and words.
 pub fn same_section(a: &[u16], b: &[u16]) -> SameSection
-    ensures { sameSectionOutcome result ≡ comparing a.now b.now }
+    ensures { same_section_outcome result ≡ comparing a.now b.now }
 {
     let part = section_of(a);
     match part {

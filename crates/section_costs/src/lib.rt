@@ -1,14 +1,14 @@
 // Both costs of a section, its additions and its selections, by the counts in its sizes.
 ghost use Rattle.std.specs.Prelude.{◌≡◌, ◌-◌, ◌*◌, ◌≤◌};
 ghost use Rattle.trellis.specs.Selections.{additions, selections};
-ghost use Rattle.trellis.specs.Layout.{n_of, vertexCountOf, edgeCountOf};
+ghost use Rattle.trellis.specs.Layout.{n_of, vertex_count_of, edge_count_of};
 
 use numbers::{number, total, wide};
 
 // Additions: the edges of all steps, by the counts in a section's sizes. Counts have 16 bits and there are at most 65,535 steps, so the sum
 // has 32.
 pub fn additions_of(sizes: &[u16]) -> usize
-    ensures { (result ≡ additions (n_of sizes.now) (edgeCountOf sizes.now)) × (result ≤ 65535 * 65535) }
+    ensures { (result ≡ additions (n_of sizes.now) (edge_count_of sizes.now)) × (result ≤ 65535 * 65535) }
 {
     let n = wide(number(sizes, 1));
     total(sizes, 4 + n, n)
@@ -23,7 +23,7 @@ fn less(a: usize, b: usize) -> usize
 
 // Selections, by the same counts.
 pub fn selections_of(sizes: &[u16]) -> usize
-    ensures { (result ≡ selections (n_of sizes.now) (vertexCountOf sizes.now) (edgeCountOf sizes.now))
+    ensures { (result ≡ selections (n_of sizes.now) (vertex_count_of sizes.now) (edge_count_of sizes.now))
         × (result ≤ 65535 * 65536) }
 {
     let n = wide(number(sizes, 1));

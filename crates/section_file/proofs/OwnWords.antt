@@ -16,71 +16,71 @@ use borrow.Author.Tests.{le-leb, lt-leb, eq-eqb}
 use Rattle.trellis.specs.Lists.{◌∈◌, run, each}
 use Rattle.trellis.specs.Label.{symbol}
 use Rattle.trellis.specs.Word.{Word, word, word_at, Before}
-use Rattle.trellis.specs.Own.{Edge, edge, vertexCount}
+use Rattle.trellis.specs.Own.{Edge, edge, vertex_count}
 use Rattle.trellis.specs.Drawn.{IsPath, DrawnFor}
 use Rattle.trellis.proofs.Ours.{ours}
-use Rattle.trellis.specs.Section.{Path, along, leaving, pathsFrom, packOnto, word_of, words_of}
-use Rattle.trellis.specs.Layout.{n_of, vertexCountOf, rootState, goalState, stepEdges, sectionWords, sectionOf}
-use Rattle.trellis.proofs.Lists.{place_of, of-each, in-each, run-snoc, run-same}
-use Rattle.trellis.proofs.ThreeNumbers.{lower-never, lower-chain}
-use Rattle.trellis.proofs.Labels.{by-symbols}
-use Rattle.trellis.proofs.Words.{word-eq}
+use Rattle.trellis.specs.Section.{Path, along, leaving, paths_from, pack_onto, word_of, words_of}
+use Rattle.trellis.specs.Layout.{n_of, vertex_count_of, root_state, goal_state, step_edges, section_words, section_of}
+use Rattle.trellis.proofs.Lists.{place_of, of_each, in_each, run_snoc, run_same}
+use Rattle.trellis.proofs.ThreeNumbers.{lower_never, lower_chain}
+use Rattle.trellis.proofs.Labels.{by_symbols}
+use Rattle.trellis.proofs.Words.{word_eq}
 use Rattle.trellis.proofs.Demand.{drawn}
-use Rattle.trellis.proofs.OwnLaid.{own-n, own-vertex-count, own_root, own-goal, own-step-edges}
-use Rattle.label.proofs.Digits.{symbol-last, symbol-drop}
-use Rattle.paths.proofs.Ordered.{of-flatMap, in-flatMap, in-keep}
-use Rattle.paths.specs.inner.Ordered.{Ordered, ended, leads}
-use Rattle.paths.proofs.Sections.{from-of, listed_of}
-use Rattle.section_file.proofs.Words.{read_of, words-ascend}
-use Rattle.section_file.proofs.Own.{Fitting, own-sound}
+use Rattle.trellis.proofs.OwnLaid.{own_n, own_vertex_count, own_root, own_goal, own_step_edges}
+use Rattle.label.proofs.Digits.{symbol_last, symbol_drop}
+use Rattle.paths.proofs.Ordered.{of_flat_map, in_flat_map, in_keep}
+use Rattle.paths.specs.Inner.Ordered.{Ordered, ended, leads}
+use Rattle.paths.proofs.Sections.{from_of, listed_of}
+use Rattle.section_file.proofs.Words.{read_of, words_ascend}
+use Rattle.section_file.proofs.Own.{Fitting, own_sound}
 
 -- ---- labels of symbols one by one
 
-pack-snoc : (x : ℕ) (us : List ℕ) (a : ℕ) → packOnto x (us ++ (a ∷ [])) ≡ packOnto x us * 4 + a
-unfolding packOnto
-pack-snoc x [] a = refl
-pack-snoc x (u ∷ us) a = pack-snoc (x * 4 + u) us a
+pack_snoc : (x : ℕ) (us : List ℕ) (a : ℕ) → pack_onto x (us ++ (a ∷ [])) ≡ pack_onto x us * 4 + a
+unfolding pack_onto
+pack_snoc x [] a = refl
+pack_snoc x (u ∷ us) a = pack_snoc (x * 4 + u) us a
 
-pack-more : (a : ℕ → ℕ) (n : ℕ) → packOnto 0 (run a 0 (suc n)) ≡ packOnto 0 (run a 0 n) * 4 + a n
-pack-more a n =
-    ap (packOnto 0) (run-snoc a 0 n) ∙ pack-snoc 0 (run a 0 n) (a (0 + n)) ∙ ap (λ k. packOnto 0 (run a 0 n) * 4 + a k) (zero-add n)
+pack_more : (a : ℕ → ℕ) (n : ℕ) → pack_onto 0 (run a 0 (suc n)) ≡ pack_onto 0 (run a 0 n) * 4 + a n
+pack_more a n =
+    ap (pack_onto 0) (run_snoc a 0 n) ∙ pack_snoc 0 (run a 0 n) (a (0 + n)) ∙ ap (λ k. pack_onto 0 (run a 0 n) * 4 + a k) (zero-add n)
 
-pack-short : (a : ℕ → ℕ) (n : ℕ) → ((u : ℕ) → u < n → a u < 4) → packOnto 0 (run a 0 n) < 4 ^ n
-unfolding packOnto run
-pack-short a zero h = lit< tt
-pack-short a (suc n) h =
-    let r = pack-short a n (λ u b. h u (omega arith)) in
+pack_short : (a : ℕ → ℕ) (n : ℕ) → ((u : ℕ) → u < n → a u < 4) → pack_onto 0 (run a 0 n) < 4 ^ n
+unfolding pack_onto run
+pack_short a zero h = lit< tt
+pack_short a (suc n) h =
+    let r = pack_short a n (λ u b. h u (omega arith)) in
     let k = h n (omega arith) in
-    rw (pack-more a n, pow-suc) (omega arith)
+    rw (pack_more a n, pow-suc) (omega arith)
 
-pack-symbol : (a : ℕ → ℕ) (n : ℕ) → ((u : ℕ) → u < n → a u < 4) → (u : ℕ) → u < n → symbol n u (packOnto 0 (run a 0 n)) ≡ a u
-pack-symbol a zero h u b = absurd (not-suc-le-zero b)
-pack-symbol a (suc n) h u b = ap (symbol (suc n) u) (pack-more a n) ∙ go (ℕ_discrete u n) (pack-symbol a n (λ v c. h v (omega arith)) u)
+pack_symbol : (a : ℕ → ℕ) (n : ℕ) → ((u : ℕ) → u < n → a u < 4) → (u : ℕ) → u < n → symbol n u (pack_onto 0 (run a 0 n)) ≡ a u
+pack_symbol a zero h u b = absurd (not-suc-le-zero b)
+pack_symbol a (suc n) h u b = ap (symbol (suc n) u) (pack_more a n) ∙ go (ℕ_discrete u n) (pack_symbol a n (λ v c. h v (omega arith)) u)
   where
-    go : Dec (u ≡ n) → (u < n → symbol n u (packOnto 0 (run a 0 n)) ≡ a u) → symbol (suc n) u (packOnto 0 (run a 0 n) * 4 + a n) ≡ a u
+    go : Dec (u ≡ n) → (u < n → symbol n u (pack_onto 0 (run a 0 n)) ≡ a u) → symbol (suc n) u (pack_onto 0 (run a 0 n) * 4 + a n) ≡ a u
     go (yes e) r =
         let k = h n (omega arith) in
-        let q : (packOnto 0 (run a 0 n) * 4 + a n) % 4 ≡ a n = omega arith in
-        ap (λ v. symbol (suc n) v (packOnto 0 (run a 0 n) * 4 + a n)) e ∙ symbol-last n (packOnto 0 (run a 0 n) * 4 + a n) ∙ q
+        let q : (pack_onto 0 (run a 0 n) * 4 + a n) % 4 ≡ a n = omega arith in
+        ap (λ v. symbol (suc n) v (pack_onto 0 (run a 0 n) * 4 + a n)) e ∙ symbol_last n (pack_onto 0 (run a 0 n) * 4 + a n) ∙ q
         ∙ ap a (sym e)
     go (no e) r =
         let k = h n (omega arith) in
-        let q : (packOnto 0 (run a 0 n) * 4 + a n) / 4 ≡ packOnto 0 (run a 0 n) = omega arith in
-        symbol-drop n u (packOnto 0 (run a 0 n) * 4 + a n) (omega arith) ∙ ap (symbol n u) q ∙ r (omega arith)
+        let q : (pack_onto 0 (run a 0 n) * 4 + a n) / 4 ≡ pack_onto 0 (run a 0 n) = omega arith in
+        symbol_drop n u (pack_onto 0 (run a 0 n) * 4 + a n) (omega arith) ∙ ap (symbol n u) q ∙ r (omega arith)
 
 -- ---- paths step by step
 
 module _ (edges : ℕ → List Edge) where
-  pub in-paths : (x a : ℕ → ℕ) (k t : ℕ) → ((u : ℕ) → t ≤ u → u < t + k → edge (x u) (a u) (x (suc u)) ∈ edges u)
-      → record { symbols = run a t k; end = x (t + k) } ∈ pathsFrom edges k t (x t)
-  unfolding pathsFrom run leaving
-  in-paths x a zero t h = Memᴰ.head (λ i. record { symbols = []; end = x (add-zero t i) })
-  in-paths x a (suc k) t h =
+  pub in_paths : (x a : ℕ → ℕ) (k t : ℕ) → ((u : ℕ) → t ≤ u → u < t + k → edge (x u) (a u) (x (suc u)) ∈ edges u)
+      → record { symbols = run a t k; end = x (t + k) } ∈ paths_from edges k t (x t)
+  unfolding paths_from run leaving
+  in_paths x a zero t h = Memᴰ.head (λ i. record { symbols = []; end = x (add-zero t i) })
+  in_paths x a (suc k) t h =
       let e = edge (x t) (a t) (x (suc t)) in
-      let r = in-paths x a k (suc t) (λ u b c. h u (omega arith) (omega arith)) in
+      let r = in_paths x a k (suc t) (λ u b c. h u (omega arith) (omega arith)) in
       let s : t + suc k ≡ suc t + k = omega arith in
-      in-flatMap (λ f. map (along f) (pathsFrom edges k (suc t) f.to)) (leaving (x t) (edges t)) _ e
-      (in-keep (λ f. eqb f.from (x t)) (edges t) e (h t (omega arith) (omega arith)) (eq-eqb (x t) (x t) refl))
+      in_flat_map (λ f. map (along f) (paths_from edges k (suc t) f.to)) (leaving (x t) (edges t)) _ e
+      (in_keep (λ f. eqb f.from (x t)) (edges t) e (h t (omega arith) (omega arith)) (eq-eqb (x t) (x t) refl))
       (Memᴰ.cast (λ i. record { symbols = a t ∷ run a (suc t) k; end = x (s i) }) (Memᴰ.map (along e) r))
 
   -- the vertices and symbols of a path of k steps from vertex v of depth t
@@ -96,36 +96,36 @@ module _ (edges : ℕ → List Edge) where
   abbrev up_to : ℕ → ℕ → (ℕ → ℕ) → ℕ → ℕ
   up_to t v f u = cond (leb u t) v (f u)
 
-  up-here : (t v : ℕ) (f : ℕ → ℕ) → up_to t v f t ≡ v
-  up-here t v f = let e = le-leb t t (omega arith) in rw e
+  up_here : (t v : ℕ) (f : ℕ → ℕ) → up_to t v f t ≡ v
+  up_here t v f = let e = le-leb t t (omega arith) in rw e
 
-  up-behind : (t v : ℕ) (f : ℕ → ℕ) (u : ℕ) → t < u → up_to t v f u ≡ f u
-  up-behind t v f u h = let e = lt-leb u t h in rw e
+  up_behind : (t v : ℕ) (f : ℕ → ℕ) (u : ℕ) → t < u → up_to t v f u ≡ f u
+  up_behind t v f u h = let e = lt-leb u t h in rw e
 
-  walk-on : (k t v : ℕ) (e : Edge) (p : Path) → e ∈ edges t → e.from ≡ v → Walk k (suc t) e.to p → Walk (suc k) t v (along e p)
+  walk_on : (k t v : ℕ) (e : Edge) (p : Path) → e ∈ edges t → e.from ≡ v → Walk k (suc t) e.to p → Walk (suc k) t v (along e p)
   unfolding run
-  walk-on k t v e p m f w = record {
+  walk_on k t v e p m f w = record {
     x = up_to t v w.x;
     a = up_to t e.symbol w.a;
-    start = up-here t v w.x;
-    stops = let s : t + suc k ≡ suc t + k = omega arith in up-behind t v w.x (t + suc k) (omega arith) ∙ ap w.x s ∙ w.stops;
+    start = up_here t v w.x;
+    stops = let s : t + suc k ≡ suc t + k = omega arith in up_behind t v w.x (t + suc k) (omega arith) ∙ ap w.x s ∙ w.stops;
     spells =
-        let r = run-same (up_to t e.symbol w.a) w.a (suc t) k (λ j h. up-behind t e.symbol w.a (suc t + j) (omega arith)) in
-        ap₂ (λ b l. b ∷ l) (up-here t e.symbol w.a) (r ∙ w.spells);
+        let r = run_same (up_to t e.symbol w.a) w.a (suc t) k (λ j h. up_behind t e.symbol w.a (suc t + j) (omega arith)) in
+        ap₂ (λ b l. b ∷ l) (up_here t e.symbol w.a) (r ∙ w.spells);
     takes = λ u b c. step u b c (ℕ_discrete u t);
   }
     where
       step : (u : ℕ) → t ≤ u → u < t + suc k → Dec (u ≡ t)
           → edge (up_to t v w.x u) (up_to t e.symbol w.a u) (up_to t v w.x (suc u)) ∈ edges u
       step u b c (yes d) = subst (λ i. edge (up_to t v w.x i) (up_to t e.symbol w.a i) (up_to t v w.x (suc i)) ∈ edges i) (sym d)
-          (Memᴰ.cast (λ i. edge ((up-here t v w.x ∙ sym f) i) (up-here t e.symbol w.a i)
-          ((up-behind t v w.x (suc t) (omega arith) ∙ w.start) i)) m)
+          (Memᴰ.cast (λ i. edge ((up_here t v w.x ∙ sym f) i) (up_here t e.symbol w.a i)
+          ((up_behind t v w.x (suc t) (omega arith) ∙ w.start) i)) m)
       step u b c (no d) = Memᴰ.cast
-          (λ i. edge (up-behind t v w.x u (omega arith) i) (up-behind t e.symbol w.a u (omega arith) i)
-          (up-behind t v w.x (suc u) (omega arith) i)) (w.takes u (omega arith) (omega arith))
+          (λ i. edge (up_behind t v w.x u (omega arith) i) (up_behind t e.symbol w.a u (omega arith) i)
+          (up_behind t v w.x (suc u) (omega arith) i)) (w.takes u (omega arith) (omega arith))
 
-  pub walk_of : (k t v : ℕ) (p : Path) → p ∈ pathsFrom edges k t v → Walk k t v p
-  unfolding pathsFrom run
+  pub walk_of : (k t v : ℕ) (p : Path) → p ∈ paths_from edges k t v → Walk k t v p
+  unfolding paths_from run
   walk_of zero t v p m =
       let q = Memᴰ.eq_of_singleton m in
       record {
@@ -137,10 +137,10 @@ module _ (edges : ℕ → List Edge) where
         takes = λ u b c. absurd (omega arith);
       }
   walk_of (suc k) t v p m =
-      let z = of-flatMap (λ e. map (along e) (pathsFrom edges k (suc t) e.to)) (leaving v (edges t)) p m in
-      let y = Memᴰ.of_map (along z.source) (pathsFrom edges k (suc t) z.source.to) z.holds in
+      let z = of_flat_map (λ e. map (along e) (paths_from edges k (suc t) e.to)) (leaving v (edges t)) p m in
+      let y = Memᴰ.of_map (along z.source) (paths_from edges k (suc t) z.source.to) z.holds in
       subst (Walk (suc k) t v) y.2
-      (walk-on k t v z.source y.0 (listed_of v (edges t) z.source z.listed) (from-of v (edges t) z.source z.listed)
+      (walk_on k t v z.source y.0 (listed_of v (edges t) z.source z.listed) (from_of v (edges t) z.source z.listed)
       (walk_of k (suc t) z.source.to y.0 y.1))
 
 -- ---- strictly ascending lists of words with the same words are the same
@@ -152,8 +152,8 @@ ordered_same [] (y ∷ k) a b f g = absurd (Memᴰ.not-nil (g y (Memᴰ.head ref
 ordered_same (x ∷ l) [] a b f g = absurd (Memᴰ.not-nil (f x (Memᴰ.head refl)))
 ordered_same (x ∷ l) (y ∷ k) (leads p a) (leads q b) f g =
     λ i. heads i ∷ ordered_same l k a b
-    (λ w m. rest k y w (f w (Memᴰ.tail m)) (λ e. lower-never _ _ _ (subst (Before x) (e ∙ sym heads) (p w m))))
-    (λ w m. rest l x w (g w (Memᴰ.tail m)) (λ e. lower-never _ _ _ (subst (Before y) (e ∙ heads) (q w m)))) i
+    (λ w m. rest k y w (f w (Memᴰ.tail m)) (λ e. lower_never _ _ _ (subst (Before x) (e ∙ sym heads) (p w m))))
+    (λ w m. rest l x w (g w (Memᴰ.tail m)) (λ e. lower_never _ _ _ (subst (Before y) (e ∙ heads) (q w m)))) i
   where
     heads : x ≡ y
     heads = go (Memᴰ.cases_cons (f x (Memᴰ.head refl))) (Memᴰ.cases_cons (g y (Memᴰ.head refl)))
@@ -161,111 +161,111 @@ ordered_same (x ∷ l) (y ∷ k) (leads p a) (leads q b) f g =
         go : (x ≡ y) ⊎ (x ∈ k) → (y ≡ x) ⊎ (y ∈ l) → x ≡ y
         go (inl e) r = e
         go (inr u) (inl e) = sym e
-        go (inr u) (inr v) = absurd (lower-never _ _ _ (lower-chain (p y v) (q x u)))
+        go (inr u) (inr v) = absurd (lower_never _ _ _ (lower_chain (p y v) (q x u)))
 
     rest : (m : List Word) (z w : Word) → w ∈ z ∷ m → (w ≡ z → ⊥) → w ∈ m
     rest m z w h d = elim (Memᴰ.cases_cons h) [ inl e ↦ absurd (d e) | inr u ↦ u ]
 
-ordered-table : (l : List Word) → ((i j : ℕ) → i < j → j < length l → Before (word_at l i) (word_at l j)) → Ordered Before l
-ordered-table [] h = ended
-ordered-table (x ∷ l) h =
+ordered_table : (l : List Word) → ((i j : ℕ) → i < j → j < length l → Before (word_at l i) (word_at l j)) → Ordered Before l
+ordered_table [] h = ended
+ordered_table (x ∷ l) h =
     leads
     (λ y m. let p = place_of (word 0 0 0) l y m in subst (Before x) p.is (h 0 (suc p.at) (omega arith) (omega (arith, p.below))))
-    (ordered-table l (λ i j a b. h (suc i) (suc j) (omega arith) (omega arith)))
+    (ordered_table l (λ i j a b. h (suc i) (suc j) (omega arith) (omega arith)))
 
 -- ---- our section
 
 module _ (q n S : ℕ) (table : List Word) (A : Fitting q n S table) where
   abbrev l : List ℕ
-  l = sectionOf q n S table
+  l = section_of q n S table
 
   D : DrawnFor n table (ours n table)
   D = drawn n table A.table A.rectangular
 
-  steps-are : (t : ℕ) → t < n → (e : Edge) → e ∈ (ours n table).edges t → e ∈ stepEdges l t
+  steps_are : (t : ℕ) → t < n → (e : Edge) → e ∈ (ours n table).edges t → e ∈ step_edges l t
   unfolding ours
-  steps-are t h e m = subst (λ es. e ∈ es) (sym (own-step-edges q n S table t h)) m
+  steps_are t h e m = subst (λ es. e ∈ es) (sym (own_step_edges q n S table t h)) m
 
-  steps_of : (t : ℕ) → t < n → (e : Edge) → e ∈ stepEdges l t → e ∈ (ours n table).edges t
+  steps_of : (t : ℕ) → t < n → (e : Edge) → e ∈ step_edges l t → e ∈ (ours n table).edges t
   unfolding ours
-  steps_of t h e m = subst (λ es. e ∈ es) (own-step-edges q n S table t h) m
+  steps_of t h e m = subst (λ es. e ∈ es) (own_step_edges q n S table t h) m
 
-  vertex-low : (t v : ℕ) → v ∈ (ours n table).vertices t → v < vertexCount n table t
+  vertex_low : (t v : ℕ) → v ∈ (ours n table).vertices t → v < vertex_count n table t
   unfolding ours
-  vertex-low t v m = let F = of-each (λ v. v) (vertexCount n table t) v m in omega (arith, F.is, F.below)
+  vertex_low t v m = let F = of_each (λ v. v) (vertex_count n table t) v m in omega (arith, F.is, F.below)
 
-  root_is : (v : ℕ) → v < vertexCount n table 0 → rootState l v ≡ (ours n table).rootOf v
+  root_is : (v : ℕ) → v < vertex_count n table 0 → root_state l v ≡ (ours n table).root_of v
   unfolding ours
   root_is v h = own_root q n S table v h
 
-  goal-is : (v : ℕ) → v < vertexCount n table n → goalState l v ≡ (ours n table).goalOf v
+  goal_is : (v : ℕ) → v < vertex_count n table n → goal_state l v ≡ (ours n table).goal_of v
   unfolding ours
-  goal-is v h = own-goal q n S table v h
+  goal_is v h = own_goal q n S table v h
 
   module _ (x a : ℕ → ℕ) (P : IsPath n (ours n table) x a) where
-    start-low : x 0 < vertexCount n table 0
-    start-low = vertex-low 0 (x 0) (D.joins 0 A.table.some _ (P.takes 0 A.table.some)).0
+    start_low : x 0 < vertex_count n table 0
+    start_low = vertex_low 0 (x 0) (D.joins 0 A.table.some _ (P.takes 0 A.table.some)).0
 
-    end_low : x n < vertexCount n table n
+    end_low : x n < vertex_count n table n
     end_low =
         let h : n - 1 < n = omega (arith, A.table.some) in
         let e : suc (n - 1) ≡ n = omega (arith, A.table.some) in
-        subst (λ u. x u < vertexCount n table u) e
-        (vertex-low (suc (n - 1)) (x (suc (n - 1))) (D.joins (n - 1) h _ (P.takes (n - 1) h)).1)
+        subst (λ u. x u < vertex_count n table u) e
+        (vertex_low (suc (n - 1)) (x (suc (n - 1))) (D.joins (n - 1) h _ (P.takes (n - 1) h)).1)
 
   -- a word of the table is read off its path
-  word_in : (w : Word) → w ∈ table → w ∈ sectionWords l
-  unfolding sectionWords words_of word_of
+  word_in : (w : Word) → w ∈ table → w ∈ section_words l
+  unfolding section_words words_of word_of
   word_in w m =
-      let P = D.noFewer w m in
+      let P = D.no_fewer w m in
       let x = P.x in
       let a = P.a in
-      let small : (u : ℕ) → u < n → a u < 4 = λ u h. omega (arith, P.carries.symbols u h, A.symbolsBelow w m u h, A.qTo) in
+      let small : (u : ℕ) → u < n → a u < 4 = λ u h. omega (arith, P.carries.symbols u h, A.symbols_below w m u h, A.q_to) in
       let p =
-      in-paths (stepEdges l) x a n 0
-      (λ u b c. steps-are u (omega (arith, zero-add n)) _ (P.path.takes u (omega (arith, zero-add n)))) in
-      let label : packOnto 0 (run a 0 n) ≡ w.label =
-      by-symbols n (packOnto 0 (run a 0 n)) w.label (pack-short a n small) (A.table.fits w m)
-      (λ t h. pack-symbol a n small t h ∙ P.carries.symbols t h) in
-      let low = start-low x a P.path in
-      let root : rootState l (x 0) ≡ w.root = root_is (x 0) low ∙ P.carries.root in
-      let goal : goalState l (x (0 + n)) ≡ w.goal =
-      ap (λ k. goalState l (x k)) (zero-add n) ∙ goal-is (x n) (end_low x a P.path) ∙ P.carries.goal in
-      let e : w ≡ word (rootState l (x 0)) (packOnto 0 (run a 0 n)) (goalState l (x (0 + n))) = sym (word-eq root label goal) in
-      in-flatMap (λ v. map (word_of (rootState l) (goalState l) v) (pathsFrom (stepEdges l) (n_of l) 0 v))
-      (each (λ v. v) (vertexCountOf l 0)) w (x 0)
-      (in-each (λ v. v) (vertexCountOf l 0) (x 0) (x 0) (omega (arith, own-vertex-count q n S table 0 (omega arith))) refl)
-      (Memᴰ.cast e (Memᴰ.map (word_of (rootState l) (goalState l) (x 0))
-      (subst (λ k. record { symbols = run a 0 n; end = x (0 + n) } ∈ pathsFrom (stepEdges l) k 0 (x 0)) (sym (own-n q n S table)) p)))
+      in_paths (step_edges l) x a n 0
+      (λ u b c. steps_are u (omega (arith, zero-add n)) _ (P.path.takes u (omega (arith, zero-add n)))) in
+      let label : pack_onto 0 (run a 0 n) ≡ w.label =
+      by_symbols n (pack_onto 0 (run a 0 n)) w.label (pack_short a n small) (A.table.fits w m)
+      (λ t h. pack_symbol a n small t h ∙ P.carries.symbols t h) in
+      let low = start_low x a P.path in
+      let root : root_state l (x 0) ≡ w.root = root_is (x 0) low ∙ P.carries.root in
+      let goal : goal_state l (x (0 + n)) ≡ w.goal =
+      ap (λ k. goal_state l (x k)) (zero-add n) ∙ goal_is (x n) (end_low x a P.path) ∙ P.carries.goal in
+      let e : w ≡ word (root_state l (x 0)) (pack_onto 0 (run a 0 n)) (goal_state l (x (0 + n))) = sym (word_eq root label goal) in
+      in_flat_map (λ v. map (word_of (root_state l) (goal_state l) v) (paths_from (step_edges l) (n_of l) 0 v))
+      (each (λ v. v) (vertex_count_of l 0)) w (x 0)
+      (in_each (λ v. v) (vertex_count_of l 0) (x 0) (x 0) (omega (arith, own_vertex_count q n S table 0 (omega arith))) refl)
+      (Memᴰ.cast e (Memᴰ.map (word_of (root_state l) (goal_state l) (x 0))
+      (subst (λ k. record { symbols = run a 0 n; end = x (0 + n) } ∈ paths_from (step_edges l) k 0 (x 0)) (sym (own_n q n S table)) p)))
 
   -- a word that is read off a path is one of the table
-  word-of : (w : Word) → w ∈ sectionWords l → w ∈ table
-  word-of w m =
-      let s = own-sound q n S table A in
+  word_of_lem : (w : Word) → w ∈ section_words l → w ∈ table
+  word_of_lem w m =
+      let s = own_sound q n S table A in
       let R = read_of s w m in
-      let e = own-n q n S table in
-      let listed : R.path ∈ pathsFrom (stepEdges l) n 0 R.vertex =
-      subst (λ k. R.path ∈ pathsFrom (stepEdges l) k 0 R.vertex) e R.listed in
-      let W = walk_of (stepEdges l) n 0 R.vertex R.path listed in
+      let e = own_n q n S table in
+      let listed : R.path ∈ paths_from (step_edges l) n 0 R.vertex =
+      subst (λ k. R.path ∈ paths_from (step_edges l) k 0 R.vertex) e R.listed in
+      let W = walk_of (step_edges l) n 0 R.vertex R.path listed in
       let x = W.x in
       let a = W.a in
       let P : IsPath n (ours n table) x a =
       record { takes = λ t h. steps_of t h _ (W.takes t (omega arith) (omega (arith, zero-add n))) } in
       let K = D.no_more x a P in
       let small : (u : ℕ) → u < n → a u < 4 =
-      λ u h. omega (arith, K.carried.symbols u h, A.symbolsBelow K.word K.listed u h, A.qTo) in
-      let label : w.label ≡ packOnto 0 (run a 0 n) = ap (λ (v : Word). v.label) R.is ∙ ap (packOnto 0) (sym W.spells) in
-      let same : packOnto 0 (run a 0 n) ≡ K.word.label =
-      by-symbols n (packOnto 0 (run a 0 n)) K.word.label (pack-short a n small) (A.table.fits K.word K.listed)
-      (λ t h. pack-symbol a n small t h ∙ K.carried.symbols t h) in
+      λ u h. omega (arith, K.carried.symbols u h, A.symbols_below K.word K.listed u h, A.q_to) in
+      let label : w.label ≡ pack_onto 0 (run a 0 n) = ap (λ (v : Word). v.label) R.is ∙ ap (pack_onto 0) (sym W.spells) in
+      let same : pack_onto 0 (run a 0 n) ≡ K.word.label =
+      by_symbols n (pack_onto 0 (run a 0 n)) K.word.label (pack_short a n small) (A.table.fits K.word K.listed)
+      (λ t h. pack_symbol a n small t h ∙ K.carried.symbols t h) in
       let root : w.root ≡ K.word.root =
-      ap (λ (v : Word). v.root) R.is ∙ ap (rootState l) (sym W.start) ∙ root_is (x 0) (start-low x a P) ∙ K.carried.root in
+      ap (λ (v : Word). v.root) R.is ∙ ap (root_state l) (sym W.start) ∙ root_is (x 0) (start_low x a P) ∙ K.carried.root in
       let goal : w.goal ≡ K.word.goal =
-      ap (λ (v : Word). v.goal) R.is ∙ ap (goalState l) (sym W.stops ∙ ap x (zero-add n)) ∙ goal-is (x n) (end_low x a P)
+      ap (λ (v : Word). v.goal) R.is ∙ ap (goal_state l) (sym W.stops ∙ ap x (zero-add n)) ∙ goal_is (x n) (end_low x a P)
       ∙ K.carried.goal in
-      Memᴰ.cast (word-eq root (label ∙ same) goal) K.listed
+      Memᴰ.cast (word_eq root (label ∙ same) goal) K.listed
 
   -- the words of our section, in their order, are the table
-  pub own-section-words : sectionWords (sectionOf q n S table) ≡ table
-  own-section-words =
-      ordered_same (sectionWords l) table (words-ascend (own-sound q n S table A)) (ordered-table table A.table.ascends) word-of word_in
+  pub own_section_words : section_words (section_of q n S table) ≡ table
+  own_section_words =
+      ordered_same (section_words l) table (words_ascend (own_sound q n S table A)) (ordered_table table A.table.ascends) word_of_lem word_in

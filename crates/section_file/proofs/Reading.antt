@@ -8,61 +8,61 @@ use native.Mathlib.Omega.{arith}
 use lib.ListN.{length, get_or, take, drop}
 use lib.Dec.{ltb}
 use borrow.Author.Tests.{ltb-true, lt-ltb, not-true, not-false}
-use Rattle.trellis.specs.Bounds.{mostStates, mostWords, mostSymbols, leastQ, mostQ}
+use Rattle.trellis.specs.Bounds.{most_states, most_words, most_symbols, least_q, most_q}
 use Rattle.trellis.specs.Lists.{sum, all, within}
 use Rattle.trellis.specs.Own as own
-use Rattle.trellis.specs.Layout.{qOf, n_of, statesOf, vertexCountOf, edgeCountOf, edgesBefore, sectionLength, rootState, goalState}
-use Rattle.trellis.specs.Layout.{rootsPlace, goalsPlace, pairsPlace, symbolsPlace}
+use Rattle.trellis.specs.Layout.{q_of, n_of, states_of, vertex_count_of, edge_count_of, edges_before, section_length, root_state, goal_state}
+use Rattle.trellis.specs.Layout.{roots_place, goals_place, pairs_place, symbols_place}
 use Rattle.trellis.proofs.Bools.{holds, is_true}
-use Rattle.trellis.proofs.ThreeNumbers.{lower-yes, lower_of, lower-chain}
-use Rattle.edges.specs.inner.Edges.{above}
-use Rattle.edges.proofs.Tests.{all_both, all-next}
-use Rattle.section_file.specs.Usable.{stepEdge, sizesRight, countsRight, rising, statesRight, edgesAscend}
-use Rattle.section_file.specs.inner.Steps.{higher, stateRight}
-use Rattle.section_file.specs.inner.View.{view_of, Laid}
+use Rattle.trellis.proofs.ThreeNumbers.{lower_yes, lower_of, lower_chain}
+use Rattle.edges.specs.Inner.Edges.{above}
+use Rattle.edges.proofs.Tests.{all_both, all_next}
+use Rattle.section_file.specs.Usable.{step_edge, sizes_right, counts_right, rising, states_right, edges_ascend}
+use Rattle.section_file.specs.Inner.Steps.{higher, state_right}
+use Rattle.section_file.specs.Inner.View.{view_of, Laid}
 use Rattle.section_file.specs.declared.View.{View}
-use Rattle.section_file.proofs.Seen.{Viewed, viewed, near_of, from-length, numbers-from}
+use Rattle.section_file.proofs.Seen.{Viewed, viewed, near_of, from_length, numbers_from}
 
 -- ---- q, n and S
 
-module _ (l : List ℕ) {q : ℕ} {a : Bool} (q-is : q ≡ qOf l) (a-is : a ≡ within leastQ mostQ q) where
-  q-test : within leastQ mostQ (qOf l) ≡ a
-  q-test = sym (a-is ∙ ap (within leastQ mostQ) q-is)
+module _ (l : List ℕ) {q : ℕ} {a : Bool} (q_is_lem : q ≡ q_of l) (a_is : a ≡ within least_q most_q q) where
+  q_test : within least_q most_q (q_of l) ≡ a
+  q_test = sym (a_is ∙ ap (within least_q most_q) q_is_lem)
 
-  pub q-wrong : not a ≡ true → false ≡ sizesRight l
-  unfolding sizesRight
-  q-wrong t = let e = q-test ∙ not-true a t in rw e
+  pub q_wrong : not a ≡ true → false ≡ sizes_right l
+  unfolding sizes_right
+  q_wrong t = let e = q_test ∙ not-true a t in rw e
 
-  module _ {n : ℕ} {b : Bool} (a-yes : not a ≡ false) (n-is : n ≡ n_of l) (b-is : b ≡ within 1 mostSymbols n) where
-    n-test : within 1 mostSymbols (n_of l) ≡ b
-    n-test = sym (b-is ∙ ap (within 1 mostSymbols) n-is)
+  module _ {n : ℕ} {b : Bool} (a_yes : not a ≡ false) (n_is : n ≡ n_of l) (b_is : b ≡ within 1 most_symbols n) where
+    n_test : within 1 most_symbols (n_of l) ≡ b
+    n_test = sym (b_is ∙ ap (within 1 most_symbols) n_is)
 
-    pub n-wrong : not b ≡ true → false ≡ sizesRight l
-    unfolding sizesRight
-    n-wrong t = let e = q-test ∙ not-false a a-yes in let f = n-test ∙ not-true b t in rw (e, f)
+    pub n_wrong : not b ≡ true → false ≡ sizes_right l
+    unfolding sizes_right
+    n_wrong t = let e = q_test ∙ not-false a a_yes in let f = n_test ∙ not-true b t in rw (e, f)
 
-    pub sizes-by-states : {s : ℕ} {d : Bool} → not b ≡ false → s ≡ statesOf l → d ≡ within 1 mostStates s → d ≡ sizesRight l
-    unfolding sizesRight
-    sizes-by-states t s-is d-is = let e = q-test ∙ not-false a a-yes in let f = n-test ∙ not-false b t in d-is ∙ rw (e, f, s-is)
+    pub sizes_by_states : {s : ℕ} {d : Bool} → not b ≡ false → s ≡ states_of l → d ≡ within 1 most_states s → d ≡ sizes_right l
+    unfolding sizes_right
+    sizes_by_states t s_is d_is = let e = q_test ∙ not-false a a_yes in let f = n_test ∙ not-false b t in d_is ∙ rw (e, f, s_is)
 
 -- ---- counts
 
-module _ (l : List ℕ) {n : ℕ} {a : Bool} (n-is : n ≡ n_of l) (a-is : a ≡ all (λ t. within 1 mostWords (get_or l (3 + t) 0)) (n + 1)) where
-  pub vertices-wrong : not a ≡ true → false ≡ countsRight l
-  unfolding countsRight vertexCountOf
-  vertices-wrong t =
-      let e : all (λ t. within 1 mostWords (get_or l (3 + t) 0)) (n_of l + 1) ≡ false = rw (← n-is) (sym a-is ∙ not-true _ t) in
+module _ (l : List ℕ) {n : ℕ} {a : Bool} (n_is : n ≡ n_of l) (a_is : a ≡ all (λ t. within 1 most_words (get_or l (3 + t) 0)) (n + 1)) where
+  pub vertices_wrong : not a ≡ true → false ≡ counts_right l
+  unfolding counts_right vertex_count_of
+  vertices_wrong t =
+      let e : all (λ t. within 1 most_words (get_or l (3 + t) 0)) (n_of l + 1) ≡ false = rw (← n_is) (sym a_is ∙ not-true _ t) in
       rw e
 
-  pub counts-by-edges : {b : Bool} → not a ≡ false → b ≡ all (λ t. within 1 mostWords (get_or l (4 + n + t) 0)) n → b ≡ countsRight l
-  unfolding countsRight vertexCountOf edgeCountOf
-  counts-by-edges {b} t b-is =
-      let e : all (λ t. within 1 mostWords (get_or l (3 + t) 0)) (n_of l + 1) ≡ true = rw (← n-is) (sym a-is ∙ not-false _ t) in
-      b-is ∙ rw (e, ← n-is)
+  pub counts_by_edges : {b : Bool} → not a ≡ false → b ≡ all (λ t. within 1 most_words (get_or l (4 + n + t) 0)) n → b ≡ counts_right l
+  unfolding counts_right vertex_count_of edge_count_of
+  counts_by_edges {b} t b_is =
+      let e : all (λ t. within 1 most_words (get_or l (3 + t) 0)) (n_of l + 1) ≡ true = rw (← n_is) (sym a_is ∙ not-false _ t) in
+      b_is ∙ rw (e, ← n_is)
 
 -- ---- places
 
-pub view-is : (l : List ℕ) {n q edges x v y w : ℕ} → n ≡ n_of l → q ≡ get_or l 0 0
+pub view_is : (l : List ℕ) {n q edges x v y w : ℕ} → n ≡ n_of l → q ≡ get_or l 0 0
     → (edges ≡ sum (λ t. get_or l (4 + n + t) 0) 0 n) × (edges ≤ 65535 * n)
     → x ≡ get_or l 3 0 → (v ≡ x) × (v < 65536) → y ≡ get_or l (3 + n) 0 → (w ≡ y) × (w < 65536)
     → record {
@@ -75,13 +75,13 @@ pub view-is : (l : List ℕ) {n q edges x v y w : ℕ} → n ≡ n_of l → q �
       edges = edges;
       end = 4 + 2 * n + v + w + 2 * edges + edges;
     } ≡ view_of l
-unfolding view_of rootsPlace goalsPlace pairsPlace symbolsPlace sectionLength edgesBefore vertexCountOf edgeCountOf
-view-is l {n} {q} {edges} {x} {v} {y} {w} r q-is e x-is v-is y-is w-is =
-    let f : v ≡ get_or l 3 0 = v-is.0 ∙ x-is in
-    let g : w ≡ get_or l (3 + n_of l) 0 = w-is.0 ∙ y-is ∙ rw r in
+unfolding view_of roots_place goals_place pairs_place symbols_place section_length edges_before vertex_count_of edge_count_of
+view_is l {n} {q} {edges} {x} {v} {y} {w} r q_is_lem e x_is v_is y_is w_is =
+    let f : v ≡ get_or l 3 0 = v_is.0 ∙ x_is in
+    let g : w ≡ get_or l (3 + n_of l) 0 = w_is.0 ∙ y_is ∙ rw r in
     let k : edges ≡ sum (λ t. get_or l (4 + n_of l + t) 0) 0 (n_of l) = e.0 ∙ rw r in
     λ i. record {
-      q = q-is i;
+      q = q_is_lem i;
       n = r i;
       roots = 4 + 2 * r i;
       goals = 4 + 2 * r i + f i;
@@ -94,83 +94,83 @@ view-is l {n} {q} {edges} {x} {v} {y} {w} r q-is e x-is v-is y-is w-is =
 -- ---- end states
 
 module _ (l : List ℕ) where
-  pub no-vertex-before : {v : ℕ} → v ≡ 0 → true ≡ higher (λ u. get_or l u 0) v
+  pub no_vertex_before : {v : ℕ} → v ≡ 0 → true ≡ higher (λ u. get_or l u 0) v
   unfolding higher
-  no-vertex-before e = rw e
+  no_vertex_before e = rw e
 
-  pub higher-is : (v : ℕ) → (v ≡ 0 → ⊥) → ltb (get_or l (v - 1) 0) (get_or l v 0) ≡ higher (λ u. get_or l u 0) v
+  pub higher_is : (v : ℕ) → (v ≡ 0 → ⊥) → ltb (get_or l (v - 1) 0) (get_or l v 0) ≡ higher (λ u. get_or l u 0) v
   unfolding higher
-  higher-is zero h = absurd (h refl)
-  higher-is (suc v) h = let q : suc v - 1 ≡ v = omega arith in rw q
+  higher_is zero h = absurd (h refl)
+  higher_is (suc v) h = let q : suc v - 1 ≡ v = omega arith in rw q
 
-  module _ (v bound : ℕ) {b : Bool} (b-is : b ≡ higher (λ u. get_or l u 0) v) where
-    pub not-higher : not b ≡ true → false ≡ stateRight (λ u. get_or l u 0) bound v
-    unfolding stateRight
-    not-higher t = let e = sym b-is ∙ not-true b t in rw e
+  module _ (v bound : ℕ) {b : Bool} (b_is : b ≡ higher (λ u. get_or l u 0) v) where
+    pub not_higher : not b ≡ true → false ≡ state_right (λ u. get_or l u 0) bound v
+    unfolding state_right
+    not_higher t = let e = sym b_is ∙ not-true b t in rw e
 
-    pub state-by-bound : not b ≡ false → ltb (get_or l v 0) bound ≡ stateRight (λ u. get_or l u 0) bound v
-    unfolding stateRight
-    state-by-bound t = let e = sym b-is ∙ not-false b t in rw e
+    pub state_by_bound : not b ≡ false → ltb (get_or l v 0) bound ≡ state_right (λ u. get_or l u 0) bound v
+    unfolding state_right
+    state_by_bound t = let e = sym b_is ∙ not-false b t in rw e
 
 -- each state above the one before it, so above all before it
-rising-is : (l : List ℕ) (f : ℕ → ℕ) (count : ℕ) → all (stateRight f (statesOf l)) count ≡ rising l f count
-unfolding stateRight rising higher
-rising-is l f count =
-    all_both (higher f) (λ v. ltb (f v) (statesOf l)) count
-    ∙ ap (λ b. b && all (λ v. ltb (f v) (statesOf l)) count) (all-next (higher f) (λ u v. ltb (f u) (f v)) refl (λ v. refl) chain count)
-    ∙ sym (all_both (λ v. all (λ u. ltb (f u) (f v)) v) (λ v. ltb (f v) (statesOf l)) count)
+rising_is : (l : List ℕ) (f : ℕ → ℕ) (count : ℕ) → all (state_right f (states_of l)) count ≡ rising l f count
+unfolding state_right rising higher
+rising_is l f count =
+    all_both (higher f) (λ v. ltb (f v) (states_of l)) count
+    ∙ ap (λ b. b && all (λ v. ltb (f v) (states_of l)) count) (all_next (higher f) (λ u v. ltb (f u) (f v)) refl (λ v. refl) chain count)
+    ∙ sym (all_both (λ v. all (λ u. ltb (f u) (f v)) v) (λ v. ltb (f v) (states_of l)) count)
   where
     chain : (i j k : ℕ) → ltb (f i) (f j) ≡ true → ltb (f j) (f k) ≡ true → ltb (f i) (f k) ≡ true
     chain i j k p q = lt-ltb (f i) (f k) (omega (arith, ltb-true (f i) (f j) p, ltb-true (f j) (f k) q))
 
-module _ (l : List ℕ) {at : View} (L : Laid l at) {s : ℕ} (s-is : s ≡ statesOf l) where
+module _ (l : List ℕ) {at : View} (L : Laid l at) {s : ℕ} (s_is : s ≡ states_of l) where
   places : Viewed l at
   places = viewed L.is
 
-  module _ {x v : ℕ} (x-is : x ≡ get_or l 3 0) (v-is : (v ≡ x) × (v < 65536)) where
-    pub roots-there : v ≤ length (take (length l - at.roots) (drop at.roots l))
-    unfolding vertexCountOf
-    roots-there = let N = near_of L in omega (arith, from-length l at.roots, v-is.0)
+  module _ {x v : ℕ} (x_is : x ≡ get_or l 3 0) (v_is : (v ≡ x) × (v < 65536)) where
+    pub roots_there : v ≤ length (take (length l - at.roots) (drop at.roots l))
+    unfolding vertex_count_of
+    roots_there = let N = near_of L in omega (arith, from_length l at.roots, v_is.0)
 
-    module _ {a : Bool} (a-is : a ≡ all (stateRight (λ u. get_or (take (length l - at.roots) (drop at.roots l)) u 0) s) v) where
-      roots-are : a ≡ rising l (rootState l) (vertexCountOf l 0)
-      unfolding rootState vertexCountOf
-      roots-are =
-          let f = numbers-from l places.roots-is in
-          let e : a ≡ all (stateRight (rootState l) (statesOf l)) (vertexCountOf l 0) = a-is ∙ rw (v-is.0 ∙ x-is, f, s-is) in
-          e ∙ rising-is l (rootState l) (vertexCountOf l 0)
+    module _ {a : Bool} (a_is : a ≡ all (state_right (λ u. get_or (take (length l - at.roots) (drop at.roots l)) u 0) s) v) where
+      roots_are : a ≡ rising l (root_state l) (vertex_count_of l 0)
+      unfolding root_state vertex_count_of
+      roots_are =
+          let f = numbers_from l places.roots-is in
+          let e : a ≡ all (state_right (root_state l) (states_of l)) (vertex_count_of l 0) = a_is ∙ rw (v_is.0 ∙ x_is, f, s_is) in
+          e ∙ rising_is l (root_state l) (vertex_count_of l 0)
 
-      pub roots-wrong : not a ≡ true → false ≡ statesRight l
-      unfolding statesRight
-      roots-wrong t = let e = sym roots-are ∙ not-true a t in rw e
+      pub roots_wrong : not a ≡ true → false ≡ states_right l
+      unfolding states_right
+      roots_wrong t = let e = sym roots_are ∙ not-true a t in rw e
 
-      pub states-by-goals : {y w : ℕ} {b : Bool} → not a ≡ false → y ≡ get_or l (3 + at.n) 0 → (w ≡ y) × (w < 65536)
-          → b ≡ all (stateRight (λ u. get_or (take (length l - at.goals) (drop at.goals l)) u 0) s) w → b ≡ statesRight l
-      unfolding statesRight goalState vertexCountOf
-      states-by-goals {y} {w} {b} t y-is w-is b-is =
-          let e : rising l (rootState l) (get_or l 3 0) ≡ true = sym roots-are ∙ not-false a t in
-          let f : w ≡ get_or l (3 + n_of l) 0 = w-is.0 ∙ y-is ∙ ap (λ m. get_or l (3 + m) 0) places.n-is in
-          let k = numbers-from l places.goals-is in
-          let g : b ≡ all (stateRight (goalState l) (statesOf l)) (vertexCountOf l (n_of l)) = b-is ∙ rw (f, k, s-is) in
-          let h : b ≡ rising l (goalState l) (vertexCountOf l (n_of l)) = g ∙ rising-is l (goalState l) (vertexCountOf l (n_of l)) in
+      pub states_by_goals : {y w : ℕ} {b : Bool} → not a ≡ false → y ≡ get_or l (3 + at.n) 0 → (w ≡ y) × (w < 65536)
+          → b ≡ all (state_right (λ u. get_or (take (length l - at.goals) (drop at.goals l)) u 0) s) w → b ≡ states_right l
+      unfolding states_right goal_state vertex_count_of
+      states_by_goals {y} {w} {b} t y_is w_is b_is =
+          let e : rising l (root_state l) (get_or l 3 0) ≡ true = sym roots_are ∙ not-false a t in
+          let f : w ≡ get_or l (3 + n_of l) 0 = w_is.0 ∙ y_is ∙ ap (λ m. get_or l (3 + m) 0) places.n-is in
+          let k = numbers_from l places.goals-is in
+          let g : b ≡ all (state_right (goal_state l) (states_of l)) (vertex_count_of l (n_of l)) = b_is ∙ rw (f, k, s_is) in
+          let h : b ≡ rising l (goal_state l) (vertex_count_of l (n_of l)) = g ∙ rising_is l (goal_state l) (vertex_count_of l (n_of l)) in
           h ∙ rw e
 
-  pub goals-there : {y w : ℕ} → y ≡ get_or l (3 + at.n) 0 → (w ≡ y) × (w < 65536)
+  pub goals_there : {y w : ℕ} → y ≡ get_or l (3 + at.n) 0 → (w ≡ y) × (w < 65536)
       → w ≤ length (take (length l - at.goals) (drop at.goals l))
-  unfolding vertexCountOf
-  goals-there {y} {w} y-is w-is =
+  unfolding vertex_count_of
+  goals_there {y} {w} y_is w_is =
       let N = near_of L in
-      let f : w ≡ get_or l (3 + n_of l) 0 = w-is.0 ∙ y-is ∙ ap (λ m. get_or l (3 + m) 0) places.n-is in
-      omega (arith, from-length l at.goals)
+      let f : w ≡ get_or l (3 + n_of l) 0 = w_is.0 ∙ y_is ∙ ap (λ m. get_or l (3 + m) 0) places.n-is in
+      omega (arith, from_length l at.goals)
 
 -- each edge above the one before it, so above all before it
-pub ascend-is : (l : List ℕ) (t : ℕ) → all (above (stepEdge l t)) (edgeCountOf l t) ≡ edgesAscend l t
-unfolding above edgesAscend
-ascend-is l t = all-next (above (stepEdge l t)) less refl (λ k. refl) chain (edgeCountOf l t)
+pub ascend_is : (l : List ℕ) (t : ℕ) → all (above (step_edge l t)) (edge_count_of l t) ≡ edges_ascend l t
+unfolding above edges_ascend
+ascend_is l t = all_next (above (step_edge l t)) less refl (λ k. refl) chain (edge_count_of l t)
   where
     less : ℕ → ℕ → Bool
-    less j k = own.edgeLess (stepEdge l t j) (stepEdge l t k)
+    less j k = own.edge_less (step_edge l t j) (step_edge l t k)
 
     chain : (i j k : ℕ) → less i j ≡ true → less j k ≡ true → less i k ≡ true
     chain i j k p q =
-        is_true (less i k) (lower_of _ _ _ _ _ _ (lower-chain (lower-yes _ _ _ _ _ _ (holds p)) (lower-yes _ _ _ _ _ _ (holds q))))
+        is_true (less i k) (lower_of _ _ _ _ _ _ (lower_chain (lower_yes _ _ _ _ _ _ (holds p)) (lower_yes _ _ _ _ _ _ (holds q))))

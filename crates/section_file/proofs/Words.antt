@@ -11,29 +11,29 @@ use native.Mathlib.Nat.{add-zero, zero-add, pow-succ', mul_assoc}
 use lib.Dec.{T}
 use Rattle.trellis.specs.Lists.{◌∈◌, run, each}
 use Rattle.trellis.specs.Word.{Word, word, Before}
-use Rattle.trellis.specs.Own.{Edge, edgeLess}
-use Rattle.trellis.specs.Section.{Path, pathsFrom, packOnto, word_of, words_of}
-use Rattle.trellis.specs.Layout.{n_of, statesOf, vertexCountOf, edgeCountOf, edgesBefore, rootState, goalState}
-use Rattle.trellis.specs.Layout.{edgeNumber, stepEdges, sectionWords}
-use Rattle.trellis.proofs.Lists.{From, of-run, of-each}
+use Rattle.trellis.specs.Own.{Edge, edge_less}
+use Rattle.trellis.specs.Section.{Path, paths_from, pack_onto, word_of, words_of}
+use Rattle.trellis.specs.Layout.{n_of, states_of, vertex_count_of, edge_count_of, edges_before, root_state, goal_state}
+use Rattle.trellis.specs.Layout.{edge_number, step_edges, section_words}
+use Rattle.trellis.proofs.Lists.{From, of_run, of_each}
 use Rattle.trellis.proofs.Ascending.{Ascends}
 use Rattle.trellis.proofs.ThreeNumbers.{lower_of}
-use Rattle.paths.proofs.Ordered.{of-flatMap, run-ordered}
-use Rattle.paths.specs.inner.Ordered.{Ordered}
+use Rattle.paths.proofs.Ordered.{of_flat_map, run_ordered}
+use Rattle.paths.specs.Inner.Ordered.{Ordered}
 use Rattle.paths.proofs.Ascent.{Orderly, Symbols, no_more, one_more, Bounded, PathFits}
-use Rattle.paths.proofs.Words.{whole-fits, words-ordered}
-use Rattle.section_file.specs.Usable.{stepEdge}
-use Rattle.section_file.specs.inner.Sound.{Sound}
+use Rattle.paths.proofs.Words.{whole_fits, words_ordered}
+use Rattle.section_file.specs.Usable.{step_edge}
+use Rattle.section_file.specs.Inner.Sound.{Sound}
 
 -- ---- runs in order
 
-run-ascends : {A : Type 0} (less : A → A → Bool) (f : ℕ → A) (at count : ℕ)
+run_ascends : {A : Type 0} (less : A → A → Bool) (f : ℕ → A) (at count : ℕ)
     → ((j k : ℕ) → j < k → k < count → T (less (f (at + j)) (f (at + k)))) → Ascends less (run f at count)
 unfolding run
-run-ascends less f at zero h = tt
-run-ascends {A} less f at (suc count) h = (
+run_ascends less f at zero h = tt
+run_ascends {A} less f at (suc count) h = (
   first,
-  run-ascends less f (suc at) count (λ j k a b.
+  run_ascends less f (suc at) count (λ j k a b.
       subst (λ x. T (less (f x) (f (suc at + k)))) (shift j)
       (subst (λ x. T (less (f (at + suc j)) (f x))) (shift k) (h (suc j) (suc k) (omega arith) (omega arith)))),
 )
@@ -43,107 +43,107 @@ run-ascends {A} less f at (suc count) h = (
 
     first : (y : A) → y ∈ run f (suc at) count → T (less (f at) y)
     first y m =
-        let F = of-run f (suc at) count y m in
+        let F = of_run f (suc at) count y m in
         subst (λ x. T (less x y)) (ap f (add-zero at))
         (subst (λ x. T (less (f (at + 0)) x)) (ap f (shift F.at) ∙ sym F.is)
         (h 0 (suc F.at) (omega arith) (omega (arith, F.below))))
 
 -- ---- labels of n symbols
 
-pack-short : {n : ℕ} {us : List ℕ} → Symbols n us → (x : ℕ) → packOnto x us < (x + 1) * 4 ^ n
-unfolding packOnto
-pack-short no_more x = omega arith
-pack-short {n} (one_more {n = m} {a = a} {rest = us} p s) x = go (pack-short s (x * 4 + a))
+pack_short : {n : ℕ} {us : List ℕ} → Symbols n us → (x : ℕ) → pack_onto x us < (x + 1) * 4 ^ n
+unfolding pack_onto
+pack_short no_more x = omega arith
+pack_short {n} (one_more {n = m} {a = a} {rest = us} p s) x = go (pack_short s (x * 4 + a))
   where
-    go : packOnto (x * 4 + a) us < (x * 4 + a + 1) * 4 ^ m → packOnto (x * 4 + a) us < (x + 1) * 4 ^ suc m
+    go : pack_onto (x * 4 + a) us < (x * 4 + a + 1) * 4 ^ m → pack_onto (x * 4 + a) us < (x + 1) * 4 ^ suc m
     go h =
         let e = pow-succ' 4 m in
         let q : (x + 1) * 4 ^ suc m ≡ (x * 4 + 4) * 4 ^ m = rw e (rw (← mul_assoc) (ap (λ k. k * 4 ^ m) (omega arith))) in
         rw q (more (x * 4 + a + 1) (x * 4 + 4) (4 ^ m) (omega arith) h)
       where
-        more : (b d z : ℕ) → b ≤ d → packOnto (x * 4 + a) us < b * z → packOnto (x * 4 + a) us < d * z
+        more : (b d z : ℕ) → b ≤ d → pack_onto (x * 4 + a) us < b * z → pack_onto (x * 4 + a) us < d * z
         more b d z h k = omega (arith, native.Mathlib.Nat.mul-le-mul_right z h)
 
 -- ---- the section
 
 module _ {l : List ℕ} (s : Sound l) where
   -- an edge of a step, by its number
-  pub edge-from : (t : ℕ) (e : Edge) → e ∈ stepEdges l t → From (stepEdge l t) (edgeCountOf l t) e
-  unfolding stepEdges stepEdge
-  edge-from t e m = of-run (edgeNumber l) (edgesBefore l t) (edgeCountOf l t) e m
+  pub edge_from : (t : ℕ) (e : Edge) → e ∈ step_edges l t → From (step_edge l t) (edge_count_of l t) e
+  unfolding step_edges step_edge
+  edge_from t e m = of_run (edge_number l) (edges_before l t) (edge_count_of l t) e m
 
-  pub steps-ascend : (t : ℕ) → t < n_of l → Ascends edgeLess (stepEdges l t)
-  unfolding stepEdges stepEdge
-  steps-ascend t h =
-      run-ascends edgeLess (edgeNumber l) (edgesBefore l t) (edgeCountOf l t) (λ j k a b. lower_of _ _ _ _ _ _ (s.edgesAscend t j k h a b))
+  pub steps_ascend : (t : ℕ) → t < n_of l → Ascends edge_less (step_edges l t)
+  unfolding step_edges step_edge
+  steps_ascend t h =
+      run_ascends edge_less (edge_number l) (edges_before l t) (edge_count_of l t) (λ j k a b. lower_of _ _ _ _ _ _ (s.edges_ascend t j k h a b))
 
-  pub orderly : Orderly (stepEdges l) (n_of l)
+  pub orderly : Orderly (step_edges l) (n_of l)
   orderly = record {
-    ascend = steps-ascend;
+    ascend = steps_ascend;
     single = λ t h e f m k p q.
-        let E = edge-from t e m in
-        let F = edge-from t f k in
-        let a : (stepEdge l t E.at).from ≡ (stepEdge l t F.at).from =
+        let E = edge_from t e m in
+        let F = edge_from t f k in
+        let a : (step_edge l t E.at).from ≡ (step_edge l t F.at).from =
         sym (ap (λ (x : Edge). x.from) E.is) ∙ p ∙ ap (λ (x : Edge). x.from) F.is in
-        let b : (stepEdge l t E.at).symbol ≡ (stepEdge l t F.at).symbol =
+        let b : (step_edge l t E.at).symbol ≡ (step_edge l t F.at).symbol =
         sym (ap (λ (x : Edge). x.symbol) E.is) ∙ q ∙ ap (λ (x : Edge). x.symbol) F.is in
         ap (λ (x : Edge). x.to) E.is ∙ s.forward t E.at F.at h E.below F.below a b
         ∙ sym (ap (λ (x : Edge). x.to) F.is);
   }
 
-  pub bounded : Bounded (stepEdges l) (n_of l) (vertexCountOf l (n_of l))
+  pub bounded : Bounded (step_edges l) (n_of l) (vertex_count_of l (n_of l))
   bounded = record {
-    symbol-lt = λ t h e m.
-        let E = edge-from t e m in
-        omega (arith, s.symbolBelow t E.at h E.below, s.qTo, ap (λ (x : Edge). x.symbol) E.is);
-    goal-lt = λ t h e m.
-        let E = edge-from t e m in
-        let b = s.toBelow t E.at (omega arith) E.below in
-        subst (λ u. e.to < vertexCountOf l u) h (subst (λ (x : Edge). x.to < vertexCountOf l (suc t)) (sym E.is) b);
+    symbol_lt = λ t h e m.
+        let E = edge_from t e m in
+        omega (arith, s.symbol_below t E.at h E.below, s.q_to, ap (λ (x : Edge). x.symbol) E.is);
+    goal_lt = λ t h e m.
+        let E = edge_from t e m in
+        let b = s.to_below t E.at (omega arith) E.below in
+        subst (λ u. e.to < vertex_count_of l u) h (subst (λ (x : Edge). x.to < vertex_count_of l (suc t)) (sym E.is) b);
   }
 
-  pub words-ascend : Ordered Before (sectionWords l)
-  unfolding sectionWords
-  words-ascend =
-      words-ordered (stepEdges l) (n_of l) (vertexCountOf l (n_of l)) bounded s.nFrom orderly (rootState l) (goalState l) s.goalsAscend
-      (each (λ v. v) (vertexCountOf l 0))
-      (run-ordered (λ v. v) 0 (vertexCountOf l 0) (λ j k a b. s.rootsAscend j k a (omega (arith, zero-add (vertexCountOf l 0)))))
+  pub words_ascend : Ordered Before (section_words l)
+  unfolding section_words
+  words_ascend =
+      words_ordered (step_edges l) (n_of l) (vertex_count_of l (n_of l)) bounded s.n_from orderly (root_state l) (goal_state l) s.goals_ascend
+      (each (λ v. v) (vertex_count_of l 0))
+      (run_ordered (λ v. v) 0 (vertex_count_of l 0) (λ j k a b. s.roots_ascend j k a (omega (arith, zero-add (vertex_count_of l 0)))))
 
   -- a word of the section, with its root vertex and its path
   pub record Read (w : Word) : Type 0 where
     pub vertex : ℕ
-    pub below : vertex < vertexCountOf l 0
+    pub below : vertex < vertex_count_of l 0
     pub path : Path
-    pub listed : path ∈ pathsFrom (stepEdges l) (n_of l) 0 vertex
-    pub fits : PathFits (n_of l) (vertexCountOf l (n_of l)) path
-    pub is : w ≡ word (rootState l vertex) (packOnto 0 path.symbols) (goalState l path.end)
+    pub listed : path ∈ paths_from (step_edges l) (n_of l) 0 vertex
+    pub fits : PathFits (n_of l) (vertex_count_of l (n_of l)) path
+    pub is : w ≡ word (root_state l vertex) (pack_onto 0 path.symbols) (goal_state l path.end)
 
-  pub read_of : (w : Word) → w ∈ sectionWords l → Read w
-  unfolding sectionWords words_of word_of
+  pub read_of : (w : Word) → w ∈ section_words l → Read w
+  unfolding section_words words_of word_of
   read_of w m =
       let z =
-      of-flatMap (λ v. map (word_of (rootState l) (goalState l) v) (pathsFrom (stepEdges l) (n_of l) 0 v))
-      (each (λ v. v) (vertexCountOf l 0)) w m in
-      let F = of-each (λ v. v) (vertexCountOf l 0) z.source z.listed in
-      let x = Memᴰ.of_map (word_of (rootState l) (goalState l) z.source) (pathsFrom (stepEdges l) (n_of l) 0 z.source) z.holds in
+      of_flat_map (λ v. map (word_of (root_state l) (goal_state l) v) (paths_from (step_edges l) (n_of l) 0 v))
+      (each (λ v. v) (vertex_count_of l 0)) w m in
+      let F = of_each (λ v. v) (vertex_count_of l 0) z.source z.listed in
+      let x = Memᴰ.of_map (word_of (root_state l) (goal_state l) z.source) (paths_from (step_edges l) (n_of l) 0 z.source) z.holds in
       record {
         vertex = z.source;
         below = omega (arith, F.is, F.below);
         path = x.0;
         listed = x.1;
-        fits = whole-fits (stepEdges l) (n_of l) (vertexCountOf l (n_of l)) bounded s.nFrom z.source x.0 x.1;
+        fits = whole_fits (step_edges l) (n_of l) (vertex_count_of l (n_of l)) bounded s.n_from z.source x.0 x.1;
         is = sym x.2;
       }
 
-  pub root_below : (w : Word) → w ∈ sectionWords l → w.root < statesOf l
-  root_below w m = let r = read_of w m in omega (arith, ap (λ (v : Word). v.root) r.is, s.rootsBelow r.vertex r.below)
+  pub root_below : (w : Word) → w ∈ section_words l → w.root < states_of l
+  root_below w m = let r = read_of w m in omega (arith, ap (λ (v : Word). v.root) r.is, s.roots_below r.vertex r.below)
 
-  pub goal-below : (w : Word) → w ∈ sectionWords l → w.goal < statesOf l
-  goal-below w m =
+  pub goal_below : (w : Word) → w ∈ section_words l → w.goal < states_of l
+  goal_below w m =
       let r = read_of w m in
-      omega (arith, ap (λ (v : Word). v.goal) r.is, s.goalsBelow r.path.end r.fits.end_fits)
+      omega (arith, ap (λ (v : Word). v.goal) r.is, s.goals_below r.path.end r.fits.end_fits)
 
-  pub label-short : (w : Word) → w ∈ sectionWords l → w.label < 4 ^ n_of l
-  label-short w m =
+  pub label_short : (w : Word) → w ∈ section_words l → w.label < 4 ^ n_of l
+  label_short w m =
       let r = read_of w m in
-      omega (arith, ap (λ (v : Word). v.label) r.is, pack-short r.fits.symbols-fit 0)
+      omega (arith, ap (λ (v : Word). v.label) r.is, pack_short r.fits.symbols-fit 0)

@@ -1,3 +1,3 @@
 -- Sections in numbers: which are usable, what that says of them, and the answers of this crate.
 pub mod Usable
-pub mod inner
+pub mod Inner

@@ -1,11 +1,11 @@
 // A section in numbers, as far as its counts and its end states go: whether they are those of a usable section, and its view, which says
 // where its parts stand. The definition of usable, and what whoever reads a usable section needs to know of it.
 ghost use Rattle.std.specs.Prelude.{◌≡◌, ◌+◌, ◌*◌, ◌<◌, ◌≤◌, get_or};
-ghost use Rattle.trellis.specs.Bounds.{mostWords, mostSymbols};
+ghost use Rattle.trellis.specs.Bounds.{most_words, most_symbols};
 ghost use Rattle.trellis.specs.Layout.{n_of};
 ghost use Rattle.trellis.specs.Lists.{all, within};
-ghost use Rattle.section_file.specs.Usable.{sizesRight, countsRight};
-ghost use Rattle.section_file.specs.inner.View.{view_of};
+ghost use Rattle.section_file.specs.Usable.{sizes_right, counts_right};
+ghost use Rattle.section_file.specs.Inner.View.{view_of};
 
 pub mod states;
 
@@ -43,7 +43,7 @@ fn is_within(low: u16, high: u16, x: u16) -> bool
 }
 
 pub fn sizes_right(l: &[u16]) -> bool
-    ensures { result ≡ sizesRight l.now }
+    ensures { result ≡ sizes_right l.now }
 {
     if !is_within(LEAST_Q, MOST_Q, number(l, 0)) {
         return false;
@@ -57,7 +57,7 @@ pub fn sizes_right(l: &[u16]) -> bool
 // Whether the numbers from a place on are all 1 to 1,024.
 fn all_counts(l: &[u16], at: usize, count: usize) -> bool
     requires { (at ≤ 100) × (count ≤ 100) }
-    ensures { result ≡ all (λ t. within 1 mostWords (get_or l.now (at + t) 0)) count }
+    ensures { result ≡ all (λ t. within 1 most_words (get_or l.now (at + t) 0)) count }
 {
     let mut t: usize = 0;
     while t < count {
@@ -70,8 +70,8 @@ fn all_counts(l: &[u16], at: usize, count: usize) -> bool
 }
 
 pub fn counts_right(l: &[u16], n: usize) -> bool
-    requires { (n ≡ n_of l.now) × (n ≤ mostSymbols) }
-    ensures { result ≡ countsRight l.now }
+    requires { (n ≡ n_of l.now) × (n ≤ most_symbols) }
+    ensures { result ≡ counts_right l.now }
 {
     if !all_counts(l, 3, n + 1) {
         return false;
@@ -81,7 +81,7 @@ pub fn counts_right(l: &[u16], n: usize) -> bool
 
 // Each part stands behind the one before it.
 pub fn view_of(l: &[u16], n: usize) -> View
-    requires { (n ≡ n_of l.now) × (n ≤ mostSymbols) }
+    requires { (n ≡ n_of l.now) × (n ≤ most_symbols) }
     ensures { result ≡ view_of l.now }
 {
     let q = number(l, 0);

@@ -1,9 +1,9 @@
 // End states: whether those of the roots and of the goals ascend strictly and are below S.
 ghost use Rattle.std.specs.Prelude.{◌≡◌, ◌≤◌, ◌<◌, length, get_or};
 ghost use Rattle.trellis.specs.Lists.{all};
-ghost use Rattle.section_file.specs.Usable.{statesRight};
-ghost use Rattle.section_file.specs.inner.Steps.{higher, stateRight};
-ghost use Rattle.section_file.specs.inner.View.{Laid};
+ghost use Rattle.section_file.specs.Usable.{states_right};
+ghost use Rattle.section_file.specs.Inner.Steps.{higher, state_right};
+ghost use Rattle.section_file.specs.Inner.View.{Laid};
 
 use crate::View;
 use numbers::{number, wide};
@@ -21,7 +21,7 @@ fn is_higher(states: &[u16], v: usize) -> bool
 
 fn state_right(states: &[u16], v: usize, bound: u16) -> bool
     requires { v < length states.now }
-    ensures { result ≡ stateRight (λ u. get_or states.now u 0) bound v }
+    ensures { result ≡ state_right (λ u. get_or states.now u 0) bound v }
 {
     if !is_higher(states, v) {
         return false;
@@ -31,7 +31,7 @@ fn state_right(states: &[u16], v: usize, bound: u16) -> bool
 
 fn is_rising(states: &[u16], count: usize, bound: u16) -> bool
     requires { count ≤ length states.now }
-    ensures { result ≡ all (stateRight (λ u. get_or states.now u 0) bound) count }
+    ensures { result ≡ all (state_right (λ u. get_or states.now u 0) bound) count }
 {
     let mut v: usize = 0;
     while v < count {
@@ -46,7 +46,7 @@ fn is_rising(states: &[u16], count: usize, bound: u16) -> bool
 // Whether the end states ascend strictly and are below S.
 pub fn states_right(l: &[u16], at: View) -> bool
     requires { Laid l.now at }
-    ensures { result ≡ statesRight l.now }
+    ensures { result ≡ states_right l.now }
 {
     let roots = at.roots;
     let goals = at.goals;

@@ -1,3 +1,3 @@
 -- Sections one behind another: where each begins, and fault 8.
 pub mod Sections
-pub mod inner
+pub mod Inner

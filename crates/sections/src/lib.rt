@@ -2,8 +2,8 @@
 // has the place where each section begins, and its view.
 ghost use Rattle.std.specs.Prelude.{◌≡◌, cond, drop};
 ghost use Rattle.section_file.specs.Usable.{usable};
-ghost use Rattle.section_file.specs.inner.View.{view_of};
-ghost use Rattle.sections.specs.inner.Found.{Looked, no_view, viewIn};
+ghost use Rattle.section_file.specs.Inner.View.{view_of};
+ghost use Rattle.sections.specs.Inner.Found.{Looked, no_view, view_in};
 
 use numbers::is_within;
 use section_file::View;
@@ -37,7 +37,7 @@ fn no_view() -> View
 }
 
 fn view_in(part: Part) -> View
-    ensures { result ≡ viewIn part }
+    ensures { result ≡ view_in part }
 {
     match part {
         Part::Usable(view) => view,

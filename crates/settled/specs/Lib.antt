@@ -1,2 +1,2 @@
 -- A note turned into its cost.
-pub mod inner
+pub mod Inner

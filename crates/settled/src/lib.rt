@@ -1,8 +1,8 @@
 // The cost of which a note has the remainder, from the costs behind its block.
 ghost use Rattle.std.specs.Prelude.{◌≡◌, ◌≤◌, length};
 ghost use Rattle.paths.specs.Chain.{unreached};
-ghost use Rattle.paths.specs.inner.Ranked.{labelUnit};
-ghost use Rattle.settled.specs.inner.Cost.{settledCost};
+ghost use Rattle.paths.specs.Inner.Ranked.{label_unit};
+ghost use Rattle.settled.specs.Inner.Cost.{settled_cost};
 
 use numbers::widened;
 use paths::{DISTANCE_UNIT, LABEL_UNIT, NOTE_CYCLE};
@@ -13,8 +13,8 @@ pub const GOALS: usize = LABEL_UNIT as usize;
 
 // The cost of which a note has the remainder, from the costs behind the block.
 pub fn settled(note: u32, behind: &[u32; GOALS]) -> u32
-    requires { (length behind.now ≡ labelUnit) × (settledCost behind.now note ≤ unreached) }
-    ensures { result ≡ settledCost behind.now note }
+    requires { (length behind.now ≡ label_unit) × (settled_cost behind.now note ≤ unreached) }
+    ensures { result ≡ settled_cost behind.now note }
 {
     let goal = widened(goal_of(note));
     let cost = behind[goal];

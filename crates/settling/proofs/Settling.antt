@@ -1,4 +1,4 @@
--- From the last block to the first the costs behind a block are known. What a word of the block adds is below `noteCycle`, so that it is
+-- From the last block to the first the costs behind a block are known. What a word of the block adds is below `note_cycle`, so that it is
 -- the remainder of the cost, which the note has, less the remainder of the cost behind. The note of no path leads to a place behind the
 -- states that has the mark for no path, and adds nothing to it; a state that is no root has that note, which is the mark itself. Rows are
 -- settled root by root; roots ascend, so that no state is settled twice.
@@ -11,91 +11,91 @@ use native.Mathlib.Decide.{dec_lt}
 use native.Mathlib.Omega.{arith}
 use lib.ListN.{length, get_or, take, drop, set, length-set, length-take, length-drop, replicate, length-replicate, get_or-replicate}
 use lib.Seq.{get_or-set_other, get_or-take, get_or-drop}
-use Rattle.trellis.specs.Bounds.{mostStates, costsABlock}
-use Rattle.trellis.specs.Layout.{vertexCountOf, rootsPlace, goalsPlace, rootState}
-use Rattle.trellis.proofs.Buffers.{put-more}
+use Rattle.trellis.specs.Bounds.{most_states, costs_aBlock}
+use Rattle.trellis.specs.Layout.{vertex_count_of, roots_place, goals_place, root_state}
+use Rattle.trellis.proofs.Buffers.{put_more}
 use Rattle.paths.specs.Chain.{unreached}
-use Rattle.paths.specs.inner.Ranked.{labelUnit, distanceUnit, noteCycle, noGoal, noteGoal, noteWord}
-use Rattle.paths.proofs.Chain.{least-le}
-use Rattle.section_file.specs.inner.Sound.{Sound}
-use Rattle.section_file.specs.inner.View.{view_of, Seen}
-use Rattle.section_file.proofs.Seen.{header, roots-at}
-use Rattle.passes.specs.inner.Chains.{Chain, leastFrom, LeftAt, NoteAt, NotesFrom, CostsFrom, RowWritten}
-use Rattle.passes.proofs.Ends.{root_is, root-lt, root-alone, root-more, root-else}
-use Rattle.passes.proofs.Passing.{rootOf, RootAt, root-at}
-use Rattle.passes.proofs.Chains.{left-last, costs-more}
-use Rattle.cost_table.specs.inner.Filled.{EndsAs, HeldBlocks, blockPart, Unrooted}
+use Rattle.paths.specs.Inner.Ranked.{label_unit, distance_unit, note_cycle, no_goal, note_goal, note_word}
+use Rattle.paths.proofs.Chain.{least_le}
+use Rattle.section_file.specs.Inner.Sound.{Sound}
+use Rattle.section_file.specs.Inner.View.{view_of, Seen}
+use Rattle.section_file.proofs.Seen.{header, roots_at}
+use Rattle.passes.specs.Inner.Chains.{Chain, least_from, LeftAt, NoteAt, NotesFrom, CostsFrom, RowWritten}
+use Rattle.passes.proofs.Ends.{root_is, root_lt, root_alone, root_more, root_else}
+use Rattle.passes.proofs.Passing.{root_of, RootAt, root_at}
+use Rattle.passes.proofs.Chains.{left_last, costs_more}
+use Rattle.cost_table.specs.Inner.Filled.{EndsAs, HeldBlocks, block_part, Unrooted}
 use Rattle.cost_table.proofs.Rows.{row_inside}
-use Rattle.settled.specs.inner.Cost.{settledCost}
-use Rattle.settling.specs.inner.Settled.{CostsBehind, RowFits, RootsSettled, RowCopied, BlockSettled, Cheap, Settled}
+use Rattle.settled.specs.Inner.Cost.{settled_cost}
+use Rattle.settling.specs.Inner.Settled.{CostsBehind, RowFits, RootsSettled, RowCopied, BlockSettled, Cheap, Settled}
 
 -- ---- one note
 
--- what is added below `noteCycle` is told by the two remainders
-difference : (cost added : ℕ) → added < noteCycle
-    → cost + ((cost + added) % noteCycle + noteCycle - cost % noteCycle) % noteCycle ≡ cost + added
+-- what is added below `note_cycle` is told by the two remainders
+difference : (cost added : ℕ) → added < note_cycle
+    → cost + ((cost + added) % note_cycle + note_cycle - cost % note_cycle) % note_cycle ≡ cost + added
 difference cost added h = omega arith
 
 module _ {C : Chain} {b s note : ℕ} {behind : List ℕ} (h : b < C.blocks) (K : Cheap C) (M : CostsBehind behind)
     (L : LeftAt C (suc b) behind) (N : NoteAt C b s note) where
   -- what stands at the note's goal
-  settled-of : {cost : ℕ} → get_or behind (noteGoal note) 0 ≡ cost
-      → settledCost behind note ≡ cost + (note / distanceUnit + noteCycle - cost % noteCycle) % noteCycle
-  unfolding settledCost
-  settled-of e = ap (λ x. x + (note / distanceUnit + noteCycle - x % noteCycle) % noteCycle) e
+  settled_of : {cost : ℕ} → get_or behind (note_goal note) 0 ≡ cost
+      → settled_cost behind note ≡ cost + (note / distance_unit + note_cycle - cost % note_cycle) % note_cycle
+  unfolding settled_cost
+  settled_of e = ap (λ x. x + (note / distance_unit + note_cycle - x % note_cycle) % note_cycle) e
 
-  pub settled_is : settledCost behind note ≡ leastFrom C b s
+  pub settled_is : settled_cost behind note ≡ least_from C b s
   settled_is = go (dec_lt note unreached)
     where
       turned : (x y : ℕ) → x + y ≡ y + x
       turned x y = omega arith
 
-      go : Dec (note < unreached) → settledCost behind note ≡ leastFrom C b s
+      go : Dec (note < unreached) → settled_cost behind note ≡ least_from C b s
       go (no k) =
           let z : note ≡ unreached = omega (arith, N.small) in
-          settled-of (ap (λ x. get_or behind (noteGoal x) 0) z ∙ M.none)
-          ∙ ap (λ x. unreached + (x / distanceUnit + noteCycle - unreached % noteCycle) % noteCycle) z ∙ sym (N.none (omega arith))
+          settled_of (ap (λ x. get_or behind (note_goal x) 0) z ∙ M.none)
+          ∙ ap (λ x. unreached + (x / distance_unit + note_cycle - unreached % note_cycle) % note_cycle) z ∙ sym (N.none (omega arith))
       go (yes k) =
-          let cost = leastFrom C (suc b) (noteGoal note) in
-          let added = C.price b (noteWord s note) in
-          let r : note / distanceUnit ≡ (cost + added) % noteCycle
-          = N.remainder k ∙ ap (λ x. x % noteCycle) (N.adds-up k ∙ turned added cost) in
-          settled-of (L.at (noteGoal note) (N.goal-lt k))
-          ∙ ap (λ x. cost + (x + noteCycle - cost % noteCycle) % noteCycle) r
-          ∙ difference cost added (K.below b h (noteWord s note)) ∙ sym (N.adds-up k ∙ turned added cost)
+          let cost = least_from C (suc b) (note_goal note) in
+          let added = C.price b (note_word s note) in
+          let r : note / distance_unit ≡ (cost + added) % note_cycle
+          = N.remainder k ∙ ap (λ x. x % note_cycle) (N.adds-up k ∙ turned added cost) in
+          settled_of (L.at (note_goal note) (N.goal-lt k))
+          ∙ ap (λ x. cost + (x + note_cycle - cost % note_cycle) % note_cycle) r
+          ∙ difference cost added (K.below b h (note_word s note)) ∙ sym (N.adds-up k ∙ turned added cost)
 
-  pub note-fits : settledCost behind note ≤ unreached
-  unfolding leastFrom
-  note-fits = subst (λ x. x ≤ unreached) (sym settled_is) (least-le C.words C.ends C.price unreached (C.blocks - b) b s)
+  pub note_fits : settled_cost behind note ≤ unreached
+  unfolding least_from
+  note_fits = subst (λ x. x ≤ unreached) (sym settled_is) (least_le C.words C.ends C.price unreached (C.blocks - b) b s)
 
 -- ---- one row, root by root
 
 -- a section's roots by its own counts, where its view has them
 pub record RootsRead (l : List ℕ) (roots count : ℕ) : Type 0 where
   pub seen : Seen l (view_of l)
-  pub roots-is : roots ≡ (view_of l).roots
-  pub count-is : count ≡ (view_of l).goals - (view_of l).roots
-  pub all : count ≡ vertexCountOf l 0
+  pub roots_is : roots ≡ (view_of l).roots
+  pub count_is_lem : count ≡ (view_of l).goals - (view_of l).roots
+  pub all : count ≡ vertex_count_of l 0
   pub inside : roots + count ≤ length l
   pub near : roots + count ≤ 30000
 
-pub counts-there : {l : List ℕ} → Sound l → 4 ≤ length l
-counts-there {l} s =
+pub counts_there : {l : List ℕ} → Sound l → 4 ≤ length l
+counts_there {l} s =
     let S : Seen l (view_of l) = record { sound = s; is = refl } in
     let i = (header S).inside in
     omega arith
 
-pub roots-read : {l : List ℕ} {n count : ℕ} → Sound l → n ≡ get_or l 1 0 → count ≡ get_or l 3 0 → RootsRead l (4 + 2 * n) count
-unfolding view_of rootsPlace goalsPlace vertexCountOf
-roots-read {l} {n} {count} s p q =
+pub roots_read : {l : List ℕ} {n count : ℕ} → Sound l → n ≡ get_or l 1 0 → count ≡ get_or l 3 0 → RootsRead l (4 + 2 * n) count
+unfolding view_of roots_place goals_place vertex_count_of
+roots_read {l} {n} {count} s p q =
     let S : Seen l (view_of l) = record { sound = s; is = refl } in
-    let A = roots-at S in
+    let A = roots_at S in
     let i = A.inside in
     let r = A.near in
-    record { seen = S; roots-is = omega arith; count-is = omega arith; all = q; inside = omega arith; near = omega arith }
+    record { seen = S; roots_is = omega arith; count_is_lem = omega arith; all = q; inside = omega arith; near = omega arith }
 
-pub roots-start : {l behind row : List ℕ} → RowFits behind row → RootsSettled l behind row row 0
-roots-start O = record { long = O.long; at = λ u h. absurd (not-suc-le-zero h); kept = λ s h. refl }
+pub roots_start : {l behind row : List ℕ} → RowFits behind row → RootsSettled l behind row row 0
+roots_start O = record { long = O.long; at = λ u h. absurd (not-suc-le-zero h); kept = λ s h. refl }
 
 module _ {l behind old row : List ℕ} {roots count v s : ℕ} (R : RootsRead l roots count) (I : RootsSettled l behind old row v)
     (below : v < count) (read : s ≡ get_or l (roots + v) 0) where
@@ -108,162 +108,162 @@ module _ {l behind old row : List ℕ} {roots count v s : ℕ} (R : RootsRead l 
   p : s ≡ get_or l ((view_of l).roots + v) 0
   p = read ∙ ap (λ x. get_or l (x + v) 0) R.roots-is
 
-  pub state-lt : s < mostStates
-  state-lt = root-lt S h p
+  pub state_lt : s < most_states
+  state_lt = root_lt S h p
 
   -- the note of the next root is still there
-  note-there : get_or row s 0 ≡ get_or old s 0
-  note-there = I.kept s (root-alone S h p)
+  note_there : get_or row s 0 ≡ get_or old s 0
+  note_there = I.kept s (root_alone S h p)
 
-  pub still-fits : RowFits behind old → settledCost behind (get_or row s 0) ≤ unreached
-  still-fits O = subst (λ x. settledCost behind x ≤ unreached) (sym note-there) (O.small s state-lt)
+  pub still_fits : RowFits behind old → settled_cost behind (get_or row s 0) ≤ unreached
+  still_fits O = subst (λ x. settled_cost behind x ≤ unreached) (sym note_there) (O.small s state_lt)
 
-  pub roots-more : {x : ℕ} → x ≡ settledCost behind (get_or row s 0) → RootsSettled l behind old (set row s x) (v + 1)
-  roots-more {x} q = record {
+  pub roots_more : {x : ℕ} → x ≡ settled_cost behind (get_or row s 0) → RootsSettled l behind old (set row s x) (v + 1)
+  roots_more {x} q = record {
     long = simp length-set I.long;
-    at = root-more S h p (λ u y. y ≡ settledCost behind (get_or old (rootState l u) 0)) row x I.long
-        (q ∙ ap (settledCost behind) (note-there ∙ ap (λ t. get_or old t 0) (root_is S h p))) I.at;
-    kept = λ t k. root-else S h p row x t k ∙ I.kept t (λ u m. k u (omega arith));
+    at = root_more S h p (λ u y. y ≡ settled_cost behind (get_or old (root_state l u) 0)) row x I.long
+        (q ∙ ap (settled_cost behind) (note_there ∙ ap (λ t. get_or old t 0) (root_is S h p))) I.at;
+    kept = λ t k. root_else S h p row x t k ∙ I.kept t (λ u m. k u (omega arith));
   }
 
-pub roots-end : {l behind old row : List ℕ} {roots count v : ℕ} → RootsRead l roots count → RootsSettled l behind old row v → count ≤ v
-    → v ≤ count → RootsSettled l behind old row (vertexCountOf l 0)
-roots-end {l} {behind} {old} {row} {v = v} R I h k =
-    let e : v ≡ vertexCountOf l 0 = omega (arith, R.all) in subst (RootsSettled l behind old row) e I
+pub roots_end : {l behind old row : List ℕ} {roots count v : ℕ} → RootsRead l roots count → RootsSettled l behind old row v → count ≤ v
+    → v ≤ count → RootsSettled l behind old row (vertex_count_of l 0)
+roots_end {l} {behind} {old} {row} {v = v} R I h k =
+    let e : v ≡ vertex_count_of l 0 = omega (arith, R.all) in subst (RootsSettled l behind old row) e I
 
 -- ---- copied
 
-pub copy_start : {row place : List ℕ} → length place ≡ labelUnit → RowCopied row place place 0
+pub copy_start : {row place : List ℕ} → length place ≡ label_unit → RowCopied row place place 0
 copy_start h = record { long = h; at = λ u l. absurd (not-suc-le-zero l); kept = λ u l. refl }
 
-pub copy_more : {row old place : List ℕ} {s : ℕ} → RowCopied row old place s → s < mostStates
+pub copy_more : {row old place : List ℕ} {s : ℕ} → RowCopied row old place s → s < most_states
     → RowCopied row old (set place s (get_or row s 0)) (s + 1)
 copy_more {row} {old} {place} {s} I h = record {
   long = simp length-set I.long;
-  at = put-more (λ u x. x ≡ get_or row u 0) place s (get_or row s 0) (omega (arith, I.long)) refl I.at;
+  at = put_more (λ u x. x ≡ get_or row u 0) place s (get_or row s 0) (omega (arith, I.long)) refl I.at;
   kept = λ u l. get_or-set_other place s u (get_or row s 0) 0 (λ e. absurd (omega arith)) ∙ I.kept u (omega arith);
 }
 
-pub copy-end : {row old place : List ℕ} {s : ℕ} → RowCopied row old place s → mostStates ≤ s → s ≤ mostStates
-    → RowCopied row old place mostStates
-copy-end {row} {old} {place} {s} I h k = let e : s ≡ mostStates = omega arith in subst (RowCopied row old place) e I
+pub copy_end : {row old place : List ℕ} {s : ℕ} → RowCopied row old place s → most_states ≤ s → s ≤ most_states
+    → RowCopied row old place most_states
+copy_end {row} {old} {place} {s} I h k = let e : s ≡ most_states = omega arith in subst (RowCopied row old place) e I
 
 -- the mark behind the states stays
-behind-copied : {row old place : List ℕ} → CostsBehind old → RowCopied row old place mostStates → CostsBehind place
-behind-copied M I = record { long = I.long; none = I.kept noGoal (omega arith) ∙ M.none }
+behind_copied : {row old place : List ℕ} → CostsBehind old → RowCopied row old place most_states → CostsBehind place
+behind_copied M I = record { long = I.long; none = I.kept no_goal (omega arith) ∙ M.none }
 
 -- ---- block by block
 
 -- `last` has the costs behind the last block
 pub record InSettle (blocks : ℕ) (last old new behind : List ℕ) (b : ℕ) : Type 0 where
-  pub b-le : b ≤ blocks
+  pub b_le : b ≤ blocks
   pub long : length new ≡ length old
   pub marked : CostsBehind behind
-  pub kept : (i : ℕ) → costsABlock * blocks ≤ i → get_or new i 0 ≡ get_or old i 0
-  pub unsettled : (i : ℕ) → i < costsABlock * b → get_or new i 0 ≡ get_or old i 0
-  pub leftIs : (C : Chain) → C.blocks ≡ blocks → Cheap C → LeftAt C blocks last → NotesFrom C 0 old → LeftAt C b behind
+  pub kept : (i : ℕ) → costs_aBlock * blocks ≤ i → get_or new i 0 ≡ get_or old i 0
+  pub unsettled : (i : ℕ) → i < costs_aBlock * b → get_or new i 0 ≡ get_or old i 0
+  pub left_is : (C : Chain) → C.blocks ≡ blocks → Cheap C → LeftAt C blocks last → NotesFrom C 0 old → LeftAt C b behind
   pub costs : (C : Chain) → C.blocks ≡ blocks → Cheap C → LeftAt C blocks last → NotesFrom C 0 old → CostsFrom C b new
 
-pub settle-start : {blocks : ℕ} {ends notes last : List ℕ} → RowCopied ends (replicate labelUnit unreached) last mostStates
+pub settle_start : {blocks : ℕ} {ends notes last : List ℕ} → RowCopied ends (replicate label_unit unreached) last most_states
     → InSettle blocks last notes notes last blocks
-settle-start I = record {
-  b-le = omega arith;
+settle_start I = record {
+  b_le = omega arith;
   long = refl;
-  marked = behind-copied (record {
-    long = length-replicate {A = ℕ} labelUnit unreached;
-    none = get_or-replicate {A = ℕ} labelUnit noGoal unreached 0 (omega arith);
+  marked = behind_copied (record {
+    long = length-replicate {A = ℕ} label_unit unreached;
+    none = get_or-replicate {A = ℕ} label_unit no_goal unreached 0 (omega arith);
   }) I;
   kept = λ i k. refl;
   unsettled = λ i k. refl;
-  leftIs = λ C e K L N. L;
+  left_is = λ C e K L N. L;
   costs = λ C e K L N. record { at = λ c s k l. absurd (omega arith) };
 }
 
 -- behind the last block nothing is left to pay where a path may end
-pub last-is : {C : Chain} {blocks : ℕ} {ends old last : List ℕ} → C.blocks ≡ blocks → EndsAs C ends → RowCopied ends old last mostStates
+pub last_is : {C : Chain} {blocks : ℕ} {ends old last : List ℕ} → C.blocks ≡ blocks → EndsAs C ends → RowCopied ends old last most_states
     → LeftAt C blocks last
-last-is {C} {last = last} e E I = subst (λ b. LeftAt C b last) e (left-last C last (λ s k. I.at s k ∙ E.at s k))
+last_is {C} {last = last} e E I = subst (λ b. LeftAt C b last) e (left_last C last (λ s k. I.at s k ∙ E.at s k))
 
 -- a row as it is lent
 abbrev row_of : ℕ → List ℕ → List ℕ
-row_of first l = take (first + costsABlock - first) (drop first l)
+row_of first l = take (first + costs_aBlock - first) (drop first l)
 
-row_at : (first : ℕ) (l : List ℕ) (s : ℕ) → s < costsABlock → get_or (row_of first l) s 0 ≡ get_or l (first + s) 0
-row_at first l s h = get_or-take (first + costsABlock - first) (drop first l) s 0 (omega arith) ∙ get_or-drop first l s 0
+row_at : (first : ℕ) (l : List ℕ) (s : ℕ) → s < costs_aBlock → get_or (row_of first l) s 0 ≡ get_or l (first + s) 0
+row_at first l s h = get_or-take (first + costs_aBlock - first) (drop first l) s 0 (omega arith) ∙ get_or-drop first l s 0
 
 module _ {blocks : ℕ} {last old mid behind : List ℕ} {b : ℕ} (I : InSettle blocks last old mid behind b) (h : 0 < b)
-    (fits : costsABlock * blocks ≤ length old) where
+    (fits : costs_aBlock * blocks ≤ length old) where
   abbrev first : ℕ
-  first = costsABlock * (b - 1)
+  first = costs_aBlock * (b - 1)
 
   -- the notes of the block are still there
-  row_is : (s : ℕ) → s < mostStates → get_or (row_of first mid) s 0 ≡ get_or old (first + s) 0
+  row_is : (s : ℕ) → s < most_states → get_or (row_of first mid) s 0 ≡ get_or old (first + s) 0
   row_is s k = row_at first mid s k ∙ I.unsettled (first + s) (omega arith)
 
   module _ (C : Chain) (e : C.blocks ≡ blocks) (K : Cheap C) (L : LeftAt C blocks last) (N : NotesFrom C 0 old) where
-    in-chain : b - 1 < C.blocks
-    in-chain = omega (arith, I.b-le)
+    in_chain : b - 1 < C.blocks
+    in_chain = omega (arith, I.b-le)
 
     left_behind : LeftAt C (suc (b - 1)) behind
-    left_behind = let n : b ≡ suc (b - 1) = omega arith in subst (λ c. LeftAt C c behind) n (I.leftIs C e K L N)
+    left_behind = let n : b ≡ suc (b - 1) = omega arith in subst (λ c. LeftAt C c behind) n (I.left_is C e K L N)
 
-    note-at : (s : ℕ) → s < mostStates → NoteAt C (b - 1) s (get_or (row_of first mid) s 0)
-    note-at s k = subst (NoteAt C (b - 1) s) (sym (row_is s k)) (N.at (b - 1) s (omega arith) in-chain k)
+    note_at : (s : ℕ) → s < most_states → NoteAt C (b - 1) s (get_or (row_of first mid) s 0)
+    note_at s k = subst (NoteAt C (b - 1) s) (sym (row_is s k)) (N.at (b - 1) s (omega arith) in_chain k)
 
     pub row_fits : RowFits behind (row_of first mid)
     row_fits = record {
-      behindLong = I.marked.long;
+      behind_long = I.marked.long;
       long = simp (length-take, length-drop) (omega (arith, row_inside I.b-le h I.long fits));
-      small = λ s k. note-fits in-chain K I.marked left_behind (note-at s k);
+      small = λ s k. note_fits in_chain K I.marked left_behind (note_at s k);
     }
 
   -- `part` is the section as it is lent
   module _ {H : HeldBlocks} (n : length H.indices ≡ blocks) (U : Unrooted H 0 old) {part row new copy : List ℕ}
-      (p : part ≡ blockPart H (b - 1)) (S : BlockSettled part behind (row_of first mid) row copy) (P : RowWritten first row mid new) where
+      (p : part ≡ block_part H (b - 1)) (S : BlockSettled part behind (row_of first mid) row copy) (P : RowWritten first row mid new) where
     abbrev l : List ℕ
-    l = blockPart H (b - 1)
+    l = block_part H (b - 1)
 
     B : BlockSettled l behind (row_of first mid) row copy
     B = subst (λ x. BlockSettled x behind (row_of first mid) row copy) p S
 
     module _ (C : Chain) (e : C.blocks ≡ blocks) (K : Cheap C) (L : LeftAt C blocks last) (N : NotesFrom C 0 old) where
-      cost-at : (s : ℕ) → s < mostStates → get_or row s 0 ≡ leastFrom C (b - 1) s
-      cost-at s k = go (root-at l s) (dec_lt (rootOf l s) (vertexCountOf l 0))
+      cost_at : (s : ℕ) → s < most_states → get_or row s 0 ≡ least_from C (b - 1) s
+      cost_at s k = go (root_at l s) (dec_lt (root_of l s) (vertex_count_of l 0))
         where
-          go : RootAt l s (rootOf l s) → Dec (rootOf l s < vertexCountOf l 0) → get_or row s 0 ≡ leastFrom C (b - 1) s
+          go : RootAt l s (root_of l s) → Dec (root_of l s < vertex_count_of l 0) → get_or row s 0 ≡ least_from C (b - 1) s
           go F (yes j) =
-              subst (λ x. get_or row x 0 ≡ settledCost behind (get_or (row_of first mid) x 0)) (F.is j) (B.settled.at (rootOf l s) j)
-              ∙ settled_is (in-chain C e K L N) K I.marked (left_behind C e K L N) (note-at C e K L N s k)
+              subst (λ x. get_or row x 0 ≡ settled_cost behind (get_or (row_of first mid) x 0)) (F.is j) (B.settled.at (root_of l s) j)
+              ∙ settled_is (in_chain C e K L N) K I.marked (left_behind C e K L N) (note_at C e K L N s k)
           go F (no j) =
               let none = F.none (omega arith) in
               let u = U.at (b - 1) s (omega arith) (omega (arith, I.b-le)) k none in
               B.settled.kept s none ∙ row_is s k ∙ u
-              ∙ sym ((N.at (b - 1) s (omega arith) (in-chain C e K L N) k).none (omega arith))
+              ∙ sym ((N.at (b - 1) s (omega arith) (in_chain C e K L N) k).none (omega arith))
 
       here : LeftAt C (b - 1) row
-      here = record { at = cost-at }
+      here = record { at = cost_at }
 
-      costs-here : CostsFrom C (b - 1) new
-      costs-here =
-          let m : b ≡ suc (b - 1) = omega arith in costs-more C (subst (λ c. CostsFrom C c mid) m (I.costs C e K L N)) here P
+      costs_here : CostsFrom C (b - 1) new
+      costs_here =
+          let m : b ≡ suc (b - 1) = omega arith in costs_more C (subst (λ c. CostsFrom C c mid) m (I.costs C e K L N)) here P
 
-    pub settle-more : InSettle blocks last old new copy (b - 1)
-    settle-more = record {
-      b-le = omega (arith, I.b-le);
+    pub settle_more : InSettle blocks last old new copy (b - 1)
+    settle_more = record {
+      b_le = omega (arith, I.b-le);
       long = P.long ∙ I.long;
-      marked = behind-copied I.marked B.copied;
+      marked = behind_copied I.marked B.copied;
       kept = λ i k. P.kept i (inr (omega (arith, I.b-le))) ∙ I.kept i k;
       unsettled = λ i k. P.kept i (inl k) ∙ I.unsettled i (omega arith);
-      leftIs = λ C e K L N. record { at = λ s k. B.copied.at s k ∙ cost-at C e K L N s k };
-      costs = costs-here;
+      left_is = λ C e K L N. record { at = λ s k. B.copied.at s k ∙ cost_at C e K L N s k };
+      costs = costs_here;
     }
 
-pub settle-end : {blocks : ℕ} {ends blank last old new behind : List ℕ} {b : ℕ} → RowCopied ends blank last mostStates
+pub settle_end : {blocks : ℕ} {ends blank last old new behind : List ℕ} {b : ℕ} → RowCopied ends blank last most_states
     → InSettle blocks last old new behind b → b ≤ 0 → Settled blocks ends old new
-settle-end {new = new} {b = b} R I h =
+settle_end {new = new} {b = b} R I h =
     let z : b ≡ 0 = omega arith in
     record {
       long = I.long;
       kept = I.kept;
-      costs = λ C e K E N. subst (λ c. CostsFrom C c new) z (I.costs C e K (last-is e E R) N);
+      costs = λ C e K E N. subst (λ c. CostsFrom C c new) z (I.costs C e K (last_is e E R) N);
     }

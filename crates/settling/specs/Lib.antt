@@ -1,2 +1,2 @@
 -- Notes turned into costs.
-pub mod inner
+pub mod Inner

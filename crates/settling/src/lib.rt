@@ -1,11 +1,11 @@
 // The notes of the cost table turned into costs, from the last block to the first: the costs behind a block are known, and a note has the
 // remainder of the cost before it.
 ghost use Rattle.std.specs.Prelude.{◌≡◌, ◌*◌, ◌<◌, length};
-ghost use Rattle.trellis.specs.Bounds.{mostStates};
-ghost use Rattle.trellis.specs.Layout.{vertexCountOf};
-ghost use Rattle.paths.specs.inner.Ranked.{labelUnit};
-ghost use Rattle.section_file.specs.inner.Sound.{Sound};
-ghost use Rattle.settling.specs.inner.Settled.{RowFits, RootsSettled, RowCopied, BlockSettled, Settling, Settled};
+ghost use Rattle.trellis.specs.Bounds.{most_states};
+ghost use Rattle.trellis.specs.Layout.{vertex_count_of};
+ghost use Rattle.paths.specs.Inner.Ranked.{label_unit};
+ghost use Rattle.section_file.specs.Inner.Sound.{Sound};
+ghost use Rattle.settling.specs.Inner.Settled.{RowFits, RootsSettled, RowCopied, BlockSettled, Settling, Settled};
 
 use numbers::{wide, widened};
 use passes::NO_PATH;
@@ -17,7 +17,7 @@ use trellis::{COSTS_A_BLOCK, MOST_SECTIONS};
 fn settle_roots(l: &[u16], behind: &[u32; GOALS], row: &mut [u32])
     requires { Sound l.now × RowFits behind.now row.old }
     ensures { RootsSettled l.now behind.now row.old row.new
-        (vertexCountOf l.now 0) }
+        (vertex_count_of l.now 0) }
 {
     let roots = 4 + 2 * wide(l[1]);
     let count = wide(l[3]);
@@ -30,8 +30,8 @@ fn settle_roots(l: &[u16], behind: &[u32; GOALS], row: &mut [u32])
 }
 
 fn copy_row(row: &[u32], place: &mut [u32; GOALS])
-    requires { (length row.now ≡ mostStates) × (length place.old ≡ labelUnit) }
-    ensures { RowCopied row.now place.old place.new mostStates }
+    requires { (length row.now ≡ most_states) × (length place.old ≡ label_unit) }
+    ensures { RowCopied row.now place.old place.new most_states }
 {
     let mut s: usize = 0;
     while s < COSTS_A_BLOCK {

@@ -6,72 +6,72 @@ use Prim.Native.Nat.{ℕ, ◌≤◌}
 use native.Mathlib.Omega.{arith}
 use lib.ListN.{length, take}
 use borrow.Author.Tests.{eq-eqb, ne_eqb}
-use Rattle.trellis.specs.Bounds.{mostBlocks}
-use Rattle.answers.specs.Answers.{listedOutcome}
+use Rattle.trellis.specs.Bounds.{most_blocks}
+use Rattle.answers.specs.Answers.{listed_outcome}
 use Rattle.answers.specs.declared.listing.Listed.{Listed}
 use Rattle.answers.specs.declared.listing.Listed.TheVariants.{Text}
-use Rattle.text.specs.inner.Put.{Put}
-use Rattle.lines.specs.Text.{refusalLine}
-use Rattle.text_buffer.specs.Listing.{Listing, left, inBuffer}
-use Rattle.listing.proofs.Short.{line-of-few}
-use Rattle.listing.proofs.Outcomes.{taken-whole, written-inside}
+use Rattle.text.specs.Inner.Put.{Put}
+use Rattle.lines.specs.Text.{refusal_line}
+use Rattle.text_buffer.specs.Listing.{Listing, left, in_buffer}
+use Rattle.listing.proofs.Short.{line_of_few}
+use Rattle.listing.proofs.Outcomes.{taken_whole, written_inside}
 use Rattle.records.specs.declared.BlockRecord.{BlockRecord}
-use Rattle.input_parts.specs.Input.{inputBlocks, inputOutcome}
-use Rattle.input_parts.specs.inner.Read.{Read}
-use Rattle.input_parts.proofs.Head.{few-sections}
-use Rattle.sheet_input.proofs.Right.{InputRight, input-right, index_below}
-use Rattle.sheet_records.specs.Sheet.{recordsOf, sheetLines, sheetText, sheet}
-use Rattle.sheet_records.specs.inner.Made.{Drawn, Holding, anySheet, SheetMade}
-use Rattle.sheet.proofs.Short.{few-blocks, sheet-short}
+use Rattle.input_parts.specs.Input.{input_blocks, input_outcome}
+use Rattle.input_parts.specs.Inner.Read.{Read}
+use Rattle.input_parts.proofs.Head.{few_sections_lem}
+use Rattle.sheet_input.proofs.Right.{InputRight, input_right, index_below_lem}
+use Rattle.sheet_records.specs.Sheet.{records_of, sheet_lines, sheet_text, sheet}
+use Rattle.sheet_records.specs.Inner.Made.{Drawn, Holding, any_sheet, SheetMade}
+use Rattle.sheet.proofs.Short.{few_blocks_lem, sheet_short}
 
 module _ (input : List ℕ) {number count : ℕ} {values added selected : List ℕ} (R : Read input number count values added selected) where
-  number_is : number ≡ (inputOutcome input).number
-  number_is = R.outcomeIs.holds.numberIs
+  number_is_lem : number ≡ (input_outcome input).number
+  number_is_lem = R.outcome_is.holds.number_is
 
-  pub made-refused : (number ≡ 0 → ⊥) → {old new : List ℕ} {end : ℕ} → Put old 0 (refusalLine (inputOutcome input)) new end
+  pub made_refused : (number ≡ 0 → ⊥) → {old new : List ℕ} {end : ℕ} → Put old 0 (refusal_line (input_outcome input)) new end
       → SheetMade input old new end
-  unfolding sheetText
-  made-refused h {old} {new} {end} p =
-      let e : sheetText input ≡ refusalLine (inputOutcome input) = simp (ne_eqb (inputOutcome input).number 0 (λ z. h (number_is ∙ z))) in
-      let few : length (inputOutcome input).values ≤ 4 = omega (arith, R.outcomeIs.holds.countIs, R.outcomeIs.holds.few) in
+  unfolding sheet_text
+  made_refused h {old} {new} {end} p =
+      let e : sheet_text input ≡ refusal_line (input_outcome input) = simp (ne_eqb (input_outcome input).number 0 (λ z. h (number_is_lem ∙ z))) in
+      let few : length (input_outcome input).values ≤ 4 = omega (arith, R.outcome_is.holds.count_is, R.outcome_is.holds.few) in
       record {
         put = subst (λ t. Put old 0 t new end) (sym e) p;
-        short = omega (arith, ap length e, line-of-few (inputOutcome input) R.outcomeIs.small few);
+        short = omega (arith, ap length e, line_of_few (input_outcome input) R.outcome_is.small few);
       }
 
   module _ (none : number ≡ 0) where
     right : InputRight input
-    right = input-right input (sym number_is ∙ none)
+    right = input_right input (sym number_is_lem ∙ none)
 
-    pub few-asked : {blocks : ℕ} → blocks ≡ inputBlocks input → blocks ≤ mostBlocks
-    few-asked b-is = omega (arith, b-is, few-blocks input right)
+    pub few_asked : {blocks : ℕ} → blocks ≡ input_blocks input → blocks ≤ most_blocks
+    few_asked b_is = omega (arith, b_is, few_blocks_lem input right)
 
-    pub drawn : {blocks : ℕ} → blocks ≡ inputBlocks input → Drawn input blocks added selected
-    drawn b-is = record {
-      blocksAre = b-is;
-      fewBlocks = few-asked b-is;
-      fewSections = few-sections input right.head;
-      indicesBelow = λ b h. index_below input right.head b (omega (arith, b-is));
+    pub drawn : {blocks : ℕ} → blocks ≡ input_blocks input → Drawn input blocks added selected
+    drawn b_is = record {
+      blocks_are = b_is;
+      few_blocks = few_asked b_is;
+      few_sections = few_sections_lem input right.head;
+      indices_below = λ b h. index_below_lem input right.head b (omega (arith, b_is));
       costs = R.costs none;
     }
 
-    pub blocks-inside : {blocks : ℕ} {items : List BlockRecord} → blocks ≡ inputBlocks input → Holding (recordsOf input) blocks items
+    pub blocks_inside : {blocks : ℕ} {items : List BlockRecord} → blocks ≡ input_blocks input → Holding (records_of input) blocks items
         → blocks ≤ length items
-    blocks-inside b-is H = omega (arith, few-asked b-is, H.places)
+    blocks_inside b_is H = omega (arith, few_asked b_is, H.places)
 
-    pub made-lines : {old new : List ℕ} {end : ℕ} → Put old 0 (sheetLines (recordsOf input)) new end → SheetMade input old new end
-    unfolding sheetText
-    made-lines {old} {new} {end} p =
-        let e : sheetText input ≡ sheetLines (recordsOf input) = simp (eq-eqb (inputOutcome input).number 0 (sym number_is ∙ none)) in
-        record { put = subst (λ t. Put old 0 t new end) (sym e) p; short = omega (arith, ap length e, sheet-short input right) }
+    pub made_lines : {old new : List ℕ} {end : ℕ} → Put old 0 (sheet_lines (records_of input)) new end → SheetMade input old new end
+    unfolding sheet_text
+    made_lines {old} {new} {end} p =
+        let e : sheet_text input ≡ sheet_lines (records_of input) = simp (eq-eqb (input_outcome input).number 0 (sym number_is_lem ∙ none)) in
+        record { put = subst (λ t. Put old 0 t new end) (sym e) p; short = omega (arith, ap length e, sheet_short input right) }
 
-pub copied : (input text : List ℕ) {old made : List ℕ} {end : ℕ} → SheetMade input old made end → anySheet ≤ length old → {l : Listing}
-    → l ≡ inBuffer (take end made) text → l ≡ sheet input text
+pub copied : (input text : List ℕ) {old made : List ℕ} {end : ℕ} → SheetMade input old made end → any_sheet ≤ length old → {l : Listing}
+    → l ≡ in_buffer (take end made) text → l ≡ sheet input text
 unfolding sheet
-copied input text M room e = e ∙ taken-whole M.put (omega (arith, M.short)) text
+copied input text M room e = e ∙ taken_whole M.put (omega (arith, M.short)) text
 
 -- what callers know: a sheet that was written stands in the buffer
-pub sheet-inside : (input text : List ℕ) {new : List ℕ} {r : Listed} {k : ℕ}
-    → left (listedOutcome r) new ≡ sheet input text → r ≡ Text k → k ≤ length new
+pub sheet_inside : (input text : List ℕ) {new : List ℕ} {r : Listed} {k : ℕ}
+    → left (listed_outcome r) new ≡ sheet input text → r ≡ Text k → k ≤ length new
 unfolding sheet
-sheet-inside input text e f = written-inside (sheetText input) text e f
+sheet_inside input text e f = written_inside (sheet_text input) text e f

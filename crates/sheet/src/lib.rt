@@ -2,10 +2,10 @@
 // The records are made first, and the lines and the sums come from them. The promise is an equation with `sheet`, whose text comes from the
 // input alone, with no buffer in it.
 ghost use Rattle.std.specs.Prelude.{◌≡◌, length};
-ghost use Rattle.answers.specs.Answers.{listedOutcome};
+ghost use Rattle.answers.specs.Answers.{listed_outcome};
 ghost use Rattle.text_buffer.specs.Listing.{left};
 ghost use Rattle.sheet_records.specs.Sheet.{sheet};
-ghost use Rattle.sheet_records.specs.inner.Made.{SheetMade};
+ghost use Rattle.sheet_records.specs.Inner.Made.{SheetMade};
 
 use answers::listing::Listed;
 use input_parts::block_count;
@@ -36,7 +36,7 @@ fn put_sheet(input: &[u8], text: &mut [u8]) -> usize
 
 // Writes the block sheet of `input`, or the line of its refusal, to the front of `text`.
 pub fn block_sheet(input: &[u8], text: &mut [u8]) -> Listed
-    ensures { left (listedOutcome result) text.new ≡ sheet input.now text.old }
+    ensures { left (listed_outcome result) text.new ≡ sheet input.now text.old }
 {
     let mut made = [0u8; ANY_SHEET];
     let length = put_sheet(input, &mut made);

@@ -7,111 +7,111 @@ use native.Mathlib.Omega.{arith}
 use native.Mathlib.Nat.{le_of_eq}
 use lib.ListN.{length, replicate, length-replicate}
 use borrow.Author.Tests.{lt-ltb, le-ltb}
-use Rattle.trellis.specs.Bounds.{mostSymbols, mostWords}
+use Rattle.trellis.specs.Bounds.{most_symbols, most_words}
 use Rattle.trellis.specs.Word.{Word}
 use Rattle.trellis.specs.Witness.{Witness, found, nothing, witness}
 use Rattle.trellis.specs.Outcome.{Outcome, outcome}
-use Rattle.trellis.specs.Layout.{sectionOf}
-use Rattle.outcomes.specs.inner.Holds.{Holds}
+use Rattle.trellis.specs.Layout.{section_of}
+use Rattle.outcomes.specs.Inner.Holds.{Holds}
 use Rattle.outcomes.proofs.Held.{holds_by}
-use Rattle.answers.specs.Answers.{mergedOutcome}
+use Rattle.answers.specs.Answers.{merged_outcome}
 use Rattle.answers.specs.declared.merge.Merged.{Merged}
-use Rattle.table.specs.File.{TableFile, refused, accepted, tableFile}
-use Rattle.table.proofs.Accepted.{accepted-good}
-use Rattle.merging.specs.Merging.{mapLength, written, merged, mergedTable, mergedFile, merging}
-use Rattle.merging.specs.inner.Sizes.{sizedBy, sizedTable, sizedFile, sizing, Measured as Sized}
-use Rattle.text.specs.inner.Digits.{AllBelow}
-use Rattle.listing.proofs.Room.{anyMap, long-enough}
-use Rattle.listing.proofs.Refusals.{Small, witness-refusal, file-refusal}
-use Rattle.listing.proofs.Merged.{counts-inside, additions-over, selections-over}
-use Rattle.input_parts.specs.Input.{anyTable, witnessOutcome, tableOutcome, sectionIn}
-use Rattle.input_parts.specs.inner.Read.{additionsOf, selectionsOf, TableMeasured}
-use Rattle.input_parts.proofs.Head.{told-by, told_none}
+use Rattle.table.specs.File.{TableFile, refused, accepted, table_file}
+use Rattle.table.proofs.Accepted.{accepted_good}
+use Rattle.merging.specs.Merging.{map_length, written, merged, merged_table, merged_file, merging}
+use Rattle.merging.specs.Inner.Sizes.{sized_by, sized_table, sized_file, sizing, Measured as Sized}
+use Rattle.text.specs.Inner.Digits.{AllBelow}
+use Rattle.listing.proofs.Room.{any_map, long_enough}
+use Rattle.listing.proofs.Refusals.{Small, witness_refusal, file_refusal}
+use Rattle.listing.proofs.Merged.{counts_inside, additions_over, selections_over}
+use Rattle.input_parts.specs.Input.{any_table, witness_outcome, table_outcome, section_in}
+use Rattle.input_parts.specs.Inner.Read.{additions_of, selections_of, TableMeasured}
+use Rattle.input_parts.proofs.Head.{told_by, told_none}
 
 -- an answer of measuring, and the sizes that it leaves
 record Answers (f : TableFile) (o : Outcome) (sizes : List ℕ) : Type 0 where
-  refusedIs : (o.number ≡ 7 → ⊥) → o ≡ tableOutcome f
+  refused_is : (o.number ≡ 7 → ⊥) → o ≡ table_outcome f
   small : (o.number ≡ 7 → ⊥) → AllBelow 6 (o.number ∷ o.values)
   some : 0 < o.number
-  acceptedIs : o.number ≡ 7 → tableOutcome f ≡ outcome 0 []
-  additionsAre : o.number ≡ 7 → additionsOf sizes ≡ additionsOf (sectionIn f)
-  selectionsAre : o.number ≡ 7 → selectionsOf sizes ≡ selectionsOf (sectionIn f)
+  accepted_is : o.number ≡ 7 → table_outcome f ≡ outcome 0 []
+  additions_are : o.number ≡ 7 → additions_of sizes ≡ additions_of (section_in f)
+  selections_are : o.number ≡ 7 → selections_of sizes ≡ selections_of (section_in f)
 
 module _ (map sizes : List ℕ) where
-  module _ (q n states : ℕ) (table : List Word) (few-symbols : n ≤ mostSymbols) (few_words : length table ≤ mostWords) where
-    by-witness : (w : Witness) → witness n table ≡ w
-        → Answers (accepted q n states table) (merged q n states table map [] w).answer (sizedBy q n states table sizes w)
-    unfolding merged written sizedBy
-    by-witness (found t i j k) e = record {
-      refusedIs = λ h. sym (ap witnessOutcome e);
-      small = λ h. (witness-refusal n table few-symbols few_words t i j k e).small;
+  module _ (q n states : ℕ) (table : List Word) (few_symbols : n ≤ most_symbols) (few_words : length table ≤ most_words) where
+    by_witness : (w : Witness) → witness n table ≡ w
+        → Answers (accepted q n states table) (merged q n states table map [] w).answer (sized_by q n states table sizes w)
+    unfolding merged written sized_by
+    by_witness (found t i j k) e = record {
+      refused_is = λ h. sym (ap witness_outcome e);
+      small = λ h. (witness_refusal n table few_symbols few_words t i j k e).small;
       some = omega arith;
-      acceptedIs = λ h. absurd (omega arith);
-      additionsAre = λ h. absurd (omega arith);
-      selectionsAre = λ h. absurd (omega arith);
+      accepted_is = λ h. absurd (omega arith);
+      additions_are = λ h. absurd (omega arith);
+      selections_are = λ h. absurd (omega arith);
     }
-    by-witness nothing e =
-        simp (lt-ltb 0 (length (sectionOf q n states table)) (omega (arith, counts-inside q n states table)))
+    by_witness nothing e =
+        simp (lt-ltb 0 (length (section_of q n states table)) (omega (arith, counts_inside q n states table)))
         (record {
-          refusedIs = λ h. absurd (h refl);
+          refused_is = λ h. absurd (h refl);
           small = λ h. absurd (h refl);
           some = omega arith;
-          acceptedIs = λ h. ap witnessOutcome e;
-          additionsAre = λ h. additions-over q n states table sizes;
-          selectionsAre = λ h. selections-over q n states table sizes;
+          accepted_is = λ h. ap witness_outcome e;
+          additions_are = λ h. additions_over q n states table sizes;
+          selections_are = λ h. selections_over q n states table sizes;
         })
 
-    by-table : mapLength n table ≤ length map
-        → Answers (accepted q n states table) (mergedTable q n states table map []).answer (sizedTable q n states table map sizes)
-    unfolding mergedTable sizedTable
-    by-table room = simp (le-ltb (length map) (mapLength n table) room) (by-witness (witness n table) refl)
+    by_table : map_length n table ≤ length map
+        → Answers (accepted q n states table) (merged_table q n states table map []).answer (sized_table q n states table map sizes)
+    unfolding merged_table sized_table
+    by_table room = simp (le-ltb (length map) (map_length n table) room) (by_witness (witness n table) refl)
 
-  module _ (map-long : anyMap ≤ length map) (file : List ℕ) (short : Small (length file)) where
-    by-file : (f : TableFile) → tableFile file ≡ f → Answers f (mergedFile map [] f).answer (sizedFile map sizes f)
-    unfolding mergedFile sizedFile
-    by-file (refused o) e =
-        let R = file-refusal file short e in
+  module _ (map_long : any_map ≤ length map) (file : List ℕ) (short : Small (length file)) where
+    by_file : (f : TableFile) → table_file file ≡ f → Answers f (merged_file map [] f).answer (sized_file map sizes f)
+    unfolding merged_file sized_file
+    by_file (refused o) e =
+        let R = file_refusal file short e in
         record {
-          refusedIs = λ h. refl;
+          refused_is = λ h. refl;
           small = λ h. R.small;
           some = R.some;
-          acceptedIs = λ h. absurd (omega (arith, R.low));
-          additionsAre = λ h. absurd (omega (arith, R.low));
-          selectionsAre = λ h. absurd (omega (arith, R.low));
+          accepted_is = λ h. absurd (omega (arith, R.low));
+          additions_are = λ h. absurd (omega (arith, R.low));
+          selections_are = λ h. absurd (omega (arith, R.low));
         }
-    by-file (accepted q n states table) e =
-        let G = accepted-good file e in
-        by-table q n states table G.nTo G.count_to (omega (arith, (long-enough file e).0))
+    by_file (accepted q n states table) e =
+        let G = accepted_good file e in
+        by_table q n states table G.n_to G.count_to (omega (arith, (long_enough file e).0))
 
-    answers : Answers (tableFile file) (merging file map []).answer (sizing file map sizes)
+    answers : Answers (table_file file) (merging file map []).answer (sizing file map sizes)
     unfolding merging sizing
-    answers = by-file (tableFile file) refl
+    answers = by_file (table_file file) refl
 
-module _ (file : List ℕ) {r : Merged} {map none sizes : List ℕ} (short : length file ≤ anyTable)
-    (M : Sized file (replicate anyMap 0) none r map sizes) {number count : ℕ} {values : List ℕ}
-    (H : Holds (mergedOutcome r) number count values) where
-  abbrev of-file : Answers (tableFile file) (merging file (replicate anyMap 0) []).answer (sizing file (replicate anyMap 0) none)
-  of-file = answers (replicate anyMap 0) none (le_of_eq (sym (length-replicate {A = ℕ} anyMap 0))) file (omega arith)
+module _ (file : List ℕ) {r : Merged} {map none sizes : List ℕ} (short : length file ≤ any_table)
+    (M : Sized file (replicate any_map 0) none r map sizes) {number count : ℕ} {values : List ℕ}
+    (H : Holds (merged_outcome r) number count values) where
+  abbrev of_file : Answers (table_file file) (merging file (replicate any_map 0) []).answer (sizing file (replicate any_map 0) none)
+  of_file = answers (replicate any_map 0) none (le_of_eq (sym (length-replicate {A = ℕ} any_map 0))) file (omega arith)
 
-  number_is : number ≡ (merging file (replicate anyMap 0) []).answer.number
-  number_is = H.numberIs ∙ ap (λ (o : Outcome). o.number) M.answerIs
+  number_is_lem : number ≡ (merging file (replicate any_map 0) []).answer.number
+  number_is_lem = H.number_is ∙ ap (λ (o : Outcome). o.number) M.answer_is
 
-  pub measured-refused : (number ≡ 7 → ⊥) → TableMeasured (tableFile file) number count values 0 0
-  measured-refused h =
-      let n : (merging file (replicate anyMap 0) []).answer.number ≡ 7 → ⊥ = λ e. h (number_is ∙ e) in
+  pub measured_refused : (number ≡ 7 → ⊥) → TableMeasured (table_file file) number count values 0 0
+  measured_refused h =
+      let n : (merging file (replicate any_map 0) []).answer.number ≡ 7 → ⊥ = λ e. h (number_is_lem ∙ e) in
       record {
-        outcomeIs = told-by (sym (of-file.refusedIs n)) (record { holds = holds_by (sym M.answerIs) H; small = of-file.small n });
-        additionsAre = λ z. absurd (omega (arith, of-file.some, number_is));
-        selectionsAre = λ z. absurd (omega (arith, of-file.some, number_is));
+        outcome_is = told_by (sym (of_file.refused_is n)) (record { holds = holds_by (sym M.answer_is) H; small = of_file.small n });
+        additions_are = λ z. absurd (omega (arith, of_file.some, number_is_lem));
+        selections_are = λ z. absurd (omega (arith, of_file.some, number_is_lem));
       }
 
-  pub measured-accepted : number ≡ 7 → {number' count' added selected : ℕ} {values' : List ℕ} → Holds (outcome 0 []) number' count' values'
-      → added ≡ additionsOf sizes → selected ≡ selectionsOf sizes
-      → TableMeasured (tableFile file) number' count' values' added selected
-  measured-accepted e h a s =
-      let seven : (merging file (replicate anyMap 0) []).answer.number ≡ 7 = sym number_is ∙ e in
+  pub measured_accepted : number ≡ 7 → {number' count' added selected : ℕ} {values' : List ℕ} → Holds (outcome 0 []) number' count' values'
+      → added ≡ additions_of sizes → selected ≡ selections_of sizes
+      → TableMeasured (table_file file) number' count' values' added selected
+  measured_accepted e h a s =
+      let seven : (merging file (replicate any_map 0) []).answer.number ≡ 7 = sym number_is_lem ∙ e in
       record {
-        outcomeIs = told_none (of-file.acceptedIs seven) h;
-        additionsAre = λ z. a ∙ ap additionsOf M.sizesAre ∙ of-file.additionsAre seven;
-        selectionsAre = λ z. s ∙ ap selectionsOf M.sizesAre ∙ of-file.selectionsAre seven;
+        outcome_is = told_none (of_file.accepted_is seven) h;
+        additions_are = λ z. a ∙ ap additions_of M.sizes_are ∙ of_file.additions_are seven;
+        selections_are = λ z. s ∙ ap selections_of M.sizes_are ∙ of_file.selections_are seven;
       }

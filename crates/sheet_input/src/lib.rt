@@ -1,9 +1,9 @@
 // The tables of a block sheet's input, each measured once. `read` checks the input in document 02's order; it answers by the first fault,
 // or by what each section costs.
 ghost use Rattle.std.specs.Prelude.{◌≡◌, ◌≤◌, length};
-ghost use Rattle.table.specs.File.{tableFile};
-ghost use Rattle.input_parts.specs.Input.{anyTable, mostInput};
-ghost use Rattle.input_parts.specs.inner.Read.{HeadPassed, TableMeasured, Read};
+ghost use Rattle.table.specs.File.{table_file};
+ghost use Rattle.input_parts.specs.Input.{any_table, most_input};
+ghost use Rattle.input_parts.specs.Inner.Read.{HeadPassed, TableMeasured, Read};
 
 use input_parts::{block_count, check_head, left_over, part_length, section_count};
 use listing::ANY_MAP;
@@ -20,7 +20,7 @@ const MOST_INPUT: usize = 3 + MOST_BLOCKS + (MOST_SECTIONS - 1) * (5 + 4 * MOST_
 
 // A buffer for a program that reads its input: what does not fit changes no answer.
 pub fn input_buffer() -> [u8; MOST_INPUT]
-    ensures { length result ≡ mostInput }
+    ensures { length result ≡ most_input }
 {
     [0; MOST_INPUT]
 }
@@ -35,8 +35,8 @@ struct Table {
 
 // Measuring answers a table that has a section by 7: no buffer was lent for it. The map is long enough for every table.
 fn measure(file: &[u8]) -> Table
-    requires { length file.now ≤ anyTable }
-    ensures { TableMeasured (tableFile file.now) result.refusal.number result.refusal.count result.refusal.values
+    requires { length file.now ≤ any_table }
+    ensures { TableMeasured (table_file file.now) result.refusal.number result.refusal.count result.refusal.values
         result.additions result.selections }
 {
     let mut map = [0u16; ANY_MAP];

@@ -1,9 +1,9 @@
 // The lines of a block sheet: one for each record, and one of their sums.
 ghost use mathlib.Core.List.{flat_map};
 ghost use Rattle.std.specs.Prelude.{◌≤◌, length, take};
-ghost use Rattle.trellis.specs.Bounds.{mostBlocks};
-ghost use Rattle.text.specs.inner.Put.{Put};
-ghost use Rattle.sheet_records.specs.Sheet.{block_line, totalLine};
+ghost use Rattle.trellis.specs.Bounds.{most_blocks};
+ghost use Rattle.text.specs.Inner.Put.{Put};
+ghost use Rattle.sheet_records.specs.Sheet.{block_line, total_line};
 
 use records::{BlockRecord, Counted, count_first};
 use text::put_line;
@@ -42,8 +42,8 @@ pub fn put_total(
     items: [BlockRecord; MOST_BLOCKS],
     blocks: usize,
 ) -> usize
-    requires { (blocks ≤ length items) × (blocks ≤ mostBlocks) }
-    ensures { Put text.old at (totalLine (take blocks items)) text.new result }
+    requires { (blocks ≤ length items) × (blocks ≤ most_blocks) }
+    ensures { Put text.old at (total_line (take blocks items)) text.new result }
 {
     match count_first(items, blocks) {
         Counted::Totals(sums) => {

@@ -1,3 +1,3 @@
 -- The block sheet.
 pub mod Sheet
-pub mod inner
+pub mod Inner

@@ -1,9 +1,9 @@
 // The records of the blocks of a frame, from the input of a block sheet and both costs of each section.
-ghost use Rattle.sheet_records.specs.Sheet.{recordsOf};
-ghost use Rattle.sheet_records.specs.inner.Made.{Drawn, Holding};
+ghost use Rattle.sheet_records.specs.Sheet.{records_of};
+ghost use Rattle.sheet_records.specs.Inner.Made.{Drawn, Holding};
 
 use input_parts::section_index;
-use records::BlockRecord;
+use records::Block_record;
 use trellis::{MOST_BLOCKS, MOST_SECTIONS};
 
 // The records of the blocks, in front; the places behind them are not used.
@@ -19,7 +19,7 @@ pub fn make_records(
     selections: [u32; MOST_SECTIONS],
 ) -> Records
     requires { Drawn input.now blocks additions selections }
-    ensures { Holding (recordsOf input.now) blocks result.items }
+    ensures { Holding (records_of input.now) blocks result.items }
 {
     let mut items = [BlockRecord {
         index: 0,

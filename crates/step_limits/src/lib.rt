@@ -1,14 +1,14 @@
 // One step made with a limit first, and again without where fewer than k are within it.
 ghost use Rattle.std.specs.Prelude.{◌≡◌, ◌<◌, ◌≤◌, length, take};
 ghost use mathlib.Core.List.{flat_map};
-ghost use Rattle.trellis.specs.Bounds.{mostPaths, mostWords};
+ghost use Rattle.trellis.specs.Bounds.{most_paths, most_words};
 ghost use Rattle.trellis.specs.Lists.{run};
 ghost use Rattle.paths.specs.Chain.{unreached};
-ghost use Rattle.dearest.specs.inner.Items.{Kept};
-ghost use Rattle.edges.specs.inner.Edges.{edgeIn};
-ghost use Rattle.whole_section.specs.inner.StepAt.{StepEdges};
-ghost use Rattle.one_step.specs.inner.Steps.{candidates};
-ghost use Rattle.one_step.specs.inner.Loops.{StepRoom, isEnough, Stepped};
+ghost use Rattle.dearest.specs.Inner.Items.{Kept};
+ghost use Rattle.edges.specs.Inner.Edges.{edge_in};
+ghost use Rattle.whole_section.specs.Inner.StepAt.{StepEdges};
+ghost use Rattle.one_step.specs.Inner.Steps.{candidates};
+ghost use Rattle.one_step.specs.Inner.Loops.{StepRoom, is_enough, Stepped};
 
 use dearest::cost_of;
 use kept::Held;
@@ -22,7 +22,7 @@ pub const NONE_ABOVE: u64 = NO_PATH as u64 - 1;
 
 // Whether nothing that a limit left out can be among the k best: k are kept within it, or it leaves nothing out.
 fn is_enough(count: usize, k: usize, limit: u64) -> bool
-    ensures { result ≡ isEnough count k limit }
+    ensures { result ≡ is_enough count k limit }
 {
     if count == k {
         return true;
@@ -47,9 +47,9 @@ pub fn keep_step(
     items: &mut [u64; MOST_PATHS],
 ) -> Held
     requires { StepEdges pairs.now symbols.now edges × StepRoom k t rows.now prices.now × (have ≤ k)
-        × (length old.now ≡ mostPaths) × (length items.old ≡ mostPaths) × (each ≤ mostWords) × (limit < unreached) }
+        × (length old.now ≡ most_paths) × (length items.old ≡ most_paths) × (each ≤ most_words) × (limit < unreached) }
     ensures { Stepped k (flat_map (candidates rows.now prices.now t
-        (run (edgeIn pairs.now symbols.now) 0 edges)) (take have old.now))
+        (run (edge_in pairs.now symbols.now) 0 edges)) (take have old.now))
         items.new result.count result.worst }
 {
     let mut bound = limit;
@@ -66,7 +66,7 @@ pub fn keep_step(
 
 // The limit of the next step: where k items are kept, what the dearest of them costs.
 pub fn limit_of(items: &[u64; MOST_PATHS], k: usize, held: Held) -> u64
-    requires { Kept k items.now held.count held.worst × (k ≤ mostPaths) }
+    requires { Kept k items.now held.count held.worst × (k ≤ most_paths) }
     ensures { result < unreached }
 {
     if held.count < k {

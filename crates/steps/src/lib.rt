@@ -1,13 +1,13 @@
 // The k best beginnings through one section, step by step over its edges: each goes on along every edge that leaves its vertex, and of all
 // that come the k are kept that cost least in the end, in the order in which they came, which is word order.
 ghost use Rattle.std.specs.Prelude.{◌≡◌, ◌<◌, ◌≤◌, length};
-ghost use Rattle.trellis.specs.Bounds.{mostPaths};
-ghost use Rattle.trellis.specs.Layout.{n_of, stepEdges};
+ghost use Rattle.trellis.specs.Bounds.{most_paths};
+ghost use Rattle.trellis.specs.Layout.{n_of, step_edges};
 ghost use Rattle.paths.specs.Chain.{unreached};
-ghost use Rattle.paths.specs.inner.Ranked.{PriceRoom};
-ghost use Rattle.section_file.specs.inner.View.{Seen};
-ghost use Rattle.least_rows.specs.inner.Rows.{rowsLong};
-ghost use Rattle.one_step.specs.inner.Loops.{Gone};
+ghost use Rattle.paths.specs.Inner.Ranked.{PriceRoom};
+ghost use Rattle.section_file.specs.Inner.View.{Seen};
+ghost use Rattle.least_rows.specs.Inner.Rows.{rows_long};
+ghost use Rattle.one_step.specs.Inner.Loops.{Gone};
 
 use edge_search::edges_each;
 use least_rows::ROWS;
@@ -34,9 +34,9 @@ pub fn keep_section(
     k: usize,
     items: &mut [u64; MOST_PATHS],
 ) -> Grown
-    requires { Seen l.now at × (0 < k) × (k ≤ mostPaths) × (have ≤ k) × (length rows.now ≡ rowsLong) × PriceRoom prices.now
-        × (length items.old ≡ mostPaths) × (limit < unreached) }
-    ensures { Gone (stepEdges l.now) rows.now prices.now k (n_of l.now) have
+    requires { Seen l.now at × (0 < k) × (k ≤ most_paths) × (have ≤ k) × (length rows.now ≡ rows_long) × PriceRoom prices.now
+        × (length items.old ≡ most_paths) × (limit < unreached) }
+    ensures { Gone (step_edges l.now) rows.now prices.now k (n_of l.now) have
         items.old items.new result.count × (result.limit < unreached) }
 {
     let n = at.n;

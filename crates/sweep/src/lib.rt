@@ -2,10 +2,10 @@
 // each vertex. Only two rows are kept, one for the even depths and one for the odd. What a symbol costs and what it costs to end in a
 // vertex are the caller's.
 ghost use Rattle.std.specs.Prelude.{◌≡◌, suc, ◌+◌, ◌*◌, length};
-ghost use Rattle.trellis.specs.Bounds.{mostWords};
-ghost use Rattle.section_file.specs.inner.View.{Seen};
-ghost use Rattle.lowering.specs.inner.Rows.{SweepAsked, Swept, side};
-ghost use Rattle.lowering.specs.inner.Loops.{RowAsked, RowDone};
+ghost use Rattle.trellis.specs.Bounds.{most_words};
+ghost use Rattle.section_file.specs.Inner.View.{Seen};
+ghost use Rattle.lowering.specs.Inner.Rows.{SweepAsked, Swept, side};
+ghost use Rattle.lowering.specs.Inner.Loops.{RowAsked, RowDone};
 
 use lowering::{clear, lower};
 use numbers::wide;
@@ -51,10 +51,10 @@ pub fn lower_side(
 )
     requires { Seen l.now at
         × RowAsked l.now t before prices.now (side (suc t) even.old odd.old) (side t even.old odd.old)
-        × (length even.old ≡ mostWords) × (length odd.old ≡ mostWords) }
+        × (length even.old ≡ most_words) × (length odd.old ≡ most_words) }
     ensures { RowDone l.now t prices.now (side (suc t) even.old odd.old)
         (side t even.new odd.new)
-        × (length even.new ≡ mostWords) × (length odd.new ≡ mostWords) }
+        × (length even.new ≡ most_words) × (length odd.new ≡ most_words) }
 {
     if t % 2 == 0 {
         lower_depth(l, at, t, before, prices, odd, even);

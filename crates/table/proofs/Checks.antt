@@ -8,140 +8,140 @@ use Prim.Native.Nat.{ℕ, zero, suc, ◌+◌, ◌-◌, ◌≤◌, ◌<◌}
 use native.Mathlib.Omega.{arith}
 use lib.ListN.{length}
 use borrow.Author.Tests.{lt-ltb, le-ltb}
-use Rattle.trellis.specs.Bounds.{mostStates, mostWords, leastQ, mostQ}
-use Rattle.trellis.specs.Label.{isLabel}
+use Rattle.trellis.specs.Bounds.{most_states, most_words, least_q, most_q}
+use Rattle.trellis.specs.Label.{is_label}
 use Rattle.trellis.specs.Word as trellis
 use Rattle.trellis.proofs.Lists.{length_run}
-use Rattle.fields.specs.Fields.{byte_at, wordCount, fileWord, fileWords, lengthBad}
-use Rattle.fields.specs.inner.Answer.{heldWord, meantWord}
+use Rattle.fields.specs.Fields.{byte_at, word_count, file_word, file_words, length_bad}
+use Rattle.fields.specs.Inner.Answer.{held_word, meant_word}
 use Rattle.fields.specs.declared.Word.{Word}
-use Rattle.table.specs.File.{outside, sizeOutside, wordOutside, wordBad, isBefore, orderBad, firstSize, firstBad, firstNotAbove}
-use Rattle.table.specs.File.{tableFile, fileOutcome}
-use Rattle.table.specs.inner.Answer.{checkedOutcome}
+use Rattle.table.specs.File.{outside, size_outside, word_outside, word_bad, is_before, order_bad, first_size, first_bad, first_not_above}
+use Rattle.table.specs.File.{table_file, file_outcome}
+use Rattle.table.specs.Inner.Answer.{checked_outcome}
 use Rattle.table.specs.declared.Checked.TheVariants.{Table, Length, Size, Word as BadWord, Order}
-use Rattle.table.proofs.Search.{Clear, clear-start, clear_next, clear-found, clear-all}
+use Rattle.table.proofs.Search.{Clear, clear_start, clear_next, clear_found, clear_all}
 
 -- ---- check 2
 
 module _ (file : List ℕ) where
-  pub q-outside : {b : Bool} → b ≡ outside (byte_at file 0) leastQ mostQ → b ≡ sizeOutside file 0
-  unfolding sizeOutside
-  q-outside e = e
+  pub q_outside : {b : Bool} → b ≡ outside (byte_at file 0) least_q most_q → b ≡ size_outside file 0
+  unfolding size_outside
+  q_outside e = e
 
-  pub n_outside : {b : Bool} → b ≡ outside (byte_at file 1) 1 8 → b ≡ sizeOutside file 1
-  unfolding sizeOutside
+  pub n_outside : {b : Bool} → b ≡ outside (byte_at file 1) 1 8 → b ≡ size_outside file 1
+  unfolding size_outside
   n_outside e = e
 
-  pub states-outside : {b : Bool} → b ≡ outside (byte_at file 2) 1 mostStates → b ≡ sizeOutside file 2
-  unfolding sizeOutside
-  states-outside e = e
+  pub states_outside : {b : Bool} → b ≡ outside (byte_at file 2) 1 most_states → b ≡ size_outside file 2
+  unfolding size_outside
+  states_outside e = e
 
-  pub count-outside : {w : ℕ} {b : Bool} → w ≡ wordCount file → b ≡ outside w 1 mostWords → b ≡ sizeOutside file 3
-  unfolding sizeOutside
-  count-outside a e = e ∙ simp a
+  pub count_outside : {w : ℕ} {b : Bool} → w ≡ word_count file → b ≡ outside w 1 most_words → b ≡ size_outside file 3
+  unfolding size_outside
+  count_outside a e = e ∙ simp a
 
 -- ---- check 3
 
 module _ (q n S : ℕ) (w : trellis.Word) where
-  pub bad-root : S ≤ w.root → true ≡ wordOutside q n S w
-  unfolding wordOutside
-  bad-root h = simp (le-ltb _ _ h)
+  pub bad_root : S ≤ w.root → true ≡ word_outside q n S w
+  unfolding word_outside
+  bad_root h = simp (le-ltb _ _ h)
 
   module _ (h : w.root < S) where
-    pub bad-goal : S ≤ w.goal → true ≡ wordOutside q n S w
-    unfolding wordOutside
-    bad-goal k = simp (lt-ltb _ _ h, le-ltb _ _ k)
+    pub bad_goal : S ≤ w.goal → true ≡ word_outside q n S w
+    unfolding word_outside
+    bad_goal k = simp (lt-ltb _ _ h, le-ltb _ _ k)
 
-    pub by-label : {b : Bool} → w.goal < S → b ≡ isLabel q n w.label → not b ≡ wordOutside q n S w
-    unfolding wordOutside
-    by-label k e = simp (lt-ltb _ _ h, lt-ltb _ _ k, e)
+    pub by_label : {b : Bool} → w.goal < S → b ≡ is_label q n w.label → not b ≡ word_outside q n S w
+    unfolding word_outside
+    by_label k e = simp (lt-ltb _ _ h, lt-ltb _ _ k, e)
 
-pub word-bad-is : (file : List ℕ) (i : ℕ) {q n S : ℕ} {w : Word} {b : Bool} → q ≡ byte_at file 0 → n ≡ byte_at file 1 → S ≡ byte_at file 2
-    → w ≡ heldWord (fileWord file i) → b ≡ wordOutside q n S (meantWord w) → b ≡ wordBad file i
-unfolding wordBad
-word-bad-is file i d e f g h = h ∙ simp (d, e, f, g)
+pub word_bad_is : (file : List ℕ) (i : ℕ) {q n S : ℕ} {w : Word} {b : Bool} → q ≡ byte_at file 0 → n ≡ byte_at file 1 → S ≡ byte_at file 2
+    → w ≡ held_word (file_word file i) → b ≡ word_outside q n S (meant_word w) → b ≡ word_bad file i
+unfolding word_bad
+word_bad_is file i d e f g h = h ∙ simp (d, e, f, g)
 
 -- ---- check 4
 
 -- no word up to i is bad, and w is the word before i
 pub record Ascending (file : List ℕ) (w : Word) (i : ℕ) : Type 0 where
-  pub clear : Clear (orderBad file) (wordCount file) i
+  pub clear : Clear (order_bad file) (word_count file) i
   pub some : 0 < i
-  pub last : w ≡ heldWord (fileWord file (i - 1))
+  pub last : w ≡ held_word (file_word file (i - 1))
 
-pub no_words : (file : List ℕ) {m : ℕ} → m ≡ wordCount file → m ≡ 0 → 0 ≡ firstNotAbove file
-no_words file d e = clear-all clear-start (omega arith)
+pub no_words : (file : List ℕ) {m : ℕ} → m ≡ word_count file → m ≡ 0 → 0 ≡ first_not_above file
+no_words file d e = clear_all clear_start (omega arith)
 
-order-bad-is : (file : List ℕ) (i : ℕ) {v w : Word} {b : Bool} → 0 < i → v ≡ heldWord (fileWord file (i - 1))
-    → w ≡ heldWord (fileWord file i)
-    → b ≡ isBefore (meantWord v) (meantWord w) → not b ≡ orderBad file i
-unfolding orderBad
-order-bad-is file zero h d e f = absurd (omega arith)
-order-bad-is file (suc i) h d e f = let q : suc i - 1 ≡ i = omega arith in simp (f, d, e, q)
+order_bad_is : (file : List ℕ) (i : ℕ) {v w : Word} {b : Bool} → 0 < i → v ≡ held_word (file_word file (i - 1))
+    → w ≡ held_word (file_word file i)
+    → b ≡ is_before (meant_word v) (meant_word w) → not b ≡ order_bad file i
+unfolding order_bad
+order_bad_is file zero h d e f = absurd (omega arith)
+order_bad_is file (suc i) h d e f = let q : suc i - 1 ≡ i = omega arith in simp (f, d, e, q)
 
 module _ {file : List ℕ} where
-  pub ascending-start : {w : Word} → 0 < wordCount file → w ≡ heldWord (fileWord file 0) → Ascending file w 1
-  unfolding orderBad
-  ascending-start h e = record { clear = clear_next clear-start h refl; some = omega arith; last = e }
+  pub ascending_start : {w : Word} → 0 < word_count file → w ≡ held_word (file_word file 0) → Ascending file w 1
+  unfolding order_bad
+  ascending_start h e = record { clear = clear_next clear_start h refl; some = omega arith; last = e }
 
-  pub ascending-next : {v w : Word} {i : ℕ} {b : Bool} → Ascending file v i → i < wordCount file → w ≡ heldWord (fileWord file i)
-      → b ≡ isBefore (meantWord v) (meantWord w) → not b ≡ false → Ascending file w (i + 1)
-  ascending-next {v} {w} {i} r h e f t = record {
-    clear = clear_next r.clear h (sym (order-bad-is file i r.some r.last e f) ∙ t);
+  pub ascending_next : {v w : Word} {i : ℕ} {b : Bool} → Ascending file v i → i < word_count file → w ≡ held_word (file_word file i)
+      → b ≡ is_before (meant_word v) (meant_word w) → not b ≡ false → Ascending file w (i + 1)
+  ascending_next {v} {w} {i} r h e f t = record {
+    clear = clear_next r.clear h (sym (order_bad_is file i r.some r.last e f) ∙ t);
     some = omega arith;
     last = let q : i + 1 - 1 ≡ i = omega arith in rw q e;
   }
 
-  pub ascending-found : {v w : Word} {i : ℕ} {b : Bool} → Ascending file v i → i < wordCount file → w ≡ heldWord (fileWord file i)
-      → b ≡ isBefore (meantWord v) (meantWord w) → not b ≡ true → i ≡ firstNotAbove file
-  ascending-found {v} {w} {i} r h e f t = clear-found r.clear h (sym (order-bad-is file i r.some r.last e f) ∙ t)
+  pub ascending_found : {v w : Word} {i : ℕ} {b : Bool} → Ascending file v i → i < word_count file → w ≡ held_word (file_word file i)
+      → b ≡ is_before (meant_word v) (meant_word w) → not b ≡ true → i ≡ first_not_above file
+  ascending_found {v} {w} {i} r h e f t = clear_found r.clear h (sym (order_bad_is file i r.some r.last e f) ∙ t)
 
-  pub ascending-all : {v : Word} {i : ℕ} → Ascending file v i → wordCount file ≤ i → i ≡ firstNotAbove file
-  ascending-all r h = clear-all r.clear h
+  pub ascending_all : {v : Word} {i : ℕ} → Ascending file v i → word_count file ≤ i → i ≡ first_not_above file
+  ascending_all r h = clear_all r.clear h
 
 -- ---- the ways out of `check`
 
-pub words-length : (file : List ℕ) → length (fileWords file) ≡ wordCount file
-unfolding fileWords
-words-length file = length_run (fileWord file) 0 (wordCount file)
+pub words_length : (file : List ℕ) → length (file_words file) ≡ word_count file
+unfolding file_words
+words_length file = length_run (file_word file) 0 (word_count file)
 
 -- checks 1 and 2 find nothing
 pub record SizesRight (file : List ℕ) : Type 0 where
-  pub lengthRight : lengthBad file ≡ false
-  pub inside : 4 ≤ firstSize file
+  pub length_right : length_bad file ≡ false
+  pub inside : 4 ≤ first_size file
 
 -- nor does check 3
 pub record WordsRight (file : List ℕ) : Type 0 where
   pub sizes : SizesRight file
-  pub right : wordCount file ≤ firstBad file
+  pub right : word_count file ≤ first_bad file
 
 module _ (file : List ℕ) where
-  pub out-length : {b : Bool} → b ≡ lengthBad file → b ≡ true → checkedOutcome (Length (length file)) ≡ fileOutcome (tableFile file)
-  unfolding tableFile
-  out-length a t = simp (sym a, t)
+  pub out_length : {b : Bool} → b ≡ length_bad file → b ≡ true → checked_outcome (Length (length file)) ≡ file_outcome (table_file file)
+  unfolding table_file
+  out_length a t = simp (sym a, t)
 
-  pub out-size : {p : ℕ} → lengthBad file ≡ false → p ≡ firstSize file → p < 4 → checkedOutcome (Size p) ≡ fileOutcome (tableFile file)
-  unfolding tableFile
-  out-size a d h = simp (a, sym d, lt-ltb _ _ h)
+  pub out_size : {p : ℕ} → length_bad file ≡ false → p ≡ first_size file → p < 4 → checked_outcome (Size p) ≡ file_outcome (table_file file)
+  unfolding table_file
+  out_size a d h = simp (a, sym d, lt-ltb _ _ h)
 
-  pub out-word : {w x : ℕ} → SizesRight file → w ≡ wordCount file → x ≡ firstBad file → x < w
-      → checkedOutcome (BadWord x) ≡ fileOutcome (tableFile file)
-  unfolding tableFile
-  out-word {w} {x} s e f k =
-      let l : x < wordCount file = omega arith in
-      simp (s.lengthRight, le-ltb _ _ s.inside, sym f, lt-ltb _ _ l)
+  pub out_word : {w x : ℕ} → SizesRight file → w ≡ word_count file → x ≡ first_bad file → x < w
+      → checked_outcome (BadWord x) ≡ file_outcome (table_file file)
+  unfolding table_file
+  out_word {w} {x} s e f k =
+      let l : x < word_count file = omega arith in
+      simp (s.length_right, le-ltb _ _ s.inside, sym f, lt-ltb _ _ l)
 
-  module _ (s : WordsRight file) {w y : ℕ} (e : w ≡ wordCount file) (f : y ≡ firstNotAbove file) where
-    pub out-order : y < w → checkedOutcome (Order y) ≡ fileOutcome (tableFile file)
-    unfolding tableFile
-    out-order k =
-        let l : y < wordCount file = omega arith in
-        simp (s.sizes.lengthRight, le-ltb _ _ s.sizes.inside, le-ltb _ _ s.right, sym f, lt-ltb _ _ l)
+  module _ (s : WordsRight file) {w y : ℕ} (e : w ≡ word_count file) (f : y ≡ first_not_above file) where
+    pub out_order : y < w → checked_outcome (Order y) ≡ file_outcome (table_file file)
+    unfolding table_file
+    out_order k =
+        let l : y < word_count file = omega arith in
+        simp (s.sizes.length_right, le-ltb _ _ s.sizes.inside, le-ltb _ _ s.right, sym f, lt-ltb _ _ l)
 
-    pub out-table : {q n S : ℕ} → w ≤ y → q ≡ byte_at file 0 → n ≡ byte_at file 1 → S ≡ byte_at file 2
-        → checkedOutcome (Table q n S w) ≡ fileOutcome (tableFile file)
-    unfolding tableFile
-    out-table k a b d =
-        let l : wordCount file ≤ y = omega arith in
+    pub out_table : {q n S : ℕ} → w ≤ y → q ≡ byte_at file 0 → n ≡ byte_at file 1 → S ≡ byte_at file 2
+        → checked_outcome (Table q n S w) ≡ file_outcome (table_file file)
+    unfolding table_file
+    out_table k a b d =
+        let l : word_count file ≤ y = omega arith in
         let no = le-ltb _ _ l in
-        simp (s.sizes.lengthRight, le-ltb _ _ s.sizes.inside, le-ltb _ _ s.right, sym f, no, a, b, d, e, words-length file)
+        simp (s.sizes.length_right, le-ltb _ _ s.sizes.inside, le-ltb _ _ s.right, sym f, no, a, b, d, e, words_length file)

@@ -25,6 +25,6 @@ module _ (a b c x y z : ℕ) where
     unfolding lower
     second_above d t f = simp (le-ltb _ _ h, eq-eqb _ _ e, sym d, t, ne_eqb _ _ f)
 
-    pub by-third : {p : Bool} → p ≡ ltb b y → p ≡ false → b ≡ y → ltb c z ≡ lower a b c x y z
+    pub by_third : {p : Bool} → p ≡ ltb b y → p ≡ false → b ≡ y → ltb c z ≡ lower a b c x y z
     unfolding lower
-    by-third d t f = simp (le-ltb _ _ h, eq-eqb _ _ e, sym d, t, eq-eqb _ _ f)
+    by_third d t f = simp (le-ltb _ _ h, eq-eqb _ _ e, sym d, t, eq-eqb _ _ f)

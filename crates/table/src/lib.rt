@@ -2,9 +2,9 @@
 // Every function answers for all arguments, by an equation with a definition of specs/.
 ghost use Rattle.std.specs.Prelude.{◌≡◌};
 ghost use Rattle.fields.specs.Fields.{byte_at};
-ghost use Rattle.fields.specs.inner.Answer.{meantWord};
-ghost use Rattle.table.specs.File.{outside, wordOutside, isBefore, firstSize, firstBad, firstNotAbove, tableFile, fileOutcome};
-ghost use Rattle.table.specs.inner.Answer.{checkedOutcome};
+ghost use Rattle.fields.specs.Inner.Answer.{meant_word};
+ghost use Rattle.table.specs.File.{outside, word_outside, is_before, first_size, first_bad, first_not_above, table_file, file_outcome};
+ghost use Rattle.table.specs.Inner.Answer.{checked_outcome};
 
 use fields::{Word, byte_at, length_bad, word_count};
 use label::precedes;
@@ -51,7 +51,7 @@ fn byte_outside(file: &[u8], at: usize, low: u16, high: u16) -> bool
 
 // Check 2: the first place of q, n, S, W that is outside its bounds, or 4.
 fn first_size(file: &[u8]) -> usize
-    ensures { result ≡ firstSize file.now }
+    ensures { result ≡ first_size file.now }
 {
     if byte_outside(file, 0, LEAST_Q, MOST_Q) {
         return 0;
@@ -69,7 +69,7 @@ fn first_size(file: &[u8]) -> usize
 }
 
 fn word_outside(w: Word, q: u8, n: u8, states: u8) -> bool
-    ensures { result ≡ wordOutside q n states (meantWord w) }
+    ensures { result ≡ word_outside q n states (meant_word w) }
 {
     if w.root >= states {
         return true;
@@ -82,7 +82,7 @@ fn word_outside(w: Word, q: u8, n: u8, states: u8) -> bool
 
 // Check 3: the first word with a state, a label or a symbol that is too large, or the word count.
 fn first_bad(file: &[u8]) -> u16
-    ensures { result ≡ firstBad file.now }
+    ensures { result ≡ first_bad file.now }
 {
     let q = byte_at(file, 0);
     let n = byte_at(file, 1);
@@ -99,7 +99,7 @@ fn first_bad(file: &[u8]) -> u16
 }
 
 fn is_before(v: Word, w: Word) -> bool
-    ensures { result ≡ isBefore (meantWord v) (meantWord w) }
+    ensures { result ≡ is_before (meant_word v) (meant_word w) }
 {
     if v.root < w.root {
         return true;
@@ -118,7 +118,7 @@ fn is_before(v: Word, w: Word) -> bool
 
 // Check 4: the first word that is not above the word before it, or the word count. Each word is read once, and kept for the next turn.
 fn first_not_above(file: &[u8]) -> u16
-    ensures { result ≡ firstNotAbove file.now }
+    ensures { result ≡ first_not_above file.now }
 {
     let count = word_count(file);
     if count == 0 {
@@ -139,7 +139,7 @@ fn first_not_above(file: &[u8]) -> u16
 
 // Checks 1 to 4, each over the whole file before the next begins.
 pub fn check(file: &[u8]) -> Checked
-    ensures { checkedOutcome result ≡ fileOutcome (tableFile file.now) }
+    ensures { checked_outcome result ≡ file_outcome (table_file file.now) }
 {
     if length_bad(file) {
         return Checked::Length(file.len());

@@ -1,2 +1,2 @@
 -- The edges that words take.
-pub mod inner
+pub mod Inner

@@ -1,9 +1,9 @@
 // The first word on each edge of a step, found in one pass over the words, and so for all steps; edge counts.
 ghost use Rattle.std.specs.Prelude.{◌≡◌, cond, [], ◌∷◌, ◌+◌, ◌-◌, ◌*◌, ◌<◌, ◌≤◌, length, leb};
-ghost use Rattle.trellis.specs.Bounds.{mostWords};
-ghost use Rattle.trellis.specs.inner.Write.{Wrote};
-ghost use Rattle.takers.specs.inner.Pieces.{SmallMap, AllTaken};
-ghost use Rattle.takers.specs.inner.Takers.{rowEdge, raised, takers, SmallRows, ArcOf};
+ghost use Rattle.trellis.specs.Bounds.{most_words};
+ghost use Rattle.trellis.specs.Inner.Write.{Wrote};
+ghost use Rattle.takers.specs.Inner.Pieces.{SmallMap, AllTaken};
+ghost use Rattle.takers.specs.Inner.Takers.{row_edge, raised, takers, SmallRows, ArcOf};
 
 use numbers::wide;
 use trellis::{MOST_Q, MOST_SYMBOLS, MOST_WORDS};
@@ -18,7 +18,7 @@ struct Arc {
 // The edge of word i at step t, whose two rows of the map begin at `row`.
 fn arc_at(labels: &[u16], n: usize, t: usize, map: &[u16], row: usize, i: usize) -> Arc
     requires { SmallRows map.now labels.now row × (i < length labels.now) }
-    ensures { ArcOf (rowEdge map.now labels.now n t row i) result.key result.to }
+    ensures { ArcOf (row_edge map.now labels.now n t row i) result.key result.to }
 {
     let w = labels.len();
     let from = wide(map[row + i]);
@@ -32,7 +32,7 @@ fn arc_at(labels: &[u16], n: usize, t: usize, map: &[u16], row: usize, i: usize)
 
 // One more than `to` where that is higher.
 fn higher(high: u16, to: u16) -> u16
-    requires { to < mostWords }
+    requires { to < most_words }
     ensures { result ≡ raised high to }
 {
     if high <= to { to + 1 } else { high }
@@ -69,7 +69,7 @@ pub fn take_step(
 ) -> usize
     requires { SmallRows map.now labels.now row × (at + length labels.now ≤ length out.old) }
     ensures { Wrote out.old at
-        (takers (rowEdge map.now labels.now n t row) (length labels.now)) out.new result }
+        (takers (row_edge map.now labels.now n t row) (length labels.now)) out.new result }
 {
     let mut high = [0u16; MOST_Q * MOST_WORDS];
     let mut to = at;

@@ -6,9 +6,9 @@ use native.Mathlib.Nat.{le_of_suc-le-suc, not-suc-le-zero}
 use native.Mathlib.Omega.{arith}
 use lib.ListN.{length, get_or, set, take, drop, length-set, length-drop, take-append-drop}
 use lib.Seq.{take_all, take-suc, take-nil, take-append-le, take-length, length-take-le, get_or-drop, ext_get_or, get_or-set_other, take-suc-set}
-use Rattle.trellis.proofs.Lists.{flatMap-append}
+use Rattle.trellis.proofs.Lists.{flat_map_append}
 use Rattle.text.specs.Line.{spaced, line}
-use Rattle.text.specs.inner.Put.{Put}
+use Rattle.text.specs.Inner.Put.{Put}
 
 cut_twice : (m : ℕ) (xs ys : List ℕ) → take m (take m xs ++ ys) ≡ take m (xs ++ ys)
 cut_twice zero xs ys = refl
@@ -21,8 +21,8 @@ take_short m (suc at) [] h = take-nil m
 take_short zero (suc at) (x ∷ l) h = absurd (omega arith)
 take_short (suc m) (suc at) (x ∷ l) h = ap (λ r. x ∷ r) (take_short m at l (le_of_suc-le-suc h))
 
-pub put-none : {old : List ℕ} {at : ℕ} → Put old at [] old at
-put-none {old} {at} = record {
+pub put_none : {old : List ℕ} {at : ℕ} → Put old at [] old at
+put_none {old} {at} = record {
   len = refl;
   holds = sym (ap (take (length old)) (append-nil (take at old)) ∙ take_short (length old) at old (omega arith));
   grows = omega arith;
@@ -74,19 +74,19 @@ put_full old at v h = record {
 -- ---- pieces of one kind, one for each element of a list
 
 pub record Pieces {A : Type 0} (piece : A → List ℕ) (old : List ℕ) (at : ℕ) (xs : List A) (now : List ℕ) (end i : ℕ) : Type 0 where
-  pub i-le : i ≤ length xs
+  pub i_le : i ≤ length xs
   pub put : Put old at (flat_map piece (take i xs)) now end
 
-pub pieces-start : {A : Type 0} {piece : A → List ℕ} {old : List ℕ} {xs : List A} {at : ℕ} → Pieces piece old at xs old at 0
+pub pieces_start : {A : Type 0} {piece : A → List ℕ} {old : List ℕ} {xs : List A} {at : ℕ} → Pieces piece old at xs old at 0
 unfolding flat_map
-pieces-start = record { i-le = omega arith; put = put-none }
+pieces_start = record { i_le = omega arith; put = put_none }
 
-pub pieces-next : {A : Type 0} (none : A) {piece : A → List ℕ} {old : List ℕ} {xs : List A} {now new : List ℕ} {at end far i : ℕ}
+pub pieces_next : {A : Type 0} (none : A) {piece : A → List ℕ} {old : List ℕ} {xs : List A} {now new : List ℕ} {at end far i : ℕ}
     → Pieces piece old at xs now end i → i < length xs → Put now end (piece (get_or xs i none)) new far
     → Pieces piece old at xs new far (i + 1)
 unfolding flat_map
-pieces-next none {piece} {old} {xs} {now} {new} {at} {end} {far} {i} P h p = record {
-  i-le = omega arith;
+pieces_next none {piece} {old} {xs} {now} {new} {at} {end} {far} {i} P h p = record {
+  i_le = omega arith;
   put = subst (λ r. Put old at r new far) same (put_then P.put p);
 }
   where
@@ -94,13 +94,13 @@ pieces-next none {piece} {old} {xs} {now} {new} {at} {end} {far} {i} P h p = rec
     same =
         let e : i + 1 ≡ suc i = omega arith in
         ap (λ r. flat_map piece (take i xs) ++ r) (sym (append-nil (piece (get_or xs i none))))
-        ∙ sym (flatMap-append piece (take i xs) (get_or xs i none ∷ []))
+        ∙ sym (flat_map_append piece (take i xs) (get_or xs i none ∷ []))
         ∙ ap (flat_map piece) (sym (take-suc xs i none h))
         ∙ ap (λ k. flat_map piece (take k xs)) (sym e)
 
-pub pieces-all : {A : Type 0} {piece : A → List ℕ} {old : List ℕ} {xs : List A} {now : List ℕ} {at end i : ℕ}
+pub pieces_all : {A : Type 0} {piece : A → List ℕ} {old : List ℕ} {xs : List A} {now : List ℕ} {at end i : ℕ}
     → Pieces piece old at xs now end i → length xs ≤ i → Put old at (flat_map piece xs) now end
-pieces-all {piece} {old} {xs} {now} {at} {end} {i} P h = subst (λ r. Put old at (flat_map piece r) now end) (take_all i xs h) P.put
+pieces_all {piece} {old} {xs} {now} {at} {end} {i} P h = subst (λ r. Put old at (flat_map piece r) now end) (take_all i xs h) P.put
 
 -- bytes are pieces of one byte each
 abbrev pub single : ℕ → List ℕ
@@ -111,30 +111,30 @@ unfolding flat_map
 singles [] = refl
 singles (x ∷ l) = ap (λ r. x ∷ r) (singles l)
 
-pub bytes-all : {old xs now : List ℕ} {at end i : ℕ} → Pieces single old at xs now end i → length xs ≤ i → Put old at xs now end
-bytes-all {old} {xs} {now} {at} {end} {i} P h = subst (λ r. Put old at r now end) (singles xs) (pieces-all P h)
+pub bytes_all : {old xs now : List ℕ} {at end i : ℕ} → Pieces single old at xs now end i → length xs ≤ i → Put old at xs now end
+bytes_all {old} {xs} {now} {at} {end} {i} P h = subst (λ r. Put old at r now end) (singles xs) (pieces_all P h)
 
 -- a word, the numbers behind it and a newline byte are a line
-pub line-put : {word numbers old mid now new : List ℕ} {at m end far i : ℕ}
+pub line_put : {word numbers old mid now new : List ℕ} {at m end far i : ℕ}
     → Put old at word mid m → Pieces spaced mid m numbers now end i → length numbers ≤ i → Put now end (10 ∷ []) new far
     → Put old at (line word numbers) new far
 unfolding line
-line-put w P h p = put_then w (put_then (pieces-all P h) p)
+line_put w P h p = put_then w (put_then (pieces_all P h) p)
 
 -- ---- bytes put at the front of a buffer that has room for them
 
 module _ {old vs new : List ℕ} {end : ℕ} (p : Put old 0 vs new end) (room : length vs ≤ length old) where
-  pub front-holds : take end new ≡ vs
-  front-holds = p.holds ∙ take_all (length old) vs room
+  pub front_holds : take end new ≡ vs
+  front_holds = p.holds ∙ take_all (length old) vs room
 
-  pub front-end : end ≡ length vs
-  front-end = sym (length-take-le end new (omega (arith, p.len, p.inside (omega arith)))) ∙ ap length front-holds
+  pub front_end : end ≡ length vs
+  front_end = sym (length-take-le end new (omega (arith, p.len, p.inside (omega arith)))) ∙ ap length front_holds
 
   front_rest : drop end new ≡ drop end old
   front_rest = ext_get_or 0 (drop end new) (drop end old) (omega (arith, length-drop end new, length-drop end old, p.len))
       (λ i h. get_or-drop end new i 0 ∙ p.beyond (end + i) (omega arith) ∙ sym (get_or-drop end old i 0))
 
-  pub front-put : new ≡ vs ++ drop (length vs) old
-  front-put =
-      sym (take-append-drop end new) ∙ ap (λ r. take end new ++ r) front_rest ∙ ap (λ r. r ++ drop end old) front-holds
-      ∙ ap (λ k. vs ++ drop k old) front-end
+  pub front_put : new ≡ vs ++ drop (length vs) old
+  front_put =
+      sym (take-append-drop end new) ∙ ap (λ r. take end new ++ r) front_rest ∙ ap (λ r. r ++ drop end old) front_holds
+      ∙ ap (λ k. vs ++ drop k old) front_end

@@ -5,27 +5,27 @@ use native.Mathlib.Nat.{suc-mul}
 use native.Mathlib.Omega.{arith}
 use lib.ListN.{length, length-append}
 use Rattle.text.specs.Line.{spaced, line}
-use Rattle.text.specs.inner.Digits.{AllBelow}
-use Rattle.text.proofs.Decimal.{decimal-few}
+use Rattle.text.specs.Inner.Digits.{AllBelow}
+use Rattle.text.proofs.Decimal.{decimal_few}
 
-numbers-few : (k : ℕ) (xs : List ℕ) → AllBelow (suc k) xs → length (flat_map spaced xs) ≤ length xs * suc (suc k)
+numbers_few : (k : ℕ) (xs : List ℕ) → AllBelow (suc k) xs → length (flat_map spaced xs) ≤ length xs * suc (suc k)
 unfolding flat_map spaced
-numbers-few k [] h = omega arith
-numbers-few k (x ∷ xs) h =
+numbers_few k [] h = omega arith
+numbers_few k (x ∷ xs) h =
     omega (
       arith,
-      decimal-few x k h.0,
-      numbers-few k xs h.1,
+      decimal_few x k h.0,
+      numbers_few k xs h.1,
       length-append (spaced x) (flat_map spaced xs),
       suc-mul (length xs) (suc (suc k)),
     )
 
-pub line-short : (k : ℕ) (word xs : List ℕ) → AllBelow (suc k) xs → length (line word xs) ≤ length word + (length xs * suc (suc k) + 1)
+pub line_short : (k : ℕ) (word xs : List ℕ) → AllBelow (suc k) xs → length (line word xs) ≤ length word + (length xs * suc (suc k) + 1)
 unfolding line
-line-short k word xs h =
+line_short k word xs h =
     omega (
       arith,
-      numbers-few k xs h,
+      numbers_few k xs h,
       length-append word (flat_map spaced xs ++ (10 ∷ [])),
       length-append (flat_map spaced xs) (10 ∷ []),
     )

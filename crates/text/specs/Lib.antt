@@ -1,3 +1,3 @@
 -- Lines of text: their bytes, and what putting bytes behind others leaves.
 pub mod Line
-pub mod inner
+pub mod Inner

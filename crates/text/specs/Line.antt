@@ -9,12 +9,12 @@ abbrev pub digit : ℕ → ℕ
 digit d = 48 + d
 
 -- how many digits of x stand in front of its last one: the first k with x below 10^(k+1), and some k up to x is one
-unfoldable pub higherDigits : ℕ → ℕ
-higherDigits x = first (λ k. ltb x (10 ^ suc k)) x
+unfoldable pub higher_digits : ℕ → ℕ
+higher_digits x = first (λ k. ltb x (10 ^ suc k)) x
 
 -- the decimal digits of x, the highest first
 unfoldable pub decimal : ℕ → List ℕ
-decimal x = each (λ i. digit (x / 10 ^ (higherDigits x - i) % 10)) (suc (higherDigits x))
+decimal x = each (λ i. digit (x / 10 ^ (higher_digits x - i) % 10)) (suc (higher_digits x))
 
 unfoldable pub spaced : ℕ → List ℕ
 spaced x = 32 ∷ decimal x

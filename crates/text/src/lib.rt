@@ -2,7 +2,7 @@
 // buffer of bytes already holds; what does not fit is left out, so that no function asks for room.
 ghost use Rattle.std.specs.Prelude.{◌≡◌, [], ◌∷◌, ◌+◌, ◌%◌};
 ghost use Rattle.text.specs.Line.{digit, spaced, line};
-ghost use Rattle.text.specs.inner.Put.{Put, Spelt};
+ghost use Rattle.text.specs.Inner.Put.{Put, Spelt};
 
 fn put_byte(text: &mut [u8], at: usize, byte: u8) -> usize
     ensures { Put text.old at (byte ∷ []) text.new result }

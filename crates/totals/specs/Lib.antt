@@ -1,2 +1,2 @@
 -- What a beginning costs at least in the end.
-pub mod inner
+pub mod Inner

@@ -1,12 +1,12 @@
 // What a beginning costs at least in the end, as the sum of what is paid, the next edge and the least that is left behind it.
 ghost use Rattle.std.specs.Prelude.{◌≡◌, ◌+◌, ◌*◌, ◌/◌, ◌<◌, ◌≤◌, length, get_or};
-ghost use Rattle.trellis.specs.Bounds.{mostWords, mostQ, mostSymbols};
-ghost use Rattle.paths.specs.inner.Ranked.{distanceUnit, PriceRoom};
-ghost use Rattle.dearest.specs.inner.Items.{code_in};
-ghost use Rattle.edges.specs.inner.Edges.{meantEdge};
-ghost use Rattle.codes.specs.inner.Codes.{codeVertex};
-ghost use Rattle.least_rows.specs.inner.Rows.{rowsLong, row_at};
-ghost use Rattle.totals.specs.inner.Totals.{paidFor, total_of};
+ghost use Rattle.trellis.specs.Bounds.{most_words, most_q, most_symbols};
+ghost use Rattle.paths.specs.Inner.Ranked.{distance_unit, PriceRoom};
+ghost use Rattle.dearest.specs.Inner.Items.{code_in};
+ghost use Rattle.edges.specs.Inner.Edges.{meant_edge};
+ghost use Rattle.codes.specs.Inner.Codes.{code_vertex};
+ghost use Rattle.least_rows.specs.Inner.Rows.{rows_long, row_at};
+ghost use Rattle.totals.specs.Inner.Totals.{paid_for, total_of};
 
 use dearest::cost_of;
 use edges::Edge;
@@ -23,7 +23,7 @@ fn wider(x: u32) -> u64
 
 // The least cost from vertex v of depth t to the end.
 fn least_from(rows: &[u32; ROWS], t: usize, v: usize) -> u64
-    requires { (t ≤ mostSymbols) × (v < mostWords) × (length rows.now ≡ rowsLong) }
+    requires { (t ≤ most_symbols) × (v < most_words) × (length rows.now ≡ rows_long) }
     ensures { (result ≡ row_at rows.now t v) × (result < 4294967296) }
 {
     wider(rows[MOST_WORDS * t + v])
@@ -31,8 +31,8 @@ fn least_from(rows: &[u32; ROWS], t: usize, v: usize) -> u64
 
 // What is paid for item x, which stands at this vertex of depth t.
 pub fn paid(rows: &[u32; ROWS], t: usize, vertex: usize, x: u64) -> u64
-    requires { (t < mostSymbols) × (length rows.now ≡ rowsLong) × (vertex ≡ codeVertex (code_in x)) }
-    ensures { (result ≡ paidFor rows.now t x) × (result < 4294967296) }
+    requires { (t < most_symbols) × (length rows.now ≡ rows_long) × (vertex ≡ code_vertex (code_in x)) }
+    ensures { (result ≡ paid_for rows.now t x) × (result < 4294967296) }
 {
     let ahead = least_from(rows, t, vertex);
     let cost = cost_of(x);
@@ -41,17 +41,17 @@ pub fn paid(rows: &[u32; ROWS], t: usize, vertex: usize, x: u64) -> u64
 
 // What a symbol costs as symbol t.
 fn price_of(prices: &[u64], t: usize, symbol: usize) -> u64
-    requires { (t < mostSymbols) × (symbol < mostQ) × PriceRoom prices.now }
-    ensures { (result ≡ get_or prices.now (4 * t + symbol) 0 / distanceUnit) × (result < 4294967296) }
+    requires { (t < most_symbols) × (symbol < most_q) × PriceRoom prices.now }
+    ensures { (result ≡ get_or prices.now (4 * t + symbol) 0 / distance_unit) × (result < 4294967296) }
 {
     prices[4 * t + symbol] / DISTANCE_UNIT
 }
 
 // What a beginning costs at least in the end that goes on along an edge of step t.
 pub fn total(rows: &[u32; ROWS], prices: &[u64], t: usize, paid: u64, e: Edge) -> u64
-    requires { (t < mostSymbols) × (paid < 4294967296) × (length rows.now ≡ rowsLong) × PriceRoom prices.now
-        × (e.symbol < mostQ) × (e.to < mostWords) }
-    ensures { result ≡ total_of rows.now prices.now t paid (meantEdge e) }
+    requires { (t < most_symbols) × (paid < 4294967296) × (length rows.now ≡ rows_long) × PriceRoom prices.now
+        × (e.symbol < most_q) × (e.to < most_words) }
+    ensures { result ≡ total_of rows.now prices.now t paid (meant_edge e) }
 {
     paid + price_of(prices, t, e.symbol) + least_from(rows, t + 1, e.to)
 }

@@ -1,6 +1,6 @@
 // The notes of the cost table followed from block to block: the words of the best path.
 ghost use Rattle.std.specs.Prelude.{◌<◌};
-ghost use Rattle.passes.specs.inner.Chains.{Followed, FollowedTo};
+ghost use Rattle.passes.specs.Inner.Chains.{Followed, FollowedTo};
 
 use numbers::widened;
 use ranks::{goal_of, label_of};

@@ -13,8 +13,8 @@ use Rattle.trellis.specs.Label.{symbol, front, back}
 use Rattle.trellis.specs.Word.{Word, word_at, joined}
 use Rattle.trellis.specs.Own.{edge}
 use Rattle.trellis.specs.Drawn.{Drawing, IsPath, DrawnFor}
-use Rattle.trellis.proofs.Labels.{front-by-symbols, back-by-symbols}
-use Rattle.trellis.proofs.Words.{word_in, beginning-eq, ending-eq, joined_is}
+use Rattle.trellis.proofs.Labels.{front_by_symbols, back_by_symbols}
+use Rattle.trellis.proofs.Words.{word_in, beginning_eq, ending_eq, joined_is}
 
 -- ---- two sequences, cut at t: the first in front of t, the second from t on
 
@@ -25,48 +25,48 @@ side (no p) a b = b
 cut : ℕ → (ℕ → ℕ) → (ℕ → ℕ) → ℕ → ℕ
 cut t f g u = side (dec_lt u t) (f u) (g u)
 
-cut-front : (t : ℕ) (f g : ℕ → ℕ) (u : ℕ) → u < t → cut t f g u ≡ f u
+cut_front : (t : ℕ) (f g : ℕ → ℕ) (u : ℕ) → u < t → cut t f g u ≡ f u
 unfolding cut side
-cut-front t f g u h = go (dec_lt u t)
+cut_front t f g u h = go (dec_lt u t)
   where
     go : (x : Dec (u < t)) → side x (f u) (g u) ≡ f u
     go (yes p) = refl
     go (no p) = absurd (p h)
 
-cut-back : (t : ℕ) (f g : ℕ → ℕ) (u : ℕ) → t ≤ u → cut t f g u ≡ g u
+cut_back : (t : ℕ) (f g : ℕ → ℕ) (u : ℕ) → t ≤ u → cut t f g u ≡ g u
 unfolding cut side
-cut-back t f g u h = go (dec_lt u t)
+cut_back t f g u h = go (dec_lt u t)
   where
     go : (x : Dec (u < t)) → side x (f u) (g u) ≡ g u
     go (yes p) = omega arith
     go (no p) = refl
 
 -- where they agree at t, the first reaches up to t
-cut-upto : (t : ℕ) (f g : ℕ → ℕ) (u : ℕ) → f t ≡ g t → u ≤ t → cut t f g u ≡ f u
-cut-upto t f g u e h = go (ℕ_discrete u t)
+cut_upto : (t : ℕ) (f g : ℕ → ℕ) (u : ℕ) → f t ≡ g t → u ≤ t → cut t f g u ≡ f u
+cut_upto t f g u e h = go (ℕ_discrete u t)
   where
     go : Dec (u ≡ t) → cut t f g u ≡ f u
-    go (yes p) = cut-back t f g u (omega arith) ∙ ap g p ∙ sym e ∙ ap f (sym p)
-    go (no p) = cut-front t f g u (omega arith)
+    go (yes p) = cut_back t f g u (omega arith) ∙ ap g p ∙ sym e ∙ ap f (sym p)
+    go (no p) = cut_front t f g u (omega arith)
 
 -- ---- one path for each word
 
 -- the vertices x 0 .. x n are those of a path that carries w
 pub record Way (n : ℕ) (D : Drawing) (w : Word) (x : ℕ → ℕ) : Type 0 where
-  pub root : D.rootOf (x 0) ≡ w.root
+  pub root : D.root_of (x 0) ≡ w.root
   pub takes : (t : ℕ) → t < n → edge (x t) (symbol n t w.label) (x (suc t)) ∈ D.edges t
-  pub goal : D.goalOf (x n) ≡ w.goal
+  pub goal : D.goal_of (x n) ≡ w.goal
 
 module _ (n : ℕ) (table : List Word) (D : Drawing) (H : DrawnFor n table D) where
   chosen : (i : ℕ) → Dec (i < length table) → ℕ → ℕ
-  chosen i (yes h) = (H.noFewer (word_at table i) (word_in table i h)).x
+  chosen i (yes h) = (H.no_fewer (word_at table i) (word_in table i h)).x
   chosen i (no h) = λ t. 0
 
-  chosen-way : (i : ℕ) → i < length table → (q : Dec (i < length table)) → Way n D (word_at table i) (chosen i q)
+  chosen_way : (i : ℕ) → i < length table → (q : Dec (i < length table)) → Way n D (word_at table i) (chosen i q)
   unfolding chosen
-  chosen-way i b (no h) = absurd (h b)
-  chosen-way i b (yes h) =
-      let P = H.noFewer (word_at table i) (word_in table i h) in
+  chosen_way i b (no h) = absurd (h b)
+  chosen_way i b (yes h) =
+      let P = H.no_fewer (word_at table i) (word_in table i h) in
       record {
         root = P.carries.root;
         takes = λ t a. Memᴰ.cast (λ k. edge (P.x t) (sym (P.carries.symbols t a) k) (P.x (suc t))) (P.path.takes t a);
@@ -79,7 +79,7 @@ module _ (n : ℕ) (table : List Word) (D : Drawing) (H : DrawnFor n table D) wh
 
   pub way : (i : ℕ) → i < length table → Way n D (word_at table i) (λ t. theirs t i)
   unfolding theirs
-  way i b = chosen-way i b (dec_lt i (length table))
+  way i b = chosen_way i b (dec_lt i (length table))
 
   -- ---- crossed where they meet
 
@@ -92,24 +92,24 @@ module _ (n : ℕ) (table : List Word) (D : Drawing) (H : DrawnFor n table D) wh
       where
         go : (u : ℕ) → u < n → Dec (u < t) → edge (cut t x y u) (symbols u) (cut t x y (suc u)) ∈ D.edges u
         go u h (yes p) = Memᴰ.cast
-            (λ k. edge (cut-upto t x y u e (omega arith) k) (cut-front t (λ u. symbol n u v.label) (λ u. symbol n u w.label) u p k)
-            (cut-upto t x y (suc u) e p k))
+            (λ k. edge (cut_upto t x y u e (omega arith) k) (cut_front t (λ u. symbol n u v.label) (λ u. symbol n u w.label) u p k)
+            (cut_upto t x y (suc u) e p k))
             (P.takes u h)
         go u h (no p) = Memᴰ.cast
-            (λ k. edge (cut-back t x y u (omega arith) k)
-            (cut-back t (λ u. symbol n u v.label) (λ u. symbol n u w.label) u (omega arith) k)
-            (cut-back t x y (suc u) (omega arith) k))
+            (λ k. edge (cut_back t x y u (omega arith) k)
+            (cut_back t (λ u. symbol n u v.label) (λ u. symbol n u w.label) u (omega arith) k)
+            (cut_back t x y (suc u) (omega arith) k))
             (Q.takes u h)
 
     pub crossed : 0 < t → t < n → ((z : Word) → z ∈ table → z.label < 4 ^ n) → v ∈ table → joined n t v w ∈ table
     crossed a b fits mv =
         let K = H.no_more (cut t x y) symbols crossing in
         let z = K.word in
-        let r : z.root ≡ v.root = sym K.carried.root ∙ ap D.rootOf (cut-front t x y 0 a) ∙ P.root in
-        let g : z.goal ≡ w.goal = sym K.carried.goal ∙ ap D.goalOf (cut-back t x y n (omega arith)) ∙ Q.goal in
+        let r : z.root ≡ v.root = sym K.carried.root ∙ ap D.root_of (cut_front t x y 0 a) ∙ P.root in
+        let g : z.goal ≡ w.goal = sym K.carried.goal ∙ ap D.goal_of (cut_back t x y n (omega arith)) ∙ Q.goal in
         let f : front n t z.label ≡ front n t v.label =
-        front-by-symbols n t z.label v.label (omega arith) (fits z K.listed) (fits v mv)
-        (λ u h. sym (K.carried.symbols u (omega arith)) ∙ cut-front t _ _ u h) in
-        let k : back n t z.label ≡ back n t w.label = back-by-symbols n (n - t) t z.label w.label (omega arith)
-        (λ u h l. sym (K.carried.symbols u l) ∙ cut-back t _ _ u h) in
-        Memᴰ.cast (sym (joined_is n t z v w (beginning-eq r f) (ending-eq k g))) K.listed
+        front_by_symbols n t z.label v.label (omega arith) (fits z K.listed) (fits v mv)
+        (λ u h. sym (K.carried.symbols u (omega arith)) ∙ cut_front t _ _ u h) in
+        let k : back n t z.label ≡ back n t w.label = back_by_symbols n (n - t) t z.label w.label (omega arith)
+        (λ u h l. sym (K.carried.symbols u l) ∙ cut_back t _ _ u h) in
+        Memᴰ.cast (sym (joined_is n t z v w (beginning_eq r f) (ending_eq k g))) K.listed

@@ -6,10 +6,10 @@ use native.Mathlib.Omega.{arith}
 use native.Mathlib.Nat.{sub_self, pow-zero, pow-succ', div-one, div-div-eq-div-mul}
 
 module _ (base n : ℕ) where
-  pub digit-last : (x : ℕ) → x / base ^ (suc n - suc n) % base ≡ x % base
-  digit-last x = rw (sub_self, pow-zero, div-one)
+  pub digit_last : (x : ℕ) → x / base ^ (suc n - suc n) % base ≡ x % base
+  digit_last x = rw (sub_self, pow-zero, div-one)
 
-  pub digit-drop : (t x : ℕ) → t < n → x / base ^ (suc n - suc t) % base ≡ x / base / base ^ (n - suc t) % base
-  digit-drop t x h =
+  pub digit_drop : (t x : ℕ) → t < n → x / base ^ (suc n - suc t) % base ≡ x / base / base ^ (n - suc t) % base
+  digit_drop t x h =
       let e : suc n - suc t ≡ suc (n - suc t) = omega arith in
       rw (e, pow-succ', ← div-div-eq-div-mul)

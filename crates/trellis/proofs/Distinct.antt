@@ -12,8 +12,8 @@ use native.Mathlib.Nat.{not-suc-le-zero, le_antisymm}
 use native.Mathlib.Decide.{ℕ_discrete}
 use lib.ListN.{length}
 use lib.Dec.{T}
-use Rattle.trellis.specs.Lists.{◌∈◌, Once, isIn}
-use Rattle.trellis.proofs.Lists.{in-yes, in-of, From}
+use Rattle.trellis.specs.Lists.{◌∈◌, Once, is_in}
+use Rattle.trellis.proofs.Lists.{in_yes, in_of, From}
 
 -- 0 where the test passes
 abbrev pub unless : Bool → ℕ
@@ -23,7 +23,7 @@ unless false = 1
 module _ {A : Type 0} (eq : A → A → Bool) where
   -- 1 where x is no value of l
   unfoldable pub new : A → List A → ℕ
-  new x l = unless (isIn eq x l)
+  new x l = unless (is_in eq x l)
 
   -- how many different values l has: a value counts where nothing later in the list repeats it
   unfoldable pub distinct : List A → ℕ
@@ -45,14 +45,14 @@ module _ {A : Type 0} (eq : A → A → Bool) where
   module _ (ok : (x y : A) → T (eq x y) → x ≡ y) (rf : (x : A) → T (eq x x)) where
     pub look : (x : A) (l : List A) → Known x l
     unfolding new
-    look x l = go (isIn eq x l) refl
+    look x l = go (is_in eq x l) refl
       where
-        go : (b : Bool) → isIn eq x l ≡ b → Known x l
-        go true e = inr (record { none = ap unless e; seen = in-yes eq ok rf x l (subst T (sym e) tt) })
-        go false e = inl (record { one = ap unless e; never = λ m. subst T e (in-of eq ok rf x l m) })
+        go : (b : Bool) → is_in eq x l ≡ b → Known x l
+        go true e = inr (record { none = ap unless e; seen = in_yes eq ok rf x l (subst T (sym e) tt) })
+        go false e = inl (record { one = ap unless e; never = λ m. subst T e (in_of eq ok rf x l m) })
 
-    pub stale-of : (x : A) (l : List A) → x ∈ l → new x l ≡ 0
-    stale-of x l m = go (look x l)
+    pub stale_of : (x : A) (l : List A) → x ∈ l → new x l ≡ 0
+    stale_of x l m = go (look x l)
       where
         go : Known x l → new x l ≡ 0
         go (inl f) = absurd (f.never m)
@@ -107,10 +107,10 @@ module _ {A : Type 0} (eq : A → A → Bool) where
             }
 
     -- values that all stand in L are no more than L is long
-    pub distinct-le : (l L : List A) → ((x : A) → x ∈ l → x ∈ L) → distinct l ≤ length L
+    pub distinct_le : (l L : List A) → ((x : A) → x ∈ l → x ∈ L) → distinct l ≤ length L
     unfolding distinct
-    distinct-le [] L h = omega arith
-    distinct-le (x ∷ l) L h = go (distinct-le l) (look x l) (pluck x L (h x (Memᴰ.head refl)))
+    distinct_le [] L h = omega arith
+    distinct_le (x ∷ l) L h = go (distinct_le l) (look x l) (pluck x L (h x (Memᴰ.head refl)))
       where
         go : ((K : List A) → ((y : A) → y ∈ l → y ∈ K) → distinct l ≤ length K) → Known x l → Without x L → new x l + distinct l ≤ length L
         go r (inl f) w = let d : distinct l ≤ length w.rest =
@@ -118,11 +118,11 @@ module _ {A : Type 0} (eq : A → A → Bool) where
         go r (inr s) w = let d : distinct l ≤ length L = r L (λ y m. h y (Memᴰ.tail m)) in omega arith
 
     -- a list without repeats whose values all stand in l is no longer than the different values of l
-    pub le-distinct : (l L : List A) → Once L → ((x : A) → x ∈ L → x ∈ l) → length L ≤ distinct l
+    pub le_distinct : (l L : List A) → Once L → ((x : A) → x ∈ L → x ∈ l) → length L ≤ distinct l
     unfolding distinct
-    le-distinct [] [] o h = omega arith
-    le-distinct [] (x ∷ L) o h = absurd (Memᴰ.not-nil (h x (Memᴰ.head refl)))
-    le-distinct (x ∷ l) L o h = go (le-distinct l) (look x l) (look x L)
+    le_distinct [] [] o h = omega arith
+    le_distinct [] (x ∷ L) o h = absurd (Memᴰ.not-nil (h x (Memᴰ.head refl)))
+    le_distinct (x ∷ l) L o h = go (le_distinct l) (look x l) (look x L)
       where
         old : (y : A) → x ∈ l → (y ≡ x) ⊎ (y ∈ l) → y ∈ l
         old y m (inl e) = Memᴰ.cast e m
@@ -146,19 +146,19 @@ module _ {A : Type 0} (eq : A → A → Bool) where
             omega arith
 
     -- a list without repeats that has just the values of l is as long as l has different values
-    pub length-distinct : (l L : List A) → Once L → ((x : A) → x ∈ L → x ∈ l) → ((x : A) → x ∈ l → x ∈ L) → length L ≡ distinct l
-    length-distinct l L o a b = le_antisymm (le-distinct l L o a) (distinct-le l L b)
+    pub length_distinct : (l L : List A) → Once L → ((x : A) → x ∈ L → x ∈ l) → ((x : A) → x ∈ l → x ∈ L) → length L ≡ distinct l
+    length_distinct l L o a b = le_antisymm (le_distinct l L o a) (distinct_le l L b)
 
     -- a list without repeats is no longer than one that has all its values
-    pub once-le : (l L : List A) → Once l → ((x : A) → x ∈ l → x ∈ L) → length l ≤ length L
-    once-le l L o h = omega (arith, le-distinct L l o h, distinct-le L L (λ x m. m))
+    pub once_le : (l L : List A) → Once l → ((x : A) → x ∈ l → x ∈ L) → length l ≤ length L
+    once_le l L o h = omega (arith, le_distinct L l o h, distinct_le L L (λ x m. m))
 
 -- what is taken from a list without repeats, no two to one, has no repeats
-pub once-map : {A B : Type 0} (f : A → B) (l : List A) → Once l → ((x y : A) → x ∈ l → y ∈ l → f x ≡ f y → x ≡ y) → Once (map f l)
-once-map f [] o h = tt
-once-map f (x ∷ l) o h = (
+pub once_map : {A B : Type 0} (f : A → B) (l : List A) → Once l → ((x y : A) → x ∈ l → y ∈ l → f x ≡ f y → x ≡ y) → Once (map f l)
+once_map f [] o h = tt
+once_map f (x ∷ l) o h = (
   λ m. let z = Memᴰ.of_map f l m in o.0 (Memᴰ.cast (h x z.0 (Memᴰ.head refl) (Memᴰ.tail z.1) (sym z.2)) z.1),
-  once-map f l o.1 (λ a b p q. h a b (Memᴰ.tail p) (Memᴰ.tail q)),
+  once_map f l o.1 (λ a b p q. h a b (Memᴰ.tail p) (Memᴰ.tail q)),
 )
 
 -- ---- the values f 0 .. f (W - 1) of a function, the last first
@@ -167,19 +167,19 @@ unfoldable pub upto {ℓ} : {A : Type ℓ} → (ℕ → A) → ℕ → List A
 upto f zero = []
 upto f (suc n) = f n ∷ upto f n
 
-pub in-upto : {A : Type 0} (f : ℕ → A) (n j : ℕ) (x : A) → j < n → x ≡ f j → x ∈ upto f n
+pub in_upto : {A : Type 0} (f : ℕ → A) (n j : ℕ) (x : A) → j < n → x ≡ f j → x ∈ upto f n
 unfolding upto
-in-upto f zero j x h e = absurd (not-suc-le-zero h)
-in-upto {A} f (suc n) j x h e = go (ℕ_discrete j n) (in-upto f n j x)
+in_upto f zero j x h e = absurd (not-suc-le-zero h)
+in_upto {A} f (suc n) j x h e = go (ℕ_discrete j n) (in_upto f n j x)
   where
     go : Dec (j ≡ n) → (j < n → x ≡ f j → x ∈ upto f n) → x ∈ f n ∷ upto f n
     go (yes q) r = Memᴰ.head (e ∙ ap f q)
     go (no q) r = Memᴰ.tail (r (omega arith) e)
 
-pub from-upto : {A : Type 0} (f : ℕ → A) (n : ℕ) (x : A) → x ∈ upto f n → From f n x
+pub from_upto : {A : Type 0} (f : ℕ → A) (n : ℕ) (x : A) → x ∈ upto f n → From f n x
 unfolding upto
-from-upto f zero x m = absurd (Memᴰ.not-nil m)
-from-upto {A} f (suc n) x m = go (from-upto f n x) (Memᴰ.cases_cons m)
+from_upto f zero x m = absurd (Memᴰ.not-nil m)
+from_upto {A} f (suc n) x m = go (from_upto f n x) (Memᴰ.cases_cons m)
   where
     go : (x ∈ upto f n → From f n x) → (x ≡ f n) ⊎ (x ∈ upto f n) → From f (suc n) x
     go r (inl e) = record { at = n; below = omega arith; is = e }

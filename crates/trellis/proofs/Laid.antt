@@ -6,30 +6,30 @@ use Prim.Native.Nat.{ℕ, zero, suc, ◌+◌, ◌-◌, ◌*◌, ◌≤◌, ◌<�
 use native.Mathlib.Omega.{arith}
 use native.Mathlib.Nat.{zero-add, add-zero, add-suc, le_refl}
 use Rattle.trellis.specs.Lists.{sum}
-use Rattle.trellis.specs.Layout.{edgeCountOf, edgesBefore}
-use Rattle.trellis.proofs.Lists.{sum-last}
+use Rattle.trellis.specs.Layout.{edge_count_of, edges_before}
+use Rattle.trellis.proofs.Lists.{sum_last}
 
 module _ (l : List ℕ) where
-  pub before-none : edgesBefore l 0 ≡ 0
-  unfolding edgesBefore sum
-  before-none = refl
+  pub before_none : edges_before l 0 ≡ 0
+  unfolding edges_before sum
+  before_none = refl
 
-  pub before_more : (t : ℕ) → edgesBefore l (suc t) ≡ edgesBefore l t + edgeCountOf l t
-  unfolding edgesBefore
-  before_more t = sum-last (edgeCountOf l) 0 t ∙ ap (λ u. edgesBefore l t + edgeCountOf l u) (zero-add t)
+  pub before_more : (t : ℕ) → edges_before l (suc t) ≡ edges_before l t + edge_count_of l t
+  unfolding edges_before
+  before_more t = sum_last (edge_count_of l) 0 t ∙ ap (λ u. edges_before l t + edge_count_of l u) (zero-add t)
 
-  before-later : (t k : ℕ) → edgesBefore l t ≤ edgesBefore l (t + k)
-  before-later t zero = rw (add-zero t) (le_refl (edgesBefore l t))
-  before-later t (suc k) = let h = before-later t k in let e = before_more (t + k) in rw (add-suc t k) (omega arith)
+  before_later : (t k : ℕ) → edges_before l t ≤ edges_before l (t + k)
+  before_later t zero = rw (add-zero t) (le_refl (edges_before l t))
+  before_later t (suc k) = let h = before_later t k in let e = before_more (t + k) in rw (add-suc t k) (omega arith)
 
-  pub before-le : (t u : ℕ) → t ≤ u → edgesBefore l t ≤ edgesBefore l u
-  before-le t u h = let e : t + (u - t) ≡ u = omega arith in rw e at (before-later t (u - t))
+  pub before_le : (t u : ℕ) → t ≤ u → edges_before l t ≤ edges_before l u
+  before_le t u h = let e : t + (u - t) ≡ u = omega arith in rw e at (before_later t (u - t))
 
   -- where a step has `most` edges at most
-  pub before-few : {n most : ℕ} → ((t : ℕ) → t < n → edgeCountOf l t ≤ most) → (t : ℕ) → t ≤ n → edgesBefore l t ≤ most * t
-  before-few few zero h = let e = before-none in omega arith
-  before-few {n} {most} few (suc t) h =
-      let i = before-few few t (omega arith) in
+  pub before_few : {n most : ℕ} → ((t : ℕ) → t < n → edge_count_of l t ≤ most) → (t : ℕ) → t ≤ n → edges_before l t ≤ most * t
+  before_few few zero h = let e = before_none in omega arith
+  before_few {n} {most} few (suc t) h =
+      let i = before_few few t (omega arith) in
       let m = before_more t in
       let b = few t h in
       let s : most * suc t ≡ most * t + most = omega arith in

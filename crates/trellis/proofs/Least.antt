@@ -12,14 +12,14 @@ use lib.ListN.{length}
 use Rattle.trellis.specs.Lists.{◌∈◌, sum}
 use Rattle.trellis.specs.Word.{Word, word_at, Table}
 use Rattle.trellis.specs.Own.{edge}
-use Rattle.trellis.specs.Drawn.{Drawing, DrawnFor, verticesOf, edgesOf, NoFewer}
-use Rattle.trellis.specs.Selections.{allVertices, additions, selections}
-use Rattle.trellis.proofs.Lists.{sum-le, sum-eq, sum-suc}
+use Rattle.trellis.specs.Drawn.{Drawing, DrawnFor, vertices_of, edges_of, NoFewer}
+use Rattle.trellis.specs.Selections.{all_vertices, additions, selections}
+use Rattle.trellis.proofs.Lists.{sum_le, sum_eq, sum_suc}
 use Rattle.trellis.proofs.Distinct.{distinct}
 use Rattle.trellis.proofs.Words.{word_in}
 use Rattle.trellis.proofs.Vertices.{Numbering}
 use Rattle.trellis.proofs.Paths.{vcount, ecount, Into, slack}
-use Rattle.trellis.proofs.Families.{Pair, Holds, vertices-least, edges-least, selections-least}
+use Rattle.trellis.proofs.Families.{Pair, Holds, vertices_least, edges_least, selections_least}
 use Rattle.trellis.proofs.Crossing.{Way, theirs, way, crossed}
 use Rattle.trellis.proofs.OwnPaths.{symbol_at, ends}
 
@@ -43,12 +43,12 @@ module _ (n : ℕ) (table : List Word) (G : Table n table) (c : ℕ → ℕ → 
       Q : Way n D (word_at table j) (λ u. theirs n table D H u j)
       Q = way n table D H j b
 
-      at-depth : (u : ℕ) → t ≡ u → d u i ≡ d u j
-      at-depth u p = subst (λ k. theirs n table D H k i ≡ theirs n table D H k j) p e
+      at_depth : (u : ℕ) → t ≡ u → d u i ≡ d u j
+      at_depth u p = subst (λ k. theirs n table D H k i ≡ theirs n table D H k j) p e
 
       go : Dec (t ≡ 0) → Dec (t ≡ n) → c t i ≡ c t j
-      go (yes p) q = subst (λ u. c u i ≡ c u j) (sym p) ((O.roots i j a b).1 (sym P.root ∙ ap D.rootOf (at-depth 0 p) ∙ Q.root))
-      go (no p) (yes q) = subst (λ u. c u i ≡ c u j) (sym q) ((O.goals i j a b).1 (sym P.goal ∙ ap D.goalOf (at-depth n q) ∙ Q.goal))
+      go (yes p) q = subst (λ u. c u i ≡ c u j) (sym p) ((O.roots i j a b).1 (sym P.root ∙ ap D.root_of (at_depth 0 p) ∙ Q.root))
+      go (no p) (yes q) = subst (λ u. c u i ≡ c u j) (sym q) ((O.goals i j a b).1 (sym P.goal ∙ ap D.goal_of (at_depth n q) ∙ Q.goal))
       go (no p) (no q) = (O.inner t (omega arith) (omega arith) i j a b).1
           (crossed n table D H (word_at table i) (word_at table j) (λ u. theirs n table D H u i) (λ u. theirs n table D H u j) P Q t e
           (omega arith) (omega arith) G.fits (word_in table i a))
@@ -72,7 +72,7 @@ module _ (n : ℕ) (table : List Word) (G : Table n table) (c : ℕ → ℕ → 
 
   holds : Holds (length table) n (symbol_at n table) d D.vertices D.edges
   holds = record {
-    once = H.noneTwice;
+    once = H.none_twice;
     stands = stands;
     takes = λ t i a b. (way n table D H i b).takes t a;
     entered = entered n table D H;
@@ -80,20 +80,20 @@ module _ (n : ℕ) (table : List Word) (G : Table n table) (c : ℕ → ℕ → 
 
   -- the counts are those of the numbering's different vertices and edges
   pub least : NoFewer n (vcount (symbol_at n table) c (length table)) (ecount (symbol_at n table) c (length table)) D
-  unfolding selections additions allVertices sum
+  unfolding selections additions all_vertices sum
   least = record {
-    vertices = vertices-least (length table) n (symbol_at n table) c d pair D.vertices D.edges holds;
-    edges = edges-least (length table) n (symbol_at n table) c d pair D.vertices D.edges holds;
-    selected = let h = selections-least (length table) n (symbol_at n table) c d pair D.vertices D.edges holds in omega arith;
+    vertices = vertices_least (length table) n (symbol_at n table) c d pair D.vertices D.edges holds;
+    edges = edges_least (length table) n (symbol_at n table) c d pair D.vertices D.edges holds;
+    selected = let h = selections_least (length table) n (symbol_at n table) c d pair D.vertices D.edges holds in omega arith;
   }
 
 -- only the counts of the n + 1 depths and the n steps matter
-pub same-counts : (n : ℕ) (v e v' e' : ℕ → ℕ) (D : Drawing) → ((t : ℕ) → t ≤ n → v t ≡ v' t) → ((t : ℕ) → t < n → e t ≡ e' t)
+pub same_counts : (n : ℕ) (v e v' e' : ℕ → ℕ) (D : Drawing) → ((t : ℕ) → t ≤ n → v t ≡ v' t) → ((t : ℕ) → t < n → e t ≡ e' t)
     → NoFewer n v e D → NoFewer n v' e' D
-unfolding selections additions allVertices
-same-counts n v e v' e' D a b N =
-    let p = sum-eq v v' 0 (suc n) (λ u x y. a u (omega arith)) in
-    let q = sum-eq e e' 0 n (λ u x y. b u (omega arith)) in
+unfolding selections additions all_vertices
+same_counts n v e v' e' D a b N =
+    let p = sum_eq v v' 0 (suc n) (λ u x y. a u (omega arith)) in
+    let q = sum_eq e e' 0 n (λ u x y. b u (omega arith)) in
     let z = a 0 (omega arith) in
     record {
       vertices = λ t h. rw (← a t h) (N.vertices t h);
@@ -103,14 +103,14 @@ same-counts n v e v' e' D a b N =
 
 -- E - V + R takes away no more than there is: each vertex behind depth 0 is entered by an edge of its own
 pub exact : (n : ℕ) (table : List Word) (D : Drawing) → DrawnFor n table D
-    → selections n (verticesOf D) (edgesOf D) + allVertices n (verticesOf D) ≡ additions n (edgesOf D) + verticesOf D 0
-unfolding sum distinct selections additions allVertices
+    → selections n (vertices_of D) (edges_of D) + all_vertices n (vertices_of D) ≡ additions n (edges_of D) + vertices_of D 0
+unfolding sum distinct selections additions all_vertices
 exact n table D H =
-    let q = sum-le (λ t. length (D.vertices (suc t))) (λ t. length (D.edges t)) 0 n (λ t a b. entry t (omega arith)) in
-    omega (arith, sum-suc (λ t. length (D.vertices t)) 0 n)
+    let q = sum_le (λ t. length (D.vertices (suc t))) (λ t. length (D.edges t)) 0 n (λ t a b. entry t (omega arith)) in
+    omega (arith, sum_suc (λ t. length (D.vertices t)) 0 n)
   where
     entry : (t : ℕ) → t < n → length (D.vertices (suc t)) ≤ length (D.edges t)
     entry t h =
-        let p = slack (D.edges t) (D.vertices (suc t)) [] (H.noneTwice (suc t) h) (λ e m. absurd (Memᴰ.not-nil m))
+        let p = slack (D.edges t) (D.vertices (suc t)) [] (H.none_twice (suc t) h) (λ e m. absurd (Memᴰ.not-nil m))
         (entered n table D H t h) in
         omega arith

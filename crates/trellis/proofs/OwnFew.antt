@@ -7,21 +7,21 @@ use lib.ListN.{length}
 use lib.Dec.{ltb}
 use Rattle.trellis.specs.Lists.{each}
 use Rattle.trellis.specs.Word.{Word}
-use Rattle.trellis.specs.Own.{edgeLess, key, keys, vertexCount, edge_of, edges_at, edge_count}
+use Rattle.trellis.specs.Own.{edge_less, key, keys, vertex_count, edge_of, edges_at, edge_count}
 use Rattle.trellis.proofs.Lists.{length_run}
-use Rattle.trellis.proofs.Ascending.{numbers, ascending-length}
-use Rattle.trellis.proofs.Paths.{edges-order}
+use Rattle.trellis.proofs.Ascending.{numbers, ascending_length}
+use Rattle.trellis.proofs.Paths.{edges_order}
 
 module _ (n : ℕ) (table : List Word) where
-  pub vertices-few : (t : ℕ) → vertexCount n table t ≤ length table
-  unfolding vertexCount keys
-  vertices-few t = omega
-      (arith, ascending-length ltb numbers (each (key n table t) (length table)), length_run (key n table t) 0 (length table))
+  pub vertices_few : (t : ℕ) → vertex_count n table t ≤ length table
+  unfolding vertex_count keys
+  vertices_few t = omega
+      (arith, ascending_length ltb numbers (each (key n table t) (length table)), length_run (key n table t) 0 (length table))
 
   pub edges_few : (t : ℕ) → edge_count n table t ≤ length table
   unfolding edge_count edges_at
   edges_few t = omega (
     arith,
-    ascending-length edgeLess edges-order (each (edge_of n table t) (length table)),
+    ascending_length edge_less edges_order (each (edge_of n table t) (length table)),
     length_run (edge_of n table t) 0 (length table),
   )

@@ -9,9 +9,9 @@ use native.Mathlib.Decide.{ℕ_discrete, dec_lt}
 use lib.ListN.{length}
 use Rattle.trellis.specs.Label.{symbol, front, back}
 use Rattle.trellis.specs.Word.{Word, word_at, Table, beginning, ending, joined}
-use Rattle.trellis.proofs.Labels.{front-suc, front-step, back-suc, back_step, symbol-front, symbol-back, front-none, back-by-symbols}
-use Rattle.trellis.proofs.Words.{word_in, index, beginning-root, beginning-front, beginning-eq, ending-back, ending-goal, ending-eq}
-use Rattle.trellis.proofs.Words.{joined-beginning, joined-ending}
+use Rattle.trellis.proofs.Labels.{front_suc, front_step, back_suc, back_step, symbol_front, symbol_back, front_none, back_by_symbols}
+use Rattle.trellis.proofs.Words.{word_in, index, beginning_root, beginning_front, beginning_eq, ending_back, ending_goal, ending_eq}
+use Rattle.trellis.proofs.Words.{joined_beginning, joined_ending}
 use Rattle.trellis.proofs.Vertices.{Numbering}
 use Rattle.trellis.proofs.OwnPaths.{symbol_at, begun, ended}
 
@@ -20,26 +20,26 @@ module _ (n : ℕ) (table : List Word) (G : Table n table) (c : ℕ → ℕ → 
   at i = word_at table i
 
   -- one symbol more in front, one symbol more behind
-  beginning-more : (t : ℕ) (v w : Word) → t < n → beginning n t v ≡ beginning n t w → symbol n t v.label ≡ symbol n t w.label
+  beginning_more : (t : ℕ) (v w : Word) → t < n → beginning n t v ≡ beginning n t w → symbol n t v.label ≡ symbol n t w.label
       → beginning n (suc t) v ≡ beginning n (suc t) w
-  beginning-more t v w h m s = beginning-eq (beginning-root m)
-      (front-suc n t v.label h ∙ ap₂ (λ x y. x * 4 + y) (beginning-front m) s ∙ sym (front-suc n t w.label h))
+  beginning_more t v w h m s = beginning_eq (beginning_root m)
+      (front_suc n t v.label h ∙ ap₂ (λ x y. x * 4 + y) (beginning_front m) s ∙ sym (front_suc n t w.label h))
 
-  ending-more : (t : ℕ) (v w : Word) → t < n → ending n (suc t) v ≡ ending n (suc t) w → symbol n t v.label ≡ symbol n t w.label
+  ending_more : (t : ℕ) (v w : Word) → t < n → ending n (suc t) v ≡ ending n (suc t) w → symbol n t v.label ≡ symbol n t w.label
       → ending n t v ≡ ending n t w
-  ending-more t v w h m s = ending-eq
-      (back-suc n t v.label h ∙ ap₂ (λ x y. x * 4 ^ (n - suc t) + y) s (ending-back m) ∙ sym (back-suc n t w.label h)) (ending-goal m)
+  ending_more t v w h m s = ending_eq
+      (back_suc n t v.label h ∙ ap₂ (λ x y. x * 4 ^ (n - suc t) + y) s (ending_back m) ∙ sym (back_suc n t w.label h)) (ending_goal m)
 
   -- behind depth n there is nothing, and at depth 0 there is only the root
-  none-behind : (t x y : ℕ) → t ≡ n → back n t x ≡ back n t y
-  none-behind t x y e = back-by-symbols n 0 t x y (omega arith) (λ u a b. absurd (omega arith))
+  none_behind : (t x y : ℕ) → t ≡ n → back n t x ≡ back n t y
+  none_behind t x y e = back_by_symbols n 0 t x y (omega arith) (λ u a b. absurd (omega arith))
 
-  root-begins : (t : ℕ) → t ≡ 0 → (i j : ℕ) → i < length table → j < length table → c t i ≡ c t j
+  root_begins : (t : ℕ) → t ≡ 0 → (i j : ℕ) → i < length table → j < length table → c t i ≡ c t j
       → beginning n t (at j) ≡ beginning n t (at i)
-  root-begins t z i j a b e = beginning-eq
+  root_begins t z i j a b e = beginning_eq
       ((O.roots j i b a).0 (sym (subst (λ u. c u i ≡ c u j) z e)))
-      (ap (λ u. front n u (at j).label) z ∙ front-none n (at j).label (G.fits _ (word_in table j b))
-      ∙ sym (front-none n (at i).label (G.fits _ (word_in table i a))) ∙ sym (ap (λ u. front n u (at i).label) z))
+      (ap (λ u. front n u (at j).label) z ∙ front_none n (at j).label (G.fits _ (word_in table j b))
+      ∙ sym (front_none n (at i).label (G.fits _ (word_in table i a))) ∙ sym (ap (λ u. front n u (at i).label) z))
 
   -- the word k goes like i up to depth t, and like j from there on
   record Meets (t i j : ℕ) : Type 0 where
@@ -54,25 +54,25 @@ module _ (n : ℕ) (table : List Word) (G : Table n table) (c : ℕ → ℕ → 
       record {
         k = K.at;
         below = K.below;
-        begins = ap (beginning n t) K.is ∙ joined-beginning n t (at i) (at j);
-        ends = ap (ending n t) K.is ∙ joined-ending n t (at i) (at j);
+        begins = ap (beginning n t) K.is ∙ joined_beginning n t (at i) (at j);
+        ends = ap (ending n t) K.is ∙ joined_ending n t (at i) (at j);
       }
 
-  pub forward-one : (t i j : ℕ) → suc t < n → i < length table → j < length table → c t i ≡ c t j
+  pub forward_one : (t i j : ℕ) → suc t < n → i < length table → j < length table → c t i ≡ c t j
       → symbol_at n table t i ≡ symbol_at n table t j → c (suc t) i ≡ c (suc t) j
-  forward-one t i j h a b e s = go (ℕ_discrete t 0)
+  forward_one t i j h a b e s = go (ℕ_discrete t 0)
     where
       -- a word that goes like i up to depth t and like j behind it
       through : Meets t i j → c (suc t) i ≡ c (suc t) j
       through m =
           let k = m.k in
           let x : symbol n t (word_at table k).label ≡ symbol n t (word_at table i).label =
-          symbol-back n t (word_at table k).label (word_at table j).label (omega arith) (ending-back m.ends) ∙ sym s in
+          symbol_back n t (word_at table k).label (word_at table j).label (omega arith) (ending_back m.ends) ∙ sym s in
           let y : beginning n (suc t) (word_at table k) ≡ beginning n (suc t) (word_at table i) =
-          beginning-more t (word_at table k) (word_at table i) (omega arith) m.begins x in
+          beginning_more t (word_at table k) (word_at table i) (omega arith) m.begins x in
           let z : ending n (suc t) (word_at table k) ≡ ending n (suc t) (word_at table j) =
-          ending-eq (back_step n t (word_at table k).label (word_at table j).label (omega arith) (ending-back m.ends))
-          (ending-goal m.ends) in
+          ending_eq (back_step n t (word_at table k).label (word_at table j).label (omega arith) (ending_back m.ends))
+          (ending_goal m.ends) in
           begun n table G c O (suc t) i k h a m.below y
           ∙ sym (ended n table G c O (suc t) j k (omega arith) (omega arith) b m.below z)
 
@@ -80,29 +80,29 @@ module _ (n : ℕ) (table : List Word) (G : Table n table) (c : ℕ → ℕ → 
       go (yes z) = through (record { k = j; below = b; begins = starts; ends = refl })
         where
           starts : beginning n t (word_at table j) ≡ beginning n t (word_at table i)
-          starts = root-begins t z i j a b e
+          starts = root_begins t z i j a b e
       go (no z) = through (meets t i j (omega arith) (omega arith) a b e)
 
-  pub backward-one : (t i j : ℕ) → 0 < t → t < n → i < length table → j < length table → c (suc t) i ≡ c (suc t) j
+  pub backward_one : (t i j : ℕ) → 0 < t → t < n → i < length table → j < length table → c (suc t) i ≡ c (suc t) j
       → symbol_at n table t i ≡ symbol_at n table t j → c t i ≡ c t j
-  backward-one t i j p h a b e s = go (dec_lt (suc t) n)
+  backward_one t i j p h a b e s = go (dec_lt (suc t) n)
     where
       go : Dec (suc t < n) → c t i ≡ c t j
       go (yes q) =
           let m = meets (suc t) i j (omega arith) q a b e in
           let k = m.k in
           let x : symbol n t (word_at table k).label ≡ symbol n t (word_at table j).label =
-          symbol-front n t (word_at table k).label (word_at table i).label (beginning-front m.begins) ∙ s in
+          symbol_front n t (word_at table k).label (word_at table i).label (beginning_front m.begins) ∙ s in
           let y : beginning n t (word_at table k) ≡ beginning n t (word_at table i) =
-          beginning-eq (beginning-root m.begins)
-          (front-step n t (word_at table k).label (word_at table i).label h (beginning-front m.begins)) in
+          beginning_eq (beginning_root m.begins)
+          (front_step n t (word_at table k).label (word_at table i).label h (beginning_front m.begins)) in
           begun n table G c O t i k h a m.below y
-          ∙ sym (ended n table G c O t j k p (omega arith) b m.below (ending-more t (word_at table k) (word_at table j) h m.ends x))
+          ∙ sym (ended n table G c O t j k p (omega arith) b m.below (ending_more t (word_at table k) (word_at table j) h m.ends x))
       go (no q) =
           let d : suc t ≡ n = omega arith in
           let g : (word_at table i).goal ≡ (word_at table j).goal = (O.goals i j a b).0 (subst (λ u. c u i ≡ c u j) d e) in
           ended n table G c O t i j p (omega arith) a b (last d g)
         where
           last : suc t ≡ n → (word_at table i).goal ≡ (word_at table j).goal → ending n t (word_at table j) ≡ ending n t (word_at table i)
-          last d g = ending-more t (word_at table j) (word_at table i) h
-              (ending-eq (none-behind (suc t) (word_at table j).label (word_at table i).label d) (sym g)) (sym s)
+          last d g = ending_more t (word_at table j) (word_at table i) h
+              (ending_eq (none_behind (suc t) (word_at table j).label (word_at table i).label d) (sym g)) (sym s)

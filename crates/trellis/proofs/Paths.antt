@@ -10,51 +10,51 @@ use native.Mathlib.Omega.{arith}
 use lib.ListN.{length}
 use lib.Dec.{T, eqb, eqb→eq, eqb_refl}
 use Rattle.trellis.specs.Lists.{◌∈◌, Once, Lower}
-use Rattle.trellis.specs.Own.{Edge, edge, edgeLess}
+use Rattle.trellis.specs.Own.{Edge, edge, edge_less}
 use Rattle.trellis.proofs.Ascending.{Orders}
-use Rattle.trellis.proofs.ThreeNumbers.{alike-yes, alike_self, lower-yes, lower_of, lower-never, lower-chain, lower-compare}
-use Rattle.trellis.proofs.ThreeNumbers.{sameEdge}
-use Rattle.trellis.proofs.Distinct.{Known, new, distinct, look, distinct-le, le-distinct, upto, in-upto, from-upto}
+use Rattle.trellis.proofs.ThreeNumbers.{alike_yes, alike_self, lower_yes, lower_of, lower_never, lower_chain, lower_compare}
+use Rattle.trellis.proofs.ThreeNumbers.{same_edge}
+use Rattle.trellis.proofs.Distinct.{Known, new, distinct, look, distinct_le, le_distinct, upto, in_upto, from_upto}
 
 -- ---- edges
 
-pub edge-eq : {e f : Edge} → e.from ≡ f.from → e.symbol ≡ f.symbol → e.to ≡ f.to → e ≡ f
-edge-eq p q r = λ k. edge (p k) (q k) (r k)
+pub edge_eq : {e f : Edge} → e.from ≡ f.from → e.symbol ≡ f.symbol → e.to ≡ f.to → e ≡ f
+edge_eq p q r = λ k. edge (p k) (q k) (r k)
 
-pub edge-ok : (e f : Edge) → T (sameEdge e f) → e ≡ f
-edge-ok e f t =
-    let a = alike-yes e.from e.symbol e.to f.from f.symbol f.to t in
-    edge-eq a.firsts a.seconds a.thirds
+pub edge_ok : (e f : Edge) → T (same_edge e f) → e ≡ f
+edge_ok e f t =
+    let a = alike_yes e.from e.symbol e.to f.from f.symbol f.to t in
+    edge_eq a.firsts a.seconds a.thirds
 
-pub edge-rf : (e : Edge) → T (sameEdge e e)
-edge-rf e = alike_self e.from e.symbol e.to
+pub edge_rf : (e : Edge) → T (same_edge e e)
+edge_rf e = alike_self e.from e.symbol e.to
 
-pub edges-order : Orders edgeLess
-edges-order = record {
-  never = λ e t. lower-never _ _ _ (yes_of e e t);
-  chain = λ e f g s t. lower_of _ _ _ _ _ _ (lower-chain (yes_of e f s) (yes_of f g t));
+pub edges_order : Orders edge_less
+edges_order = record {
+  never = λ e t. lower_never _ _ _ (yes_of e e t);
+  chain = λ e f g s t. lower_of _ _ _ _ _ _ (lower_chain (yes_of e f s) (yes_of f g t));
   compare = λ e f p q.
-      let a = lower-compare e.from e.symbol e.to f.from f.symbol f.to (λ l. p (lower_of _ _ _ _ _ _ l))
+      let a = lower_compare e.from e.symbol e.to f.from f.symbol f.to (λ l. p (lower_of _ _ _ _ _ _ l))
       (λ l. q (lower_of _ _ _ _ _ _ l)) in
-      edge-eq a.firsts a.seconds a.thirds;
+      edge_eq a.firsts a.seconds a.thirds;
 }
   where
-    yes_of : (e f : Edge) → T (edgeLess e f) → Lower e.from e.symbol e.to f.from f.symbol f.to
-    yes_of e f t = lower-yes e.from e.symbol e.to f.from f.symbol f.to t
+    yes_of : (e f : Edge) → T (edge_less e f) → Lower e.from e.symbol e.to f.from f.symbol f.to
+    yes_of e f t = lower_yes e.from e.symbol e.to f.from f.symbol f.to t
 
 -- the two kinds of value that are counted
 pub vlook : (x : ℕ) (l : List ℕ) → Known eqb x l
 vlook = look eqb eqb→eq eqb_refl
 
-pub elook : (e : Edge) (l : List Edge) → Known sameEdge e l
-elook = look sameEdge edge-ok edge-rf
+pub elook : (e : Edge) (l : List Edge) → Known same_edge e l
+elook = look same_edge edge_ok edge_rf
 
 -- what is old on the right is old on the left: the left is new no oftener
 module _ {A B : Type 0} (p : A → A → Bool) (q : B → B → Bool) where
-  pub new-le-new : {x : A} {l : List A} {y : B} {k : List B} → Known p x l → Known q y k → (y ∈ k → x ∈ l) → new p x l ≤ new q y k
-  new-le-new (inl f) (inl g) h = omega arith
-  new-le-new (inl f) (inr s) h = absurd (f.never (h s.seen))
-  new-le-new (inr s) g h = omega arith
+  pub new_le_new : {x : A} {l : List A} {y : B} {k : List B} → Known p x l → Known q y k → (y ∈ k → x ∈ l) → new p x l ≤ new q y k
+  new_le_new (inl f) (inl g) h = omega arith
+  new_le_new (inl f) (inr s) h = absurd (f.never (h s.seen))
+  new_le_new (inr s) g h = omega arith
 
 -- ---- a family of paths: at vertex c t i the path i stands at depth t, and it takes the symbol s t i from there
 module _ (s c : ℕ → ℕ → ℕ) where
@@ -66,31 +66,31 @@ module _ (s c : ℕ → ℕ → ℕ) where
   vnew t i = new eqb (c t i) (upto (c t) i)
 
   abbrev pub enew : ℕ → ℕ → ℕ
-  enew t i = new sameEdge (step t i) (upto (step t) i)
+  enew t i = new same_edge (step t i) (upto (step t) i)
 
   -- how many vertices at depth t, how many edges at step t, the first m paths have
   abbrev pub vcount : ℕ → ℕ → ℕ
   vcount m t = distinct eqb (upto (c t) m)
 
   abbrev pub ecount : ℕ → ℕ → ℕ
-  ecount m t = distinct sameEdge (upto (step t) m)
+  ecount m t = distinct same_edge (upto (step t) m)
 
-  to-old : (t i : ℕ) → step t i ∈ upto (step t) i → c (suc t) i ∈ upto (c (suc t)) i
-  to-old t i m = let w = from-upto (step t) i (step t i) m in
-      in-upto (c (suc t)) i w.at (c (suc t) i) w.below (ap (λ (e : Edge). e.to) w.is)
+  to_old : (t i : ℕ) → step t i ∈ upto (step t) i → c (suc t) i ∈ upto (c (suc t)) i
+  to_old t i m = let w = from_upto (step t) i (step t i) m in
+      in_upto (c (suc t)) i w.at (c (suc t) i) w.below (ap (λ (e : Edge). e.to) w.is)
 
   from_old : (t i : ℕ) → step t i ∈ upto (step t) i → c t i ∈ upto (c t) i
-  from_old t i m = let w = from-upto (step t) i (step t i) m in
-      in-upto (c t) i w.at (c t i) w.below (ap (λ (e : Edge). e.from) w.is)
+  from_old t i m = let w = from_upto (step t) i (step t i) m in
+      in_upto (c t) i w.at (c t i) w.below (ap (λ (e : Edge). e.from) w.is)
 
   -- a new vertex is entered and left by new edges
   pub into : (t i : ℕ) → vnew (suc t) i ≤ enew t i
-  into t i = new-le-new eqb sameEdge (vlook _ _) (elook _ _) (to-old t i)
+  into t i = new_le_new eqb same_edge (vlook _ _) (elook _ _) (to_old t i)
 
   pub onward : (t i : ℕ) → (vnew t i ≡ 0) ⊎ (enew t i ≡ 1)
   onward t i = go (vlook (c t i) (upto (c t) i)) (elook (step t i) (upto (step t) i))
     where
-      go : Known eqb (c t i) (upto (c t) i) → Known sameEdge (step t i) (upto (step t) i) → (vnew t i ≡ 0) ⊎ (enew t i ≡ 1)
+      go : Known eqb (c t i) (upto (c t) i) → Known same_edge (step t i) (upto (step t) i) → (vnew t i ≡ 0) ⊎ (enew t i ≡ 1)
       go (inr a) b = inl a.none
       go (inl a) (inl b) = inr b.one
       go (inl a) (inr b) = absurd (a.never (from_old t i b.seen))
@@ -105,16 +105,16 @@ pub record Grown (E : List Edge) (X : List ℕ) (l : List Edge) : Type 0 where
   pub all : List Edge
   pub within : (e : Edge) → e ∈ all → e ∈ E
   pub covers : (x : ℕ) → x ∈ X → x ∈ ends all
-  pub gain : distinct eqb (ends all) + distinct sameEdge l ≤ distinct sameEdge all + distinct eqb (ends l)
+  pub gain : distinct eqb (ends all) + distinct same_edge l ≤ distinct same_edge all + distinct eqb (ends l)
 
 pub record Into (E : List Edge) (x : ℕ) : Type 0 where
   pub by : Edge
   pub inside : by ∈ E
   pub leads : x ≡ by.to
 
-mem-map : (e : Edge) (l : List Edge) → e ∈ l → e.to ∈ ends l
-mem-map e [] m = absurd (Memᴰ.not-nil m)
-mem-map e (f ∷ l) m = go (mem-map e l) (Memᴰ.cases_cons m)
+mem_map : (e : Edge) (l : List Edge) → e ∈ l → e.to ∈ ends l
+mem_map e [] m = absurd (Memᴰ.not-nil m)
+mem_map e (f ∷ l) m = go (mem_map e l) (Memᴰ.cases_cons m)
   where
     go : (e ∈ l → e.to ∈ ends l) → (e ≡ f) ⊎ (e ∈ l) → e.to ∈ f.to ∷ ends l
     go r (inl p) = Memᴰ.head (ap (λ (g : Edge). g.to) p)
@@ -131,8 +131,8 @@ grow E (x ∷ X) l a b = go (grow E X l a (λ y m. b y (Memᴰ.tail m))) (b x (M
       within = λ e m. inside e (Memᴰ.cases_cons m);
       covers = λ y m. cover y (Memᴰ.cases_cons m);
       gain =
-          let h : new eqb w.by.to (ends g.all) ≤ new sameEdge w.by g.all =
-          new-le-new eqb sameEdge (vlook _ _) (elook _ _) (mem-map w.by g.all) in
+          let h : new eqb w.by.to (ends g.all) ≤ new same_edge w.by g.all =
+          new_le_new eqb same_edge (vlook _ _) (elook _ _) (mem_map w.by g.all) in
           let k = g.gain in
           omega arith;
     }
@@ -148,15 +148,15 @@ grow E (x ∷ X) l a b = go (grow E X l a (λ y m. b y (Memᴰ.tail m))) (b x (M
 -- The vertices that no path of l enters are no more than the edges that are not in l: X has each vertex once, and each is entered by an
 -- edge of E.
 pub slack : (E : List Edge) (X : List ℕ) (l : List Edge) → Once X → ((e : Edge) → e ∈ l → e ∈ E) → ((x : ℕ) → x ∈ X → Into E x)
-    → length X + distinct sameEdge l ≤ length E + distinct eqb (ends l)
+    → length X + distinct same_edge l ≤ length E + distinct eqb (ends l)
 slack E X l o a b =
     let g = grow E X l a b in
-    let p : length X ≤ distinct eqb (ends g.all) = le-distinct eqb eqb→eq eqb_refl _ X o g.covers in
-    let q : distinct sameEdge g.all ≤ length E = distinct-le sameEdge edge-ok edge-rf g.all E g.within in
+    let p : length X ≤ distinct eqb (ends g.all) = le_distinct eqb eqb→eq eqb_refl _ X o g.covers in
+    let q : distinct same_edge g.all ≤ length E = distinct_le same_edge edge_ok edge_rf g.all E g.within in
     let k = g.gain in
     omega arith
 
-pub ends-upto : (f : ℕ → Edge) (m : ℕ) → ends (upto f m) ≡ upto (λ i. (f i).to) m
+pub ends_upto : (f : ℕ → Edge) (m : ℕ) → ends (upto f m) ≡ upto (λ i. (f i).to) m
 unfolding upto
-ends-upto f zero = refl
-ends-upto f (suc m) = ap (λ l. (f m).to ∷ l) (ends-upto f m)
+ends_upto f zero = refl
+ends_upto f (suc m) = ap (λ l. (f m).to ∷ l) (ends_upto f m)

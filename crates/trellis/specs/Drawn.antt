@@ -8,14 +8,14 @@ use Rattle.trellis.specs.Label.{symbol}
 use Rattle.trellis.specs.Word.{Word}
 use Rattle.trellis.specs.Own.{Edge, edge}
 use Rattle.trellis.specs.Selections.{selections}
-use Rattle.trellis.specs.Layout.{vertexCountOf, rootState, goalState, stepEdges}
+use Rattle.trellis.specs.Layout.{vertex_count_of, root_state, goal_state, step_edges}
 
 -- vertices are named by numbers; a vertex of depth 0 stands for a root, one of depth n for a goal
 pub record Drawing : Type 0 where
   pub vertices : ℕ → List ℕ
   pub edges : ℕ → List Edge
-  pub rootOf : ℕ → ℕ
-  pub goalOf : ℕ → ℕ
+  pub root_of : ℕ → ℕ
+  pub goal_of : ℕ → ℕ
 
 -- the vertices x 0 .. x n and the symbols a 0 .. a (n - 1) are a path from depth 0 to depth n
 pub record IsPath (n : ℕ) (D : Drawing) (x a : ℕ → ℕ) : Type 0 where
@@ -23,9 +23,9 @@ pub record IsPath (n : ℕ) (D : Drawing) (x a : ℕ → ℕ) : Type 0 where
 
 -- the word that such a path carries is w: root state, the edges' symbols one by one, goal state
 pub record Carries (n : ℕ) (D : Drawing) (x a : ℕ → ℕ) (w : Word) : Type 0 where
-  pub root : D.rootOf (x 0) ≡ w.root
+  pub root : D.root_of (x 0) ≡ w.root
   pub symbols : (t : ℕ) → t < n → a t ≡ symbol n t w.label
-  pub goal : D.goalOf (x n) ≡ w.goal
+  pub goal : D.goal_of (x n) ≡ w.goal
 
 -- a path that carries w
 pub record PathOf (n : ℕ) (D : Drawing) (w : Word) : Type 0 where
@@ -68,39 +68,39 @@ pub record JustOne (table : List Word) (state : Word → ℕ) (list : List ℕ) 
 -- D is a section drawn for the table. Each condition but one is a sentence of document 01, quoted before it
 pub record DrawnFor (n : ℕ) (table : List Word) (D : Drawing) : Type 0 where
   -- "any finite list of vertices for each depth 0 to n, none listed twice"
-  pub noneTwice : (t : ℕ) → t ≤ n → Once (D.vertices t)
+  pub none_twice : (t : ℕ) → t ≤ n → Once (D.vertices t)
   -- "and of edges for each step, each edge joining vertices of its step's two depths"
   pub joins : (t : ℕ) → t < n → (e : Edge) → e ∈ D.edges t → (e.from ∈ D.vertices t) × (e.to ∈ D.vertices (suc t))
   -- "No edge is repeated if no two edges of a step agree in from, symbol and to"
-  pub noRepeat : (t : ℕ) → t < n → Once (D.edges t)
+  pub no_repeat : (t : ℕ) → t < n → Once (D.edges t)
   -- "Depth 0 has just one vertex for each root in the table, depth n just one for each goal"
-  pub roots : JustOne table (λ w. w.root) (D.vertices 0) D.rootOf
-  pub goals : JustOne table (λ w. w.goal) (D.vertices n) D.goalOf
+  pub roots : JustOne table (λ w. w.root) (D.vertices 0) D.root_of
+  pub goals : JustOne table (λ w. w.goal) (D.vertices n) D.goal_of
   -- every vertex is on a path: the demand's own condition, since a vertex that no path meets would lower the selections
   pub on_path : (t v : ℕ) → t ≤ n → v ∈ D.vertices t → Through n D t v
   -- drawn "for an accepted table": "its words ... are taken as above", off its paths, and are the table's, no more and no fewer
   pub no_more : (x a : ℕ → ℕ) → IsPath n D x a → WordOf n D table x a
-  pub noFewer : (w : Word) → w ∈ table → PathOf n D w
+  pub no_fewer : (w : Word) → w ∈ table → PathOf n D w
 
 -- ---- sections compared
 
 -- a section in numbers as a drawing: vertex v of depth t is the number v
-unfoldable pub drawingOf : List ℕ → Drawing
-drawingOf l = record {
-  vertices = λ t. each (λ v. v) (vertexCountOf l t);
-  edges = stepEdges l;
-  rootOf = rootState l;
-  goalOf = goalState l;
+unfoldable pub drawing_of : List ℕ → Drawing
+drawing_of l = record {
+  vertices = λ t. each (λ v. v) (vertex_count_of l t);
+  edges = step_edges l;
+  root_of = root_state l;
+  goal_of = goal_state l;
 }
 
-abbrev pub verticesOf : Drawing → ℕ → ℕ
-verticesOf D t = length (D.vertices t)
+abbrev pub vertices_of : Drawing → ℕ → ℕ
+vertices_of D t = length (D.vertices t)
 
-abbrev pub edgesOf : Drawing → ℕ → ℕ
-edgesOf D t = length (D.edges t)
+abbrev pub edges_of : Drawing → ℕ → ℕ
+edges_of D t = length (D.edges t)
 
 -- D has no fewer vertices at any depth, no fewer edges at any step, no fewer selections in all than the counts v and e
 pub record NoFewer (n : ℕ) (v e : ℕ → ℕ) (D : Drawing) : Type 0 where
-  pub vertices : (t : ℕ) → t ≤ n → v t ≤ verticesOf D t
-  pub edges : (t : ℕ) → t < n → e t ≤ edgesOf D t
-  pub selected : selections n v e ≤ selections n (verticesOf D) (edgesOf D)
+  pub vertices : (t : ℕ) → t ≤ n → v t ≤ vertices_of D t
+  pub edges : (t : ℕ) → t < n → e t ≤ edges_of D t
+  pub selected : selections n v e ≤ selections n (vertices_of D) (edges_of D)

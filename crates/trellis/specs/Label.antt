@@ -19,10 +19,10 @@ unfoldable pub spliced : ℕ → ℕ → ℕ → ℕ → ℕ
 spliced n t x y = front n t x * 4 ^ (n - t) + back n t y
 
 -- whether the last k symbols of x are all below q
-unfoldable pub symbolsBelow : ℕ → ℕ → ℕ → Bool
-symbolsBelow q zero x = true
-symbolsBelow q (suc k) x = ltb (x % 4) q && symbolsBelow q k (x / 4)
+unfoldable pub symbols_below : ℕ → ℕ → ℕ → Bool
+symbols_below q zero x = true
+symbols_below q (suc k) x = ltb (x % 4) q && symbols_below q k (x / 4)
 
 -- whether x is a label of n symbols below q
-unfoldable pub isLabel : ℕ → ℕ → ℕ → Bool
-isLabel q n x = ltb x (4 ^ n) && symbolsBelow q n x
+unfoldable pub is_label : ℕ → ℕ → ℕ → Bool
+is_label q n x = ltb x (4 ^ n) && symbols_below q n x

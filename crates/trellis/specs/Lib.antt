@@ -11,4 +11,4 @@ pub mod Layout
 pub mod Drawn
 pub mod Witness
 pub mod Outcome
-pub mod inner
+pub mod Inner

@@ -13,9 +13,9 @@ abbrev pub Once {ℓ} : {A : Type ℓ} → List A → Type ℓ
 Once [] = Unit
 Once (x ∷ l) = (x ∈ l → ⊥) × Once l
 
-abbrev pub one-if : Bool → ℕ
-one-if true = 1
-one-if false = 0
+abbrev pub one_if : Bool → ℕ
+one_if true = 1
+one_if false = 0
 
 -- f at, f (at + 1), .. and so on, count of them
 unfoldable pub run {ℓ} : {A : Type ℓ} → (ℕ → A) → ℕ → ℕ → List A
@@ -54,9 +54,9 @@ abbrev pub over : List ℕ → List ℕ → List ℕ
 over vs buffer = vs ++ drop (length vs) buffer
 
 -- whether x stands in the list, where eq tells elements apart
-unfoldable pub isIn {ℓ} : {A : Type ℓ} → (A → A → Bool) → A → List A → Bool
-isIn eq x [] = false
-isIn eq x (y ∷ l) = eq x y || isIn eq x l
+unfoldable pub is_in {ℓ} : {A : Type ℓ} → (A → A → Bool) → A → List A → Bool
+is_in eq x [] = false
+is_in eq x (y ∷ l) = eq x y || is_in eq x l
 
 -- the elements that pass a test, in their order
 unfoldable pub keep {ℓ} : {A : Type ℓ} → (A → Bool) → List A → List A
@@ -66,7 +66,7 @@ keep test (x ∷ l) = cond (test x) (x ∷ keep test l) (keep test l)
 -- how many numbers of the list are below s
 unfoldable pub rank : ℕ → List ℕ → ℕ
 rank s [] = 0
-rank s (x ∷ l) = one-if (ltb x s) + rank s l
+rank s (x ∷ l) = one_if (ltb x s) + rank s l
 
 -- ---- ascending lists
 
@@ -88,9 +88,9 @@ ascending less (x ∷ l) = insert less x (ascending less l)
 -- ---- three numbers, compared by the first, then the second, then the third
 
 pub data Lower (a b c x y z : ℕ) : Type 0 where
-  byFirst : a < x → Lower a b c x y z
-  bySecond : a ≡ x → b < y → Lower a b c x y z
-  byThird : a ≡ x → b ≡ y → c < z → Lower a b c x y z
+  by_first : a < x → Lower a b c x y z
+  by_second : a ≡ x → b < y → Lower a b c x y z
+  by_third : a ≡ x → b ≡ y → c < z → Lower a b c x y z
 
 unfoldable pub lower : ℕ → ℕ → ℕ → ℕ → ℕ → ℕ → Bool
 lower a b c x y z = ltb a x || (eqb a x && (ltb b y || (eqb b y && ltb c z)))

@@ -14,62 +14,62 @@ abbrev pub success : ℕ → Outcome
 success value = outcome 0 (value ∷ [])
 
 -- the file is under 5 bytes, or not 5 + 4W
-abbrev pub badLength : ℕ → Outcome
-badLength fileLength = outcome 1 (fileLength ∷ [])
+abbrev pub bad_length : ℕ → Outcome
+bad_length file_length = outcome 1 (file_length ∷ [])
 
 -- q, n, S or W (0 to 3) is outside its bounds
-abbrev pub badSize : ℕ → Outcome
-badSize place = outcome 2 (place ∷ [])
+abbrev pub bad_size : ℕ → Outcome
+bad_size place = outcome 2 (place ∷ [])
 
 -- a word has a state not below S, a label not below 4^n, or a symbol not below q
-abbrev pub badWord : ℕ → Outcome
-badWord index = outcome 3 (index ∷ [])
+abbrev pub bad_word : ℕ → Outcome
+bad_word index = outcome 3 (index ∷ [])
 
 -- a word is not above the word before it
-abbrev pub notAbove : ℕ → Outcome
-notAbove index = outcome 4 (index ∷ [])
+abbrev pub not_above : ℕ → Outcome
+not_above index = outcome 4 (index ∷ [])
 
 -- the map buffer is shorter than W·(n+1)
-abbrev pub shortMap : ℕ → Outcome
-shortMap needed = outcome 5 (needed ∷ [])
+abbrev pub short_map : ℕ → Outcome
+short_map needed = outcome 5 (needed ∷ [])
 
 -- the table is not rectangular at a depth, where words i, j, k force a missing one
-abbrev pub notRectangular : ℕ → ℕ → ℕ → ℕ → Outcome
-notRectangular depth i j k = outcome 6 (depth ∷ i ∷ j ∷ k ∷ [])
+abbrev pub not_rectangular : ℕ → ℕ → ℕ → ℕ → Outcome
+not_rectangular depth i j k = outcome 6 (depth ∷ i ∷ j ∷ k ∷ [])
 
 -- the section buffer is shorter than the section
-abbrev pub shortSection : ℕ → Outcome
-shortSection needed = outcome 7 (needed ∷ [])
+abbrev pub short_section : ℕ → Outcome
+short_section needed = outcome 7 (needed ∷ [])
 
 -- K is outside its bounds, or a section is not usable, or numbers are left over
-abbrev pub badSection : ℕ → Outcome
-badSection index = outcome 8 (index ∷ [])
+abbrev pub bad_section : ℕ → Outcome
+bad_section index = outcome 8 (index ∷ [])
 
 -- a length, a state or a block of the frame is at fault
-abbrev pub badBlock : ℕ → Outcome
-badBlock block = outcome 9 (block ∷ [])
+abbrev pub bad_block : ℕ → Outcome
+bad_block block = outcome 9 (block ∷ [])
 
 -- a buffer is too short
-abbrev pub shortBuffer : ℕ → Outcome
-shortBuffer needed = outcome 10 (needed ∷ [])
+abbrev pub short_buffer : ℕ → Outcome
+short_buffer needed = outcome 10 (needed ∷ [])
 
 -- the chain has no path
-abbrev pub noPath : Outcome
-noPath = outcome 11 []
+abbrev pub no_path : Outcome
+no_path = outcome 11 []
 
 -- reading back finds over 1,024 words
-abbrev pub tooManyWords : Outcome
-tooManyWords = outcome 12 []
+abbrev pub too_many_words : Outcome
+too_many_words = outcome 12 []
 
 -- by document 02's request 6: the number of paths to be listed is outside its bounds
-abbrev pub badPathCount : ℕ → Outcome
-badPathCount paths = outcome 13 (paths ∷ [])
+abbrev pub bad_path_count : ℕ → Outcome
+bad_path_count paths = outcome 13 (paths ∷ [])
 
 -- by document 02's request 7: the generator rows are at fault, with their count where a size is outside its bounds, else with the first row
 -- that has bits above its width
-abbrev pub badRows : ℕ → Outcome
-badRows countOrRow = outcome 14 (countOrRow ∷ [])
+abbrev pub bad_rows : ℕ → Outcome
+bad_rows count_or_row = outcome 14 (count_or_row ∷ [])
 
 -- by document 02's request 7: a generator row is a sum of earlier ones
-abbrev pub dependentRow : ℕ → Outcome
-dependentRow row = outcome 15 (row ∷ [])
+abbrev pub dependent_row : ℕ → Outcome
+dependent_row row = outcome 15 (row ∷ [])

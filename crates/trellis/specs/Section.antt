@@ -22,19 +22,19 @@ unfoldable pub leaving : ℕ → List Edge → List Edge
 leaving v es = keep (λ e. eqb e.from v) es
 
 -- all paths of k steps from vertex v of depth t, in the order of their edges
-unfoldable pub pathsFrom : (ℕ → List Edge) → ℕ → ℕ → ℕ → List Path
-pathsFrom edges zero t v = stop v ∷ []
-pathsFrom edges (suc k) t v = flat_map (λ e. map (along e) (pathsFrom edges k (suc t) e.to)) (leaving v (edges t))
+unfoldable pub paths_from : (ℕ → List Edge) → ℕ → ℕ → ℕ → List Path
+paths_from edges zero t v = stop v ∷ []
+paths_from edges (suc k) t v = flat_map (λ e. map (along e) (paths_from edges k (suc t) e.to)) (leaving v (edges t))
 
 -- x followed by the symbols, two bits each
-unfoldable pub packOnto : ℕ → List ℕ → ℕ
-packOnto x [] = x
-packOnto x (a ∷ rest) = packOnto (x * 4 + a) rest
+unfoldable pub pack_onto : ℕ → List ℕ → ℕ
+pack_onto x [] = x
+pack_onto x (a ∷ rest) = pack_onto (x * 4 + a) rest
 
 -- the word of a path that starts at vertex v: root state, the edges' symbols, goal state
 unfoldable pub word_of : (ℕ → ℕ) → (ℕ → ℕ) → ℕ → Path → Word
-word_of rootOf goalOf v p = word (rootOf v) (packOnto 0 p.symbols) (goalOf p.end)
+word_of root_of goal_of v p = word (root_of v) (pack_onto 0 p.symbols) (goal_of p.end)
 
--- a section's words: `roots` are its vertices of depth 0, rootOf and goalOf the states of its outer vertices
+-- a section's words: `roots` are its vertices of depth 0, root_of and goal_of the states of its outer vertices
 unfoldable pub words_of : ℕ → (ℕ → List Edge) → List ℕ → (ℕ → ℕ) → (ℕ → ℕ) → List Word
-words_of n edges roots rootOf goalOf = flat_map (λ v. map (word_of rootOf goalOf v) (pathsFrom edges n 0 v)) roots
+words_of n edges roots root_of goal_of = flat_map (λ v. map (word_of root_of goal_of v) (paths_from edges n 0 v)) roots

@@ -20,8 +20,8 @@ word_at table i = get_or table i (word 0 0 0)
 abbrev pub Before : Word → Word → Type 0
 Before v w = Lower v.root v.label v.goal w.root w.label w.goal
 
-abbrev pub sameWord : Word → Word → Bool
-sameWord v w = alike v.root v.label v.goal w.root w.label w.goal
+abbrev pub same_word : Word → Word → Bool
+same_word v w = alike v.root v.label v.goal w.root w.label w.goal
 
 -- a list of words of n symbols that ascend strictly
 pub record Table (n : ℕ) (table : List Word) : Type 0 where

@@ -13,12 +13,12 @@ use lib.ListN.{length, get_or, set, replicate, length-set, length-replicate, get
 use lib.Seq.{get_or-set_same, get_or-set_other}
 use lib.Dec.{eqb}
 use borrow.Author.Tests.{eq-eqb, ne_eqb, eqb-true, eqb-false}
-use Rattle.trellis.specs.Bounds.{mostQ, mostWords}
-use Rattle.trellis.specs.Lists.{one-if, all, any}
+use Rattle.trellis.specs.Bounds.{most_q, most_words}
+use Rattle.trellis.specs.Lists.{one_if, all, any}
 use Rattle.trellis.proofs.Bools.{clash}
-use Rattle.edges.specs.inner.Edges.{EdgesSmall}
-use Rattle.edges.proofs.Tests.{all_of, all-fails, Passed, passed_start, passed-by, passed-all}
-use Rattle.twins.specs.inner.Twins.{covered, apart, noTwins, turnedIn, Marks}
+use Rattle.edges.specs.Inner.Edges.{EdgesSmall}
+use Rattle.edges.proofs.Tests.{all_of, all_fails, Passed, passed_start, passed_by, passed_all}
+use Rattle.twins.specs.Inner.Twins.{covered, apart, no_twins, turned_in, Marks}
 
 -- ---- met or not
 
@@ -26,75 +26,75 @@ pub record Marking (f : ℕ → ℕ) (count : ℕ) (marks : List ℕ) (k : ℕ) 
   pub inside : k ≤ count
   pub so_far : Marks f k marks
 
-pub marking-start : (f : ℕ → ℕ) (count : ℕ) {marks : List ℕ} → marks ≡ replicate mostWords 0 → Marking f count marks 0
+pub marking_start : (f : ℕ → ℕ) (count : ℕ) {marks : List ℕ} → marks ≡ replicate most_words 0 → Marking f count marks 0
 unfolding any
-marking-start f count e = record {
+marking_start f count e = record {
   inside = omega arith;
   so_far = record {
-    long = ap length e ∙ length-replicate {A = ℕ} mostWords 0;
-    marked = λ v h. ap (λ m. get_or m v 0) e ∙ get_or-replicate {A = ℕ} mostWords v 0 0 h;
+    long = ap length e ∙ length-replicate {A = ℕ} most_words 0;
+    marked = λ v h. ap (λ m. get_or m v 0) e ∙ get_or-replicate {A = ℕ} most_words v 0 0 h;
   };
 }
 
-pub marking-next : {f : ℕ → ℕ} {count : ℕ} {marks : List ℕ} {k v : ℕ} → Marking f count marks k → k < count → v ≡ f k → f k < mostWords
+pub marking_next : {f : ℕ → ℕ} {count : ℕ} {marks : List ℕ} {k v : ℕ} → Marking f count marks k → k < count → v ≡ f k → f k < most_words
     → Marking f count (set marks v 1) (k + 1)
 unfolding any
-marking-next {f} {count} {marks} {k} {v} m h v-is small = record {
+marking_next {f} {count} {marks} {k} {v} m h v_is small = record {
   inside = omega arith;
   so_far = record { long = length-set marks v 1 ∙ m.so_far.long; marked = λ u l. rw (add-one k) (go u (ℕ_discrete (f k) u) l) };
 }
   where
-    met : (b : Bool) → 1 ≡ one-if (b || true)
+    met : (b : Bool) → 1 ≡ one_if (b || true)
     met true = refl
     met false = refl
 
-    other : (b : Bool) → one-if b ≡ one-if (b || false)
+    other : (b : Bool) → one_if b ≡ one_if (b || false)
     other true = refl
     other false = refl
 
-    go : (u : ℕ) → Dec (f k ≡ u) → u < mostWords → get_or (set marks v 1) u 0 ≡ one-if (any (λ j. eqb (f j) u) k || eqb (f k) u)
+    go : (u : ℕ) → Dec (f k ≡ u) → u < most_words → get_or (set marks v 1) u 0 ≡ one_if (any (λ j. eqb (f j) u) k || eqb (f k) u)
     go u (yes q) l =
-        let d : v ≡ u = v-is ∙ q in
+        let d : v ≡ u = v_is ∙ q in
         let n : u < length marks = omega (arith, m.so_far.long) in
         ap (λ w. get_or (set marks w 1) u 0) d ∙ get_or-set_same marks u 1 0 n ∙ rw (eq-eqb (f k) u q) (met (any (λ j. eqb (f j) u) k))
     go u (no q) l =
-        get_or-set_other marks v u 1 0 (λ d. q (sym v-is ∙ sym d)) ∙ m.so_far.marked u l
+        get_or-set_other marks v u 1 0 (λ d. q (sym v_is ∙ sym d)) ∙ m.so_far.marked u l
         ∙ rw (ne_eqb (f k) u q) (other (any (λ j. eqb (f j) u) k))
 
-pub marking-all : {f : ℕ → ℕ} {count : ℕ} {marks : List ℕ} {k : ℕ} → Marking f count marks k → count ≤ k → Marks f count marks
-marking-all {f} {count} {marks} {k} m h = let e : k ≡ count = omega (arith, m.inside) in subst (λ j. Marks f j marks) e m.so_far
+pub marking_all : {f : ℕ → ℕ} {count : ℕ} {marks : List ℕ} {k : ℕ} → Marking f count marks k → count ≤ k → Marks f count marks
+marking_all {f} {count} {marks} {k} m h = let e : k ≡ count = omega (arith, m.inside) in subst (λ j. Marks f j marks) e m.so_far
 
 -- a vertex by its mark
 module _ {f : ℕ → ℕ} {count : ℕ} {marks : List ℕ} (m : Marks f count marks) where
-  pub unmet : (v : ℕ) → v < mostWords → get_or marks v 0 ≡ 0 → any (λ k. eqb (f k) v) count ≡ false
+  pub unmet : (v : ℕ) → v < most_words → get_or marks v 0 ≡ 0 → any (λ k. eqb (f k) v) count ≡ false
   unmet v h e = go (any (λ k. eqb (f k) v) count) (sym (m.marked v h) ∙ e)
     where
-      go : (b : Bool) → one-if b ≡ 0 → b ≡ false
+      go : (b : Bool) → one_if b ≡ 0 → b ≡ false
       go true q = absurd (omega arith)
       go false q = refl
 
-  pub met : (v : ℕ) → v < mostWords → (get_or marks v 0 ≡ 0 → ⊥) → any (λ k. eqb (f k) v) count ≡ true
+  pub met : (v : ℕ) → v < most_words → (get_or marks v 0 ≡ 0 → ⊥) → any (λ k. eqb (f k) v) count ≡ true
   met v h e = go (any (λ k. eqb (f k) v) count) (λ q. e (m.marked v h ∙ q))
     where
-      go : (b : Bool) → (one-if b ≡ 0 → ⊥) → b ≡ true
+      go : (b : Bool) → (one_if b ≡ 0 → ⊥) → b ≡ true
       go true q = refl
       go false q = absurd (q refl)
 
-pub covered-fails : {f : ℕ → ℕ} {count vertices : ℕ} {marks : List ℕ} {v : ℕ} → Marks f count marks → vertices ≤ mostWords
+pub covered_fails : {f : ℕ → ℕ} {count vertices : ℕ} {marks : List ℕ} {v : ℕ} → Marks f count marks → vertices ≤ most_words
     → Passed (λ v. any (λ k. eqb (f k) v) count) vertices v → v < vertices → get_or marks v 0 ≡ 0 → false ≡ covered f count vertices
 unfolding covered
-covered-fails {f} {count} {vertices} {marks} {v} m few p h e =
-    sym (all-fails (λ v. any (λ k. eqb (f k) v) count) vertices v h (unmet m v (omega arith) e))
+covered_fails {f} {count} {vertices} {marks} {v} m few p h e =
+    sym (all_fails (λ v. any (λ k. eqb (f k) v) count) vertices v h (unmet m v (omega arith) e))
 
-pub covered_next : {f : ℕ → ℕ} {count vertices : ℕ} {marks : List ℕ} {v : ℕ} → Marks f count marks → vertices ≤ mostWords
+pub covered_next : {f : ℕ → ℕ} {count vertices : ℕ} {marks : List ℕ} {v : ℕ} → Marks f count marks → vertices ≤ most_words
     → Passed (λ v. any (λ k. eqb (f k) v) count) vertices v → v < vertices → (get_or marks v 0 ≡ 0 → ⊥)
     → Passed (λ v. any (λ k. eqb (f k) v) count) vertices (v + 1)
-covered_next {f} {count} {vertices} {marks} {v} m few p h e = passed-by p h (met m v (omega arith) e)
+covered_next {f} {count} {vertices} {marks} {v} m few p h e = passed_by p h (met m v (omega arith) e)
 
-pub covered-all : {f : ℕ → ℕ} {count vertices : ℕ} {marks : List ℕ} {v : ℕ} → Marks f count marks
+pub covered_all : {f : ℕ → ℕ} {count vertices : ℕ} {marks : List ℕ} {v : ℕ} → Marks f count marks
     → Passed (λ v. any (λ k. eqb (f k) v) count) vertices v → vertices ≤ v → true ≡ covered f count vertices
 unfolding covered
-covered-all m p h = passed-all p h
+covered_all m p h = passed_all p h
 
 -- ---- twins
 
@@ -108,23 +108,23 @@ pub record Last (slot other : ℕ → ℕ) (k x seen : ℕ) : Type 0 where
 -- no two edges below k make twins, and seen has the other end for each slot that they have
 pub record Apart (one symbol other : ℕ → ℕ) (count : ℕ) (seen : List ℕ) (k : ℕ) : Type 0 where
   pub so_far : Passed (λ k. all (λ j. apart one symbol other j k) k) count k
-  pub long : length seen ≡ mostQ * mostWords
-  pub known : (j : ℕ) → j < k → get_or seen (mostQ * one j + symbol j) 0 ≡ other j + 1
-  pub blank : (x : ℕ) → x < mostQ * mostWords → (get_or seen x 0 ≡ 0) ⊎ Last (λ j. mostQ * one j + symbol j) other k x (get_or seen x 0)
+  pub long : length seen ≡ most_q * most_words
+  pub known : (j : ℕ) → j < k → get_or seen (most_q * one j + symbol j) 0 ≡ other j + 1
+  pub blank : (x : ℕ) → x < most_q * most_words → (get_or seen x 0 ≡ 0) ⊎ Last (λ j. most_q * one j + symbol j) other k x (get_or seen x 0)
 
 pub record Small (one symbol other : ℕ → ℕ) (count : ℕ) : Type 0 where
-  pub ones : (k : ℕ) → k < count → one k < mostWords
-  pub symbols : (k : ℕ) → k < count → symbol k < mostQ
-  pub others : (k : ℕ) → k < count → other k < mostWords
+  pub ones : (k : ℕ) → k < count → one k < most_words
+  pub symbols : (k : ℕ) → k < count → symbol k < most_q
+  pub others : (k : ℕ) → k < count → other k < most_words
 
 pub small_of : {pairs symbols : List ℕ} {count : ℕ} (back : Bool) → EdgesSmall pairs symbols count
-    → Small (λ k. (turnedIn back pairs symbols k).from) (λ k. (turnedIn back pairs symbols k).symbol) (λ k. (turnedIn back pairs symbols k).to)
+    → Small (λ k. (turned_in back pairs symbols k).from) (λ k. (turned_in back pairs symbols k).symbol) (λ k. (turned_in back pairs symbols k).to)
     count
-small_of false s = record { ones = s.fromSmall; symbols = s.symbolSmall; others = s.toSmall }
-small_of true s = record { ones = s.toSmall; symbols = s.symbolSmall; others = s.fromSmall }
+small_of false s = record { ones = s.from_small; symbols = s.symbol_small; others = s.to_small }
+small_of true s = record { ones = s.to_small; symbols = s.symbol_small; others = s.from_small }
 
-pub slot_small : {one symbol other : ℕ → ℕ} {count k slot : ℕ} → Small one symbol other count → k < count → slot ≡ mostQ * one k + symbol k
-    → slot < mostQ * mostWords
+pub slot_small : {one symbol other : ℕ → ℕ} {count k slot : ℕ} → Small one symbol other count → k < count → slot ≡ most_q * one k + symbol k
+    → slot < most_q * most_words
 slot_small {k = k} s h e = omega (arith, s.ones k h, s.symbols k h)
 
 module _ (one symbol other : ℕ → ℕ) where
@@ -138,72 +138,72 @@ module _ (one symbol other : ℕ → ℕ) where
       go (yes p) (no q) = rw (eq-eqb (one j) (one k) p, ne_eqb (symbol j) (symbol k) q)
       go (no p) d = rw (ne_eqb (one j) (one k) p)
 
-  apart-false : (j k : ℕ) → one j ≡ one k → symbol j ≡ symbol k → (other j ≡ other k → ⊥) → apart one symbol other j k ≡ false
+  apart_false : (j k : ℕ) → one j ≡ one k → symbol j ≡ symbol k → (other j ≡ other k → ⊥) → apart one symbol other j k ≡ false
   unfolding apart
-  apart-false j k p q r = rw (eq-eqb (one j) (one k) p, eq-eqb (symbol j) (symbol k) q, ne_eqb (other j) (other k) r)
+  apart_false j k p q r = rw (eq-eqb (one j) (one k) p, eq-eqb (symbol j) (symbol k) q, ne_eqb (other j) (other k) r)
 
   -- what the test says
-  pub apart-says : (j k : ℕ) → apart one symbol other j k ≡ true → one j ≡ one k → symbol j ≡ symbol k → other j ≡ other k
+  pub apart_says : (j k : ℕ) → apart one symbol other j k ≡ true → one j ≡ one k → symbol j ≡ symbol k → other j ≡ other k
   unfolding apart
-  apart-says j k e p q = go (ℕ_discrete (other j) (other k))
+  apart_says j k e p q = go (ℕ_discrete (other j) (other k))
     where
       go : Dec (other j ≡ other k) → other j ≡ other k
       go (yes r) = r
-      go (no r) = absurd (clash (sym e ∙ apart-false j k p q r))
+      go (no r) = absurd (clash (sym e ∙ apart_false j k p q r))
 
 module _ {one symbol other : ℕ → ℕ} {count : ℕ} where
-  pub apart-start : {seen : List ℕ} → seen ≡ replicate (mostQ * mostWords) 0 → Apart one symbol other count seen 0
-  apart-start e = record {
+  pub apart_start : {seen : List ℕ} → seen ≡ replicate (most_q * most_words) 0 → Apart one symbol other count seen 0
+  apart_start e = record {
     so_far = passed_start;
-    long = ap length e ∙ length-replicate {A = ℕ} (mostQ * mostWords) 0;
+    long = ap length e ∙ length-replicate {A = ℕ} (most_q * most_words) 0;
     known = λ j h. absurd (not-suc-le-zero h);
-    blank = λ x h. inl (ap (λ s. get_or s x 0) e ∙ get_or-replicate {A = ℕ} (mostQ * mostWords) x 0 0 h);
+    blank = λ x h. inl (ap (λ s. get_or s x 0) e ∙ get_or-replicate {A = ℕ} (most_q * most_words) x 0 0 h);
   }
 
   module _ {seen : List ℕ} {k slot vertex : ℕ} (small : Small one symbol other count) (a : Apart one symbol other count seen k)
-      (h : k < count) (slot_is : slot ≡ mostQ * one k + symbol k) (vertex-is : vertex ≡ other k) where
-    slot-low : slot < mostQ * mostWords
-    slot-low = slot_small small h slot_is
+      (h : k < count) (slot_is : slot ≡ most_q * one k + symbol k) (vertex_is : vertex ≡ other k) where
+    slot_low : slot < most_q * most_words
+    slot_low = slot_small small h slot_is
 
-    slot-inside : slot < length seen
-    slot-inside = omega (arith, slot-low, a.long)
+    slot_inside : slot < length seen
+    slot_inside = omega (arith, slot_low, a.long)
 
     -- the edges below k with the slot of k
-    same-slot : (j : ℕ) → j < k → mostQ * one j + symbol j ≡ slot → (one j ≡ one k) × (symbol j ≡ symbol k)
-    same-slot j l e =
-        let s : symbol j < mostQ = small.symbols j (omega arith) in
-        let r : symbol k < mostQ = small.symbols k h in
+    same_slot : (j : ℕ) → j < k → most_q * one j + symbol j ≡ slot → (one j ≡ one k) × (symbol j ≡ symbol k)
+    same_slot j l e =
+        let s : symbol j < most_q = small.symbols j (omega arith) in
+        let r : symbol k < most_q = small.symbols k h in
         (omega (arith, slot_is), omega (arith, slot_is))
 
-    pub twins-found : {b : Bool} → b ≡ (not (eqb (get_or seen slot 0) 0) && not (eqb (get_or seen slot 0) (vertex + 1))) → b ≡ true
-        → false ≡ noTwins one symbol other count
-    unfolding noTwins
-    twins-found {b} d t = go (a.blank slot slot-low)
+    pub twins_found : {b : Bool} → b ≡ (not (eqb (get_or seen slot 0) 0) && not (eqb (get_or seen slot 0) (vertex + 1))) → b ≡ true
+        → false ≡ no_twins one symbol other count
+    unfolding no_twins
+    twins_found {b} d t = go (a.blank slot slot_low)
       where
-        seen-some : (x y : Bool) → (not x && not y) ≡ true → (x ≡ false) × (y ≡ false)
-        seen-some true y q = absurd (clash (sym q))
-        seen-some false true q = absurd (clash (sym q))
-        seen-some false false q = (refl, refl)
+        seen_some : (x y : Bool) → (not x && not y) ≡ true → (x ≡ false) × (y ≡ false)
+        seen_some true y q = absurd (clash (sym q))
+        seen_some false true q = absurd (clash (sym q))
+        seen_some false false q = (refl, refl)
 
         facts : (eqb (get_or seen slot 0) 0 ≡ false) × (eqb (get_or seen slot 0) (vertex + 1) ≡ false)
-        facts = seen-some _ _ (sym d ∙ t)
+        facts = seen_some _ _ (sym d ∙ t)
 
-        go : (get_or seen slot 0 ≡ 0) ⊎ Last (λ j. mostQ * one j + symbol j) other k slot (get_or seen slot 0)
+        go : (get_or seen slot 0 ≡ 0) ⊎ Last (λ j. most_q * one j + symbol j) other k slot (get_or seen slot 0)
             → false ≡ all (λ k. all (λ j. apart one symbol other j k) k) count
         go (inl e) = absurd (eqb-false (get_or seen slot 0) 0 facts.0 e)
         go (inr w) =
-            let p = same-slot w.at w.below w.here in
+            let p = same_slot w.at w.below w.here in
             let r : other w.at ≡ other k → ⊥ =
-            λ e. eqb-false (get_or seen slot 0) (vertex + 1) facts.1 (w.is ∙ ap (λ v. v + 1) (e ∙ sym vertex-is)) in
-            sym (all-fails (λ k. all (λ j. apart one symbol other j k) k) count k h
-            (all-fails (λ j. apart one symbol other j k) k w.at w.below (apart-false one symbol other w.at k p.0 p.1 r)))
+            λ e. eqb-false (get_or seen slot 0) (vertex + 1) facts.1 (w.is ∙ ap (λ v. v + 1) (e ∙ sym vertex_is)) in
+            sym (all_fails (λ k. all (λ j. apart one symbol other j k) k) count k h
+            (all_fails (λ j. apart one symbol other j k) k w.at w.below (apart_false one symbol other w.at k p.0 p.1 r)))
 
-    pub twins-not : {b : Bool} → b ≡ (not (eqb (get_or seen slot 0) 0) && not (eqb (get_or seen slot 0) (vertex + 1))) → b ≡ false
+    pub twins_not : {b : Bool} → b ≡ (not (eqb (get_or seen slot 0) 0) && not (eqb (get_or seen slot 0) (vertex + 1))) → b ≡ false
         → Apart one symbol other count (set seen slot (vertex + 1)) (k + 1)
-    twins-not {b} d t = record {
-      so_far = passed-by a.so_far h (all_of (λ j. apart one symbol other j k) k (λ j l. apart_of one symbol other j k (agree j l)));
+    twins_not {b} d t = record {
+      so_far = passed_by a.so_far h (all_of (λ j. apart one symbol other j k) k (λ j l. apart_of one symbol other j k (agree j l)));
       long = length-set seen slot (vertex + 1) ∙ a.long;
-      known = λ j l. after j (ℕ_discrete (mostQ * one j + symbol j) slot) l (ℕ_discrete j k);
+      known = λ j l. after j (ℕ_discrete (most_q * one j + symbol j) slot) l (ℕ_discrete j k);
       blank = λ x l. blanks x l (ℕ_discrete x slot);
     }
       where
@@ -216,45 +216,45 @@ module _ {one symbol other : ℕ → ℕ} {count : ℕ} where
         agree j l p q = go (fine _ _ (sym d ∙ t))
           where
             here : get_or seen slot 0 ≡ other j + 1
-            here = ap (λ x. get_or seen x 0) (slot_is ∙ ap₂ (λ u v. mostQ * u + v) (sym p) (sym q)) ∙ a.known j l
+            here = ap (λ x. get_or seen x 0) (slot_is ∙ ap₂ (λ u v. most_q * u + v) (sym p) (sym q)) ∙ a.known j l
 
             go : (eqb (get_or seen slot 0) 0 ≡ true) ⊎ (eqb (get_or seen slot 0) (vertex + 1) ≡ true) → other j ≡ other k
             go (inl e) = let z = eqb-true (get_or seen slot 0) 0 e in absurd (omega (arith, here))
-            go (inr e) = let z = eqb-true (get_or seen slot 0) (vertex + 1) e in omega (arith, here, vertex-is)
+            go (inr e) = let z = eqb-true (get_or seen slot 0) (vertex + 1) e in omega (arith, here, vertex_is)
 
         put : get_or (set seen slot (vertex + 1)) slot 0 ≡ vertex + 1
-        put = get_or-set_same seen slot (vertex + 1) 0 slot-inside
+        put = get_or-set_same seen slot (vertex + 1) 0 slot_inside
 
-        after : (j : ℕ) → Dec (mostQ * one j + symbol j ≡ slot) → j < k + 1 → Dec (j ≡ k)
-            → get_or (set seen slot (vertex + 1)) (mostQ * one j + symbol j) 0 ≡ other j + 1
-        after j (yes e) l (yes q) = ap (λ x. get_or (set seen slot (vertex + 1)) x 0) e ∙ put ∙ ap (λ v. v + 1) (vertex-is ∙ ap other (sym q))
+        after : (j : ℕ) → Dec (most_q * one j + symbol j ≡ slot) → j < k + 1 → Dec (j ≡ k)
+            → get_or (set seen slot (vertex + 1)) (most_q * one j + symbol j) 0 ≡ other j + 1
+        after j (yes e) l (yes q) = ap (λ x. get_or (set seen slot (vertex + 1)) x 0) e ∙ put ∙ ap (λ v. v + 1) (vertex_is ∙ ap other (sym q))
         after j (yes e) l (no q) =
             let m : j < k = omega arith in
-            let p = same-slot j m e in
-            ap (λ x. get_or (set seen slot (vertex + 1)) x 0) e ∙ put ∙ ap (λ v. v + 1) (vertex-is ∙ sym (agree j m p.0 p.1))
-        after j (no e) l (yes q) = absurd (e (ap₂ (λ u v. mostQ * u + v) (ap one q) (ap symbol q) ∙ sym slot_is))
-        after j (no e) l (no q) = get_or-set_other seen slot (mostQ * one j + symbol j) (vertex + 1) 0 e ∙ a.known j (omega arith)
+            let p = same_slot j m e in
+            ap (λ x. get_or (set seen slot (vertex + 1)) x 0) e ∙ put ∙ ap (λ v. v + 1) (vertex_is ∙ sym (agree j m p.0 p.1))
+        after j (no e) l (yes q) = absurd (e (ap₂ (λ u v. most_q * u + v) (ap one q) (ap symbol q) ∙ sym slot_is))
+        after j (no e) l (no q) = get_or-set_other seen slot (most_q * one j + symbol j) (vertex + 1) 0 e ∙ a.known j (omega arith)
 
-        blanks : (x : ℕ) → x < mostQ * mostWords → Dec (x ≡ slot)
+        blanks : (x : ℕ) → x < most_q * most_words → Dec (x ≡ slot)
             → (get_or (set seen slot (vertex + 1)) x 0 ≡ 0)
-            ⊎ Last (λ j. mostQ * one j + symbol j) other (k + 1) x (get_or (set seen slot (vertex + 1)) x 0)
+            ⊎ Last (λ j. most_q * one j + symbol j) other (k + 1) x (get_or (set seen slot (vertex + 1)) x 0)
         blanks x l (yes e) = inr (record {
           at = k;
           below = omega arith;
           here = sym slot_is ∙ sym e;
-          is = ap (λ y. get_or (set seen slot (vertex + 1)) y 0) e ∙ put ∙ ap (λ v. v + 1) vertex-is;
+          is = ap (λ y. get_or (set seen slot (vertex + 1)) y 0) e ∙ put ∙ ap (λ v. v + 1) vertex_is;
         })
         blanks x l (no e) = old (a.blank x l)
           where
             same : get_or (set seen slot (vertex + 1)) x 0 ≡ get_or seen x 0
             same = get_or-set_other seen slot x (vertex + 1) 0 e
 
-            old : (get_or seen x 0 ≡ 0) ⊎ Last (λ j. mostQ * one j + symbol j) other k x (get_or seen x 0)
+            old : (get_or seen x 0 ≡ 0) ⊎ Last (λ j. most_q * one j + symbol j) other k x (get_or seen x 0)
                 → (get_or (set seen slot (vertex + 1)) x 0 ≡ 0)
-                ⊎ Last (λ j. mostQ * one j + symbol j) other (k + 1) x (get_or (set seen slot (vertex + 1)) x 0)
+                ⊎ Last (λ j. most_q * one j + symbol j) other (k + 1) x (get_or (set seen slot (vertex + 1)) x 0)
             old (inl z) = inl (same ∙ z)
             old (inr w) = inr (record { at = w.at; below = omega (arith, w.below); here = w.here; is = same ∙ w.is })
 
-  pub twins-none : {seen : List ℕ} {k : ℕ} → Apart one symbol other count seen k → count ≤ k → true ≡ noTwins one symbol other count
-  unfolding noTwins
-  twins-none a h = passed-all a.so_far h
+  pub twins_none : {seen : List ℕ} {k : ℕ} → Apart one symbol other count seen k → count ≤ k → true ≡ no_twins one symbol other count
+  unfolding no_twins
+  twins_none a h = passed_all a.so_far h

@@ -1,2 +1,2 @@
 -- Vertices without edges, and twins.
-pub mod inner
+pub mod Inner

@@ -2,9 +2,9 @@
 // other. Fixed arrays of marks keep the work to a few looks at each number. Both questions are asked of the edges as they stand and, with
 // from and to in each other's place, of the way back.
 ghost use Rattle.std.specs.Prelude.{◌≡◌, not, ◌||◌, ◌&&◌, ◌+◌, ◌*◌, ◌<◌, ◌≤◌, eqb, length};
-ghost use Rattle.trellis.specs.Bounds.{mostWords};
-ghost use Rattle.edges.specs.inner.Edges.{EdgesSmall, heldEdge};
-ghost use Rattle.twins.specs.inner.Twins.{covered, noTwinsOf, turnedIn, Marks};
+ghost use Rattle.trellis.specs.Bounds.{most_words};
+ghost use Rattle.edges.specs.Inner.Edges.{EdgesSmall, held_edge};
+ghost use Rattle.twins.specs.Inner.Twins.{covered, no_twins_of, turned_in, Marks};
 
 use edges::{Edge, edge_at};
 use numbers::wide;
@@ -13,7 +13,7 @@ use trellis::{MOST_Q, MOST_WORDS};
 // Edge k, on the way back with from and to in each other's place.
 pub fn edge_met(pairs: &[u16], symbols: &[u16], k: usize, back: bool) -> Edge
     requires { (2 * k + 1 < length pairs.now) × (k < length symbols.now) }
-    ensures { result ≡ heldEdge (turnedIn back pairs.now symbols.now k) }
+    ensures { result ≡ held_edge (turned_in back pairs.now symbols.now k) }
 {
     let e = edge_at(pairs, symbols, k);
     if !back {
@@ -29,7 +29,7 @@ pub fn edge_met(pairs: &[u16], symbols: &[u16], k: usize, back: bool) -> Edge
 // A mark for each vertex that an edge starts from.
 pub fn marks(pairs: &[u16], symbols: &[u16], count: usize, back: bool) -> [u8; MOST_WORDS]
     requires { EdgesSmall pairs.now symbols.now count }
-    ensures { Marks (λ k. (turnedIn back pairs.now symbols.now k).from) count result }
+    ensures { Marks (λ k. (turned_in back pairs.now symbols.now k).from) count result }
 {
     let mut marks = [0u8; MOST_WORDS];
     let mut k: usize = 0;
@@ -44,8 +44,8 @@ pub fn marks(pairs: &[u16], symbols: &[u16], count: usize, back: bool) -> [u8; M
 
 // Whether an edge starts from each vertex.
 pub fn covers(pairs: &[u16], symbols: &[u16], count: usize, back: bool, vertices: usize) -> bool
-    requires { EdgesSmall pairs.now symbols.now count × (vertices ≤ mostWords) }
-    ensures { result ≡ covered (λ k. (turnedIn back pairs.now symbols.now k).from) count vertices }
+    requires { EdgesSmall pairs.now symbols.now count × (vertices ≤ most_words) }
+    ensures { result ≡ covered (λ k. (turned_in back pairs.now symbols.now k).from) count vertices }
 {
     let marks = marks(pairs, symbols, count, back);
     let mut v: usize = 0;
@@ -60,7 +60,7 @@ pub fn covers(pairs: &[u16], symbols: &[u16], count: usize, back: bool, vertices
 
 // Whether a vertex was seen before, and was another one. Seen is 0 where none was, and else one more than the vertex.
 fn differs(seen: u16, vertex: usize) -> bool
-    requires { vertex < mostWords }
+    requires { vertex < most_words }
     ensures { result ≡ (not (eqb seen 0) && not (eqb seen (vertex + 1))) }
 {
     if seen == 0 {
@@ -73,7 +73,7 @@ fn differs(seen: u16, vertex: usize) -> bool
 // vertex and symbol, with the vertex that was seen at the other end.
 fn without_twins(pairs: &[u16], symbols: &[u16], count: usize, back: bool) -> bool
     requires { EdgesSmall pairs.now symbols.now count }
-    ensures { result ≡ noTwinsOf (turnedIn back pairs.now symbols.now) count }
+    ensures { result ≡ no_twins_of (turned_in back pairs.now symbols.now) count }
 {
     let mut seen = [0u16; MOST_Q * MOST_WORDS];
     let mut k: usize = 0;
@@ -92,7 +92,7 @@ fn without_twins(pairs: &[u16], symbols: &[u16], count: usize, back: bool) -> bo
 // Twins matter at inner depths only.
 pub fn twins_right(inner: bool, pairs: &[u16], symbols: &[u16], count: usize, back: bool) -> bool
     requires { EdgesSmall pairs.now symbols.now count }
-    ensures { result ≡ (not inner || noTwinsOf (turnedIn back pairs.now symbols.now) count) }
+    ensures { result ≡ (not inner || no_twins_of (turned_in back pairs.now symbols.now) count) }
 {
     if !inner {
         return true;

@@ -10,24 +10,24 @@ use native.Mathlib.Numerals.{add-one}
 use lib.ListN.{length, get_or, take, drop, drop_of_length-le}
 use lib.Dec.{ltb}
 use borrow.Author.Tests.{leb-true, le-leb}
-use Rattle.trellis.specs.Bounds.{mostWords, mostSymbols, leastQ, mostQ}
+use Rattle.trellis.specs.Bounds.{most_words, most_symbols, least_q, most_q}
 use Rattle.trellis.specs.Lists.{all, within}
-use Rattle.trellis.specs.Layout.{qOf, n_of, vertexCountOf, edgeCountOf, edgesBefore, pairsPlace, symbolsPlace, sectionLength}
-use Rattle.trellis.proofs.Bools.{is_true, is_false, clash, left-true, right-true}
-use Rattle.trellis.proofs.Laid.{before-none, before_more, before-le}
+use Rattle.trellis.specs.Layout.{q_of, n_of, vertex_count_of, edge_count_of, edges_before, pairs_place, symbols_place, section_length}
+use Rattle.trellis.proofs.Bools.{is_true, is_false, clash, left_true, right_true}
+use Rattle.trellis.proofs.Laid.{before_none, before_more, before_le}
 use Rattle.trellis.proofs.Lists.{rest_of}
-use Rattle.edges.specs.inner.Edges.{inside, EdgesSmall, edgeIn}
-use Rattle.edges.proofs.Tests.{holds_by, fails_by, to_high, all-at, all_of, Passed, passed_start, passed-next}
-use Rattle.section_file.specs.Usable.{stepEdge, whole, sizesRight, countsRight, statesRight, usable}
-use Rattle.section_file.specs.inner.View.{view_of, Laid}
+use Rattle.edges.specs.Inner.Edges.{inside, EdgesSmall, edge_in}
+use Rattle.edges.proofs.Tests.{holds_by, fails_by, to_high, all_at, all_of, Passed, passed_start, passed_next}
+use Rattle.section_file.specs.Usable.{step_edge, whole, sizes_right, counts_right, states_right, usable}
+use Rattle.section_file.specs.Inner.View.{view_of, Laid}
 use Rattle.section_file.specs.declared.View.{View}
-use Rattle.section_file.proofs.Reading.{ascend-is}
-use Rattle.section_file.proofs.Seen.{viewed, edges-from, run-there}
-use Rattle.section_file.proofs.Usable.{Conditions, Inside, usable-says, usable-by, step-says, step_by, inside-says, inside_is, onward-is}
-use Rattle.section_file.proofs.Usable.{inward-is, reached-is, leading-is}
-use Rattle.section_file.specs.inner.Steps.{stepRight}
-use Rattle.usable.specs.inner.Steps.{edgesRight, StepThere}
-use Rattle.usable.specs.inner.Part.{part_of}
+use Rattle.section_file.proofs.Reading.{ascend_is}
+use Rattle.section_file.proofs.Seen.{viewed, edges_from, run_there}
+use Rattle.section_file.proofs.Usable.{Conditions, Inside, usable_says, usable_by, step_says, step_by, inside_says, inside_is, onward_is}
+use Rattle.section_file.proofs.Usable.{inward_is, reached_is, leading_is}
+use Rattle.section_file.specs.Inner.Steps.{step_right}
+use Rattle.usable.specs.Inner.Steps.{edges_right, StepThere}
+use Rattle.usable.specs.Inner.Part.{part_of}
 use Rattle.usable.specs.declared.Part.{Part}
 use Rattle.usable.specs.declared.Part.TheVariants.{Usable, Unusable}
 
@@ -37,168 +37,168 @@ use Rattle.usable.specs.declared.Part.TheVariants.{Usable, Unusable}
 pub record StepRead (l : List ℕ) (at : View) (t before count q froms tos : ℕ) : Type 0 where
   pub laid : Laid l at
   pub inside : t < n_of l
-  pub beforeIs : before ≡ edgesBefore l t
-  pub countIs : count ≡ edgeCountOf l t
-  pub qIs : q ≡ qOf l
-  pub fromsIs : froms ≡ vertexCountOf l t
-  pub tosIs : tos ≡ vertexCountOf l (t + 1)
+  pub before_is : before ≡ edges_before l t
+  pub count_is : count ≡ edge_count_of l t
+  pub q_is : q ≡ q_of l
+  pub froms_is : froms ≡ vertex_count_of l t
+  pub tos_is : tos ≡ vertex_count_of l (t + 1)
 
-count-read : {l : List ℕ} {at : View} (t : ℕ) {x v : ℕ} → Laid l at → x ≡ get_or l (4 + at.n + t) 0 → (v ≡ x) × (v < 65536)
-    → v ≡ edgeCountOf l t
-unfolding edgeCountOf
-count-read {l} t L e g = g.0 ∙ e ∙ ap (λ m. get_or l (4 + m + t) 0) (viewed L.is).n-is
+count_read : {l : List ℕ} {at : View} (t : ℕ) {x v : ℕ} → Laid l at → x ≡ get_or l (4 + at.n + t) 0 → (v ≡ x) × (v < 65536)
+    → v ≡ edge_count_of l t
+unfolding edge_count_of
+count_read {l} t L e g = g.0 ∙ e ∙ ap (λ m. get_or l (4 + m + t) 0) (viewed L.is).n-is
 
-pub step-read : {l : List ℕ} {at : View} {t before x count y froms z tos q : ℕ} → Laid l at × (t < at.n) × (before ≡ edgesBefore l t)
+pub step_read : {l : List ℕ} {at : View} {t before x count y froms z tos q : ℕ} → Laid l at × (t < at.n) × (before ≡ edges_before l t)
     → x ≡ get_or l (4 + at.n + t) 0 → (count ≡ x) × (count < 65536) → y ≡ get_or l (3 + t) 0 → (froms ≡ y) × (froms < 65536)
     → z ≡ get_or l (3 + (t + 1)) 0 → (tos ≡ z) × (tos < 65536) → (q ≡ at.q) × (q < 65536) → StepRead l at t before count q froms tos
-unfolding vertexCountOf
-step-read {t = t} p x-is count-is y-is froms-is z-is tos-is q-is = let at-is = viewed p.0.is in record {
+unfolding vertex_count_of
+step_read {t = t} p x_is count_is_lem y_is froms-is z-is tos-is q_is_lem = let at_is = viewed p.0.is in record {
   laid = p.0;
   inside = omega (arith, p.1);
-  beforeIs = p.2;
-  countIs = count-read t p.0 x-is count-is;
-  qIs = q-is.0 ∙ at-is.q-is;
-  fromsIs = froms-is.0 ∙ y-is;
-  tosIs = tos-is.0 ∙ z-is;
+  before_is = p.2;
+  count_is = count_read t p.0 x_is count_is_lem;
+  q_is = q_is_lem.0 ∙ at_is.q-is;
+  froms_is = froms-is.0 ∙ y_is;
+  tos_is = tos-is.0 ∙ z-is;
 }
 
 -- the code's tests of a step's edges are what usable asks of the step
-edges-right : (l : List ℕ) (t : ℕ)
-    → edgesRight (stepEdge l t) (edgeCountOf l t) (qOf l) (vertexCountOf l t) (vertexCountOf l (t + 1)) (ltb (t + 1) (n_of l)) (ltb 0 t)
-    ≡ stepRight l t
-unfolding edgesRight stepRight
-edges-right l t = rw (inside_is l t, ascend-is l t, onward-is l t, inward-is l t, reached-is l t, leading-is l t)
+edges_right_lem : (l : List ℕ) (t : ℕ)
+    → edges_right (step_edge l t) (edge_count_of l t) (q_of l) (vertex_count_of l t) (vertex_count_of l (t + 1)) (ltb (t + 1) (n_of l)) (ltb 0 t)
+    ≡ step_right l t
+unfolding edges_right step_right
+edges_right_lem l t = rw (inside_is l t, ascend_is l t, onward_is l t, inward_is l t, reached_is l t, leading_is l t)
 
 module _ {l : List ℕ} {at : View} {t before count q froms tos : ℕ} (r : StepRead l at t before count q froms tos) where
-  pairs-are : at.pairs + 2 * before ≡ pairsPlace l + 2 * edgesBefore l t
-  pairs-are = let at-is = viewed r.laid.is in omega (arith, r.beforeIs)
+  pairs_are : at.pairs + 2 * before ≡ pairs_place l + 2 * edges_before l t
+  pairs_are = let at_is = viewed r.laid.is in omega (arith, r.before_is)
 
-  symbols-are : at.symbols + before ≡ symbolsPlace l + edgesBefore l t
-  symbols-are = let at-is = viewed r.laid.is in omega (arith, r.beforeIs)
+  symbols_are : at.symbols + before ≡ symbols_place l + edges_before l t
+  symbols_are = let at_is = viewed r.laid.is in omega (arith, r.before_is)
 
-  pub step-there : StepThere (take (length l - (at.pairs + 2 * before)) (drop (at.pairs + 2 * before) l))
+  pub step_there : StepThere (take (length l - (at.pairs + 2 * before)) (drop (at.pairs + 2 * before) l))
       (take (length l - (at.symbols + before)) (drop (at.symbols + before) l)) count q froms tos
-  step-there =
+  step_there =
       let C = r.laid in
       let i = r.inside in
       let m = before_more l t in
-      let b = before-le l (suc t) (n_of l) i in
+      let b = before_le l (suc t) (n_of l) i in
       record {
-        there = run-there l (edgesBefore l t) pairs-are symbols-are r.laid.whole (omega (arith, r.countIs, C.edges_to t i))
-            (omega (arith, r.countIs));
-        qTo = omega (arith, r.qIs, C.qTo);
-        fromsTo = omega (arith, r.fromsIs, C.verticesTo t (omega arith));
-        tosTo = omega (arith, r.tosIs, C.verticesTo (t + 1) (omega arith));
+        there = run_there l (edges_before l t) pairs_are symbols_are r.laid.whole (omega (arith, r.count_is, C.edges_to t i))
+            (omega (arith, r.count_is));
+        q_to = omega (arith, r.q_is, C.q_to);
+        froms_to = omega (arith, r.froms_is, C.vertices_to t (omega arith));
+        tos_to = omega (arith, r.tos_is, C.vertices_to (t + 1) (omega arith));
       }
 
   pub step_is : {b : Bool}
-      → b ≡ edgesRight (edgeIn (take (length l - (at.pairs + 2 * before)) (drop (at.pairs + 2 * before) l))
+      → b ≡ edges_right (edge_in (take (length l - (at.pairs + 2 * before)) (drop (at.pairs + 2 * before) l))
       (take (length l - (at.symbols + before)) (drop (at.symbols + before) l))) count q froms tos (ltb (t + 1) at.n) (ltb 0 t)
-      → b ≡ stepRight l t
-  unfolding stepEdge
+      → b ≡ step_right l t
+  unfolding step_edge
   step_is {b} e =
-      let n-is = (viewed r.laid.is).n-is in
-      let d = e ∙ ap (λ f. edgesRight f count q froms tos (ltb (t + 1) at.n) (ltb 0 t))
-      (edges-from l (edgesBefore l t) pairs-are symbols-are) in
-      d ∙ rw (r.countIs, r.qIs, r.fromsIs, r.tosIs, n-is) (edges-right l t)
+      let n_is = (viewed r.laid.is).n-is in
+      let d = e ∙ ap (λ f. edges_right f count q froms tos (ltb (t + 1) at.n) (ltb 0 t))
+      (edges_from l (edges_before l t) pairs_are symbols_are) in
+      d ∙ rw (r.count_is, r.q_is, r.froms_is, r.tos_is, n_is) (edges_right_lem l t)
 
 -- edges within bounds are what the arrays of marks rest on
-pub small-edges : {pairs symbols : List ℕ} {count q froms tos : ℕ} {a : Bool} → StepThere pairs symbols count q froms tos
-    → a ≡ all (inside (edgeIn pairs symbols) q froms tos) count → not a ≡ false → EdgesSmall pairs symbols count
-small-edges {pairs} {symbols} {count} {q} {froms} {tos} s a-is a-yes = record {
+pub small_edges : {pairs symbols : List ℕ} {count q froms tos : ℕ} {a : Bool} → StepThere pairs symbols count q froms tos
+    → a ≡ all (inside (edge_in pairs symbols) q froms tos) count → not a ≡ false → EdgesSmall pairs symbols count
+small_edges {pairs} {symbols} {count} {q} {froms} {tos} s a_is a_yes = record {
   there = s.there;
-  fromSmall = λ k h. omega (arith, s.fromsTo, (at k h).fromBelow);
-  symbolSmall = λ k h. omega (arith, s.qTo, (at k h).symbolBelow);
-  toSmall = λ k h. omega (arith, s.tosTo, (at k h).toBelow);
+  from_small = λ k h. omega (arith, s.froms_to, (at k h).from_below);
+  symbol_small = λ k h. omega (arith, s.q_to, (at k h).symbol_below);
+  to_small = λ k h. omega (arith, s.tos_to, (at k h).to_below);
 }
   where
-    at : (k : ℕ) → k < count → Inside (edgeIn pairs symbols k) q froms tos
-    at k h = inside-says (edgeIn pairs symbols) q froms tos k (all-at _ count k (holds_by a-is a-yes) h)
+    at : (k : ℕ) → k < count → Inside (edge_in pairs symbols k) q froms tos
+    at k h = inside_says (edge_in pairs symbols) q froms tos k (all_at _ count k (holds_by a_is a_yes) h)
 
 -- ---- all steps
 
 pub record InSteps (l : List ℕ) (n before t : ℕ) : Type 0 where
-  pub passed : Passed (stepRight l) n t
-  pub beforeIs : before ≡ edgesBefore l t
+  pub passed : Passed (step_right l) n t
+  pub before_is : before ≡ edges_before l t
 
-pub steps-start : (l : List ℕ) (n : ℕ) → InSteps l n 0 0
-steps-start l n = record { passed = passed_start; beforeIs = sym (before-none l) }
+pub steps_start : (l : List ℕ) (n : ℕ) → InSteps l n 0 0
+steps_start l n = record { passed = passed_start; before_is = sym (before_none l) }
 
 pub steps_next : {l : List ℕ} {at : View} {before t x v : ℕ} {b : Bool} → Laid l at → InSteps l at.n before t → t < at.n
-    → b ≡ stepRight l t → not b ≡ false → x ≡ get_or l (4 + at.n + t) 0 → (v ≡ x) × (v < 65536) → InSteps l at.n (before + v) (t + 1)
+    → b ≡ step_right l t → not b ≡ false → x ≡ get_or l (4 + at.n + t) 0 → (v ≡ x) × (v < 65536) → InSteps l at.n (before + v) (t + 1)
 steps_next {l} {t = t} L s h e f g k = record {
-  passed = passed-next s.passed h e f;
-  beforeIs = rw (add-one t) (omega (arith, s.beforeIs, before_more l t, count-read t L g k));
+  passed = passed_next s.passed h e f;
+  before_is = rw (add-one t) (omega (arith, s.before_is, before_more l t, count_read t L g k));
 }
 
 -- ---- the whole section
 
-pub n-few : (l : List ℕ) {n : ℕ} {a : Bool} → a ≡ sizesRight l → not a ≡ false → n ≡ n_of l → n ≤ mostSymbols
-unfolding sizesRight
-n-few l e f g =
-    omega (arith, to_high 1 mostSymbols (n_of l) (left-true _ _ (right-true (within leastQ mostQ (qOf l)) _ (holds_by e f))))
+pub n_few : (l : List ℕ) {n : ℕ} {a : Bool} → a ≡ sizes_right l → not a ≡ false → n ≡ n_of l → n ≤ most_symbols
+unfolding sizes_right
+n_few l e f g =
+    omega (arith, to_high 1 most_symbols (n_of l) (left_true _ _ (right_true (within least_q most_q (q_of l)) _ (holds_by e f))))
 
 module _ (l : List ℕ) where
   -- a condition that fails
   unusable : (Conditions l → ⊥) → Unusable ≡ part_of l
   unfolding part_of
-  unusable f = let e : usable l ≡ false = is_false (usable l) (λ t. f (usable-says l (is_true (usable l) t))) in rw e
+  unusable f = let e : usable l ≡ false = is_false (usable l) (λ t. f (usable_says l (is_true (usable l) t))) in rw e
 
-  pub part-sizes : {a : Bool} → a ≡ sizesRight l → not a ≡ true → Unusable ≡ part_of l
-  part-sizes e t = unusable (λ c. fails_by e t c.sizes)
+  pub part_sizes : {a : Bool} → a ≡ sizes_right l → not a ≡ true → Unusable ≡ part_of l
+  part_sizes e t = unusable (λ c. fails_by e t c.sizes)
 
-  pub part-counts : {a : Bool} → a ≡ countsRight l → not a ≡ true → Unusable ≡ part_of l
-  part-counts e t = unusable (λ c. fails_by e t c.counts)
+  pub part_counts : {a : Bool} → a ≡ counts_right l → not a ≡ true → Unusable ≡ part_of l
+  part_counts e t = unusable (λ c. fails_by e t c.counts)
 
-  pub part-states : {a : Bool} → a ≡ statesRight l → not a ≡ true → Unusable ≡ part_of l
-  part-states e t = unusable (λ c. fails_by e t c.states)
+  pub part_states : {a : Bool} → a ≡ states_right l → not a ≡ true → Unusable ≡ part_of l
+  part_states e t = unusable (λ c. fails_by e t c.states)
 
-  module _ {at : View} (at-is : at ≡ view_of l) where
+  module _ {at : View} (at_is : at ≡ view_of l) where
     pub part_cut : length l < at.end → Unusable ≡ part_of l
     unfolding whole
-    part_cut h = unusable (λ c. let e = leb-true (sectionLength l) (length l) c.is_whole in omega (arith, (viewed at-is).end_is))
+    part_cut h = unusable (λ c. let e = leb-true (section_length l) (length l) c.is_whole in omega (arith, (viewed at_is).end_is))
 
     -- what the sizes and the counts say, once both are right and the section is there whole
-    pub laid : {a b : Bool} → a ≡ sizesRight l → not a ≡ false → b ≡ countsRight l → not b ≡ false → at.end ≤ length l → Laid l at
-    unfolding sizesRight countsRight
-    laid a-is a-yes b-is b-yes h = record {
-      nTo = n-few l a-is a-yes refl;
-      qTo = to_high leastQ mostQ (qOf l) (left-true _ _ (holds_by a-is a-yes));
-      verticesTo = λ t h. to_high 1 mostWords (vertexCountOf l t) (all-at _ (n_of l + 1) t (left-true _ _ counts) (omega arith));
-      edges_to = λ t h. to_high 1 mostWords (edgeCountOf l t)
-          (all-at _ (n_of l) t (right-true (all (λ t. within 1 mostWords (vertexCountOf l t)) (n_of l + 1)) _ counts) h);
-      whole = omega (arith, (viewed at-is).end_is);
-      is = at-is;
+    pub laid : {a b : Bool} → a ≡ sizes_right l → not a ≡ false → b ≡ counts_right l → not b ≡ false → at.end ≤ length l → Laid l at
+    unfolding sizes_right counts_right
+    laid a_is a_yes b_is b-yes h = record {
+      n_to = n_few l a_is a_yes refl;
+      q_to = to_high least_q most_q (q_of l) (left_true _ _ (holds_by a_is a_yes));
+      vertices_to = λ t h. to_high 1 most_words (vertex_count_of l t) (all_at _ (n_of l + 1) t (left_true _ _ counts) (omega arith));
+      edges_to = λ t h. to_high 1 most_words (edge_count_of l t)
+          (all_at _ (n_of l) t (right_true (all (λ t. within 1 most_words (vertex_count_of l t)) (n_of l + 1)) _ counts) h);
+      whole = omega (arith, (viewed at_is).end_is);
+      is = at_is;
     }
       where
-        counts : countsRight l ≡ true
-        counts = holds_by b-is b-yes
+        counts : counts_right l ≡ true
+        counts = holds_by b_is b-yes
 
-    all-steps : {a : Bool} → a ≡ all (stepRight l) at.n → a ≡ all (stepRight l) (n_of l)
-    all-steps e = e ∙ ap (all (stepRight l)) (viewed at-is).n-is
+    all_steps : {a : Bool} → a ≡ all (step_right l) at.n → a ≡ all (step_right l) (n_of l)
+    all_steps e = e ∙ ap (all (step_right l)) (viewed at_is).n-is
 
-    pub part-steps : {a : Bool} → a ≡ all (stepRight l) at.n → not a ≡ true → Unusable ≡ part_of l
-    part-steps e t =
-        unusable (λ c. fails_by (all-steps e) t (all_of (stepRight l) (n_of l) (λ t h. step_by l t (c.steps t h))))
+    pub part_steps : {a : Bool} → a ≡ all (step_right l) at.n → not a ≡ true → Unusable ≡ part_of l
+    part_steps e t =
+        unusable (λ c. fails_by (all_steps e) t (all_of (step_right l) (n_of l) (λ t h. step_by l t (c.steps t h))))
 
     -- none fails
-    pub part-usable : {a b d m : Bool} → at.end ≤ length l → a ≡ sizesRight l → not a ≡ false → b ≡ countsRight l → not b ≡ false
-        → d ≡ statesRight l → not d ≡ false → m ≡ all (stepRight l) at.n → not m ≡ false → Usable at ≡ part_of l
+    pub part_usable : {a b d m : Bool} → at.end ≤ length l → a ≡ sizes_right l → not a ≡ false → b ≡ counts_right l → not b ≡ false
+        → d ≡ states_right l → not d ≡ false → m ≡ all (step_right l) at.n → not m ≡ false → Usable at ≡ part_of l
     unfolding part_of whole
-    part-usable h e a-yes f b-yes g d-yes i m-yes =
-        let steps : all (stepRight l) (n_of l) ≡ true = holds_by (all-steps i) m-yes in
-        let u : usable l ≡ true = usable-by l (record {
-          is_whole = le-leb (sectionLength l) (length l) (omega (arith, (viewed at-is).end_is));
-          sizes = holds_by e a-yes;
+    part_usable h e a_yes f b-yes g d-yes i m-yes =
+        let steps : all (step_right l) (n_of l) ≡ true = holds_by (all_steps i) m-yes in
+        let u : usable l ≡ true = usable_by l (record {
+          is_whole = le-leb (section_length l) (length l) (omega (arith, (viewed at_is).end_is));
+          sizes = holds_by e a_yes;
           counts = holds_by f b-yes;
           states = holds_by g d-yes;
-          steps = λ t h. step-says l t (all-at (stepRight l) (n_of l) t steps h);
+          steps = λ t h. step_says l t (all_at (step_right l) (n_of l) t steps h);
         }) in
-        rw u (ap Usable at-is)
+        rw u (ap Usable at_is)
 
-pub part-past : (s : List ℕ) (at : ℕ) → length s < at → Unusable ≡ part_of (drop at s)
-unfolding sizesRight within
-part-past s at h = let e : drop at s ≡ [] = drop_of_length-le s {i = at} (omega arith) in rw e (unusable [] (λ c. clash (sym c.sizes)))
+pub part_past : (s : List ℕ) (at : ℕ) → length s < at → Unusable ≡ part_of (drop at s)
+unfolding sizes_right within
+part_past s at h = let e : drop at s ≡ [] = drop_of_length-le s {i = at} (omega arith) in rw e (unusable [] (λ c. clash (sym c.sizes)))
 
-pub part-from : (s : List ℕ) (at : ℕ) {r : Part} → r ≡ part_of (take (length s - at) (drop at s)) → r ≡ part_of (drop at s)
-part-from s at e = e ∙ ap part_of (rest_of s at)
+pub part_from : (s : List ℕ) (at : ℕ) {r : Part} → r ≡ part_of (take (length s - at) (drop at s)) → r ≡ part_of (drop at s)
+part_from s at e = e ∙ ap part_of (rest_of s at)

@@ -1,2 +1,2 @@
 -- Usable sections as the code checks them.
-pub mod inner
+pub mod Inner

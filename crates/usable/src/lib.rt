@@ -1,13 +1,13 @@
 // Which sections are usable, by document 01: `usable_at` answers for the section that starts at any place of a slice, whatever numbers the
 // slice has. It looks at each number a few times, and promises an equation with document 01's definition.
 ghost use Rattle.std.specs.Prelude.{◌≡◌, ◌+◌, ◌*◌, ◌<◌, drop};
-ghost use Rattle.trellis.specs.Layout.{edgesBefore};
+ghost use Rattle.trellis.specs.Layout.{edges_before};
 ghost use Rattle.trellis.specs.Lists.{all};
-ghost use Rattle.edges.specs.inner.Edges.{edgeIn};
-ghost use Rattle.section_file.specs.inner.View.{Laid};
-ghost use Rattle.section_file.specs.inner.Steps.{stepRight};
-ghost use Rattle.usable.specs.inner.Steps.{edgesRight, StepThere};
-ghost use Rattle.usable.specs.inner.Part.{part_of};
+ghost use Rattle.edges.specs.Inner.Edges.{edge_in};
+ghost use Rattle.section_file.specs.Inner.View.{Laid};
+ghost use Rattle.section_file.specs.Inner.Steps.{step_right};
+ghost use Rattle.usable.specs.Inner.Steps.{edges_right, StepThere};
+ghost use Rattle.usable.specs.Inner.Part.{part_of};
 
 use edges::{all_above, all_inside};
 use numbers::{number, wide};
@@ -35,7 +35,7 @@ fn edges_right(
     left: bool,
 ) -> bool
     requires { StepThere pairs.now symbols.now count q froms tos }
-    ensures { result ≡ edgesRight (edgeIn pairs.now symbols.now) count q froms tos reached left }
+    ensures { result ≡ edges_right (edge_in pairs.now symbols.now) count q froms tos reached left }
 {
     if !all_inside(pairs, symbols, count, q, froms, tos) {
         return false;
@@ -57,8 +57,8 @@ fn edges_right(
 
 // One step, whose edges stand behind those of the steps before it.
 fn step_right(l: &[u16], at: View, t: usize, before: usize) -> bool
-    requires { Laid l.now at × (t < at.n) × (before ≡ edgesBefore l.now t) }
-    ensures { result ≡ stepRight l.now t }
+    requires { Laid l.now at × (t < at.n) × (before ≡ edges_before l.now t) }
+    ensures { result ≡ step_right l.now t }
 {
     let n = at.n;
     let count = wide(number(l, 4 + n + t));
@@ -80,7 +80,7 @@ fn step_right(l: &[u16], at: View, t: usize, before: usize) -> bool
 
 fn steps_right(l: &[u16], at: View) -> bool
     requires { Laid l.now at }
-    ensures { result ≡ all (stepRight l.now) at.n }
+    ensures { result ≡ all (step_right l.now) at.n }
 {
     let n = at.n;
     let mut before: usize = 0;

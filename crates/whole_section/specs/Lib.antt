@@ -1,2 +1,2 @@
 -- The section that a list is, and the edges of its steps.
-pub mod inner
+pub mod Inner

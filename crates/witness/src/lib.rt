@@ -1,11 +1,11 @@
 // The first witness of a refusal: at a depth where a table is not rectangular, the first words i, j, k that force a word which it lacks.
 // Promised: the answer is the witness of the definition, by i, then j, then k.
 ghost use Rattle.std.specs.Prelude.{◌≡◌, ◌<◌, ◌≤◌};
-ghost use Rattle.trellis.specs.Bounds.{mostWords};
-ghost use Rattle.trellis.specs.Witness.{witnessAt};
-ghost use Rattle.depths.specs.inner.Words.{words};
-ghost use Rattle.lacking.specs.inner.Search.{asWitness, FirstIn};
-ghost use Rattle.lacking.specs.inner.Rows.{InnerDepth, SearchRows, toTry, refutesIn};
+ghost use Rattle.trellis.specs.Bounds.{most_words};
+ghost use Rattle.trellis.specs.Witness.{witness_at};
+ghost use Rattle.depths.specs.Inner.Words.{words};
+ghost use Rattle.lacking.specs.Inner.Search.{as_witness, FirstIn};
+ghost use Rattle.lacking.specs.Inner.Rows.{InnerDepth, SearchRows, to_try, refutes_in};
 
 use lacking::{NOTHING, Witness, first_lacking, in_run, put_next};
 use numbers::wide;
@@ -14,8 +14,8 @@ use trellis::MOST_WORDS;
 // Whether j is to be tried with i: it is of i's run, and one of them is the run's first word. If that word begins no witness, another word
 // of its run begins one only together with it.
 fn to_try(starts: &[u16; MOST_WORDS], w: usize, i: usize, j: usize) -> bool
-    requires { (w ≤ mostWords) × (i < w) }
-    ensures { result ≡ toTry starts.now w i j }
+    requires { (w ≤ most_words) × (i < w) }
+    ensures { result ≡ to_try starts.now w i j }
 {
     let start = starts[i];
     let a = wide(start);
@@ -29,7 +29,7 @@ fn to_try(starts: &[u16; MOST_WORDS], w: usize, i: usize, j: usize) -> bool
 // few steps for each word, whatever the table is.
 fn first_witness(starts: &[u16; MOST_WORDS], firsts: &[u16; MOST_WORDS], w: usize) -> Witness
     requires { SearchRows w starts.now firsts.now }
-    ensures { FirstIn (refutesIn starts.now firsts.now w) w result }
+    ensures { FirstIn (refutes_in starts.now firsts.now w) w result }
 {
     let mut next = [NOTHING; MOST_WORDS];
     put_next(firsts, w, &mut next);
@@ -53,7 +53,7 @@ fn first_witness(starts: &[u16; MOST_WORDS], firsts: &[u16; MOST_WORDS], w: usiz
 // The first words i, j, k that refute the table at the inner depth t.
 pub fn find_witness(roots: &[u8], labels: &[u16], goals: &[u8], n: usize, t: usize) -> Witness
     requires { InnerDepth n t roots.now labels.now goals.now }
-    ensures { asWitness t result ≡ witnessAt n (words roots.now labels.now goals.now) t }
+    ensures { as_witness t result ≡ witness_at n (words roots.now labels.now goals.now) t }
 {
     let mut starts = [0u16; MOST_WORDS];
     depths::put_starts(roots, labels, n, t, &mut starts);

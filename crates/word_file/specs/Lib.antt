@@ -1,3 +1,3 @@
 -- A table file as bytes.
 pub mod TableBytes
-pub mod inner
+pub mod Inner

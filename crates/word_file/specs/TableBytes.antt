@@ -8,11 +8,11 @@ use Rattle.trellis.specs.Word.{Word}
 abbrev pub bytes_of : ℕ → List ℕ
 bytes_of x = x % 256 ∷ x / 256 ∷ []
 
-abbrev pub pairBytes : Word → List ℕ
-pairBytes w = w.root ∷ w.goal ∷ []
+abbrev pub pair_bytes : Word → List ℕ
+pair_bytes w = w.root ∷ w.goal ∷ []
 
-abbrev pub labelBytes : Word → List ℕ
-labelBytes w = bytes_of w.label
+abbrev pub label_bytes : Word → List ℕ
+label_bytes w = bytes_of w.label
 
-unfoldable pub tableBytes : ℕ → ℕ → ℕ → List Word → List ℕ
-tableBytes q n S words = q ∷ n ∷ S ∷ (bytes_of (length words) ++ (flat_map pairBytes words ++ flat_map labelBytes words))
+unfoldable pub table_bytes : ℕ → ℕ → ℕ → List Word → List ℕ
+table_bytes q n S words = q ∷ n ∷ S ∷ (bytes_of (length words) ++ (flat_map pair_bytes words ++ flat_map label_bytes words))

@@ -1,9 +1,9 @@
 // Words, as numbers of three fields, written as a table file.
 ghost use Rattle.std.specs.Prelude.{◌≡◌, ◌+◌, ◌*◌, ◌/◌, ◌%◌, ◌<◌, ◌≤◌, length, get_or, take, drop};
 ghost use mathlib.Core.List.{[], ◌∷◌, ◌++◌, flat_map};
-ghost use Rattle.trellis.specs.Bounds.{mostWords};
-ghost use Rattle.trellis.specs.inner.Write.{Wrote};
-ghost use Rattle.word_file.specs.inner.Written.{byte_of, pairOfCode, labelOfCode, fileOfCodes};
+ghost use Rattle.trellis.specs.Bounds.{most_words};
+ghost use Rattle.trellis.specs.Inner.Write.{Wrote};
+ghost use Rattle.word_file.specs.Inner.Written.{byte_of, pair_of_code, label_of_code, file_of_codes};
 
 use codes::{label_of, root_of, vertex_of};
 use numbers::{number, wide};
@@ -35,8 +35,8 @@ fn put_sizes(s: &[u16], count: usize, file: &mut [u8])
 }
 
 fn put_pairs(goals: &[u16], codes: &[u32; MOST_WORDS], count: usize, file: &mut [u8]) -> usize
-    requires { (count ≤ mostWords) × (5 + 2 * count ≤ length file.old) × (length codes.now ≡ mostWords) }
-    ensures { Wrote file.old 5 (flat_map (pairOfCode goals.now) (take count codes.now))
+    requires { (count ≤ most_words) × (5 + 2 * count ≤ length file.old) × (length codes.now ≡ most_words) }
+    ensures { Wrote file.old 5 (flat_map (pair_of_code goals.now) (take count codes.now))
         file.new result }
 {
     let mut at: usize = 5;
@@ -52,8 +52,8 @@ fn put_pairs(goals: &[u16], codes: &[u32; MOST_WORDS], count: usize, file: &mut 
 }
 
 fn put_labels(codes: &[u32; MOST_WORDS], count: usize, start: usize, file: &mut [u8]) -> usize
-    requires { (start ≤ 10000) × (count ≤ mostWords) × (start + 2 * count ≤ length file.old) × (length codes.now ≡ mostWords) }
-    ensures { Wrote file.old start (flat_map labelOfCode (take count codes.now)) file.new result }
+    requires { (start ≤ 10000) × (count ≤ most_words) × (start + 2 * count ≤ length file.old) × (length codes.now ≡ most_words) }
+    ensures { Wrote file.old start (flat_map label_of_code (take count codes.now)) file.new result }
 {
     let mut at = start;
     let mut i: usize = 0;
@@ -68,8 +68,8 @@ fn put_labels(codes: &[u32; MOST_WORDS], count: usize, start: usize, file: &mut 
 }
 
 pub fn put_file(s: &[u16], goals: &[u16], codes: &[u32; MOST_WORDS], count: usize, file: &mut [u8])
-    requires { (count ≤ mostWords) × (5 + 4 * count ≤ length file.old) × (length codes.now ≡ mostWords) }
-    ensures { file.new ≡ fileOfCodes s.now goals.now codes.now count
+    requires { (count ≤ most_words) × (5 + 4 * count ≤ length file.old) × (length codes.now ≡ most_words) }
+    ensures { file.new ≡ file_of_codes s.now goals.now codes.now count
         ++ drop (5 + 4 * count) file.old }
 {
     put_sizes(s, count, file);

@@ -6,27 +6,27 @@ use native.Mathlib.Omega.{arith}
 use native.Mathlib.Decide.{ℕ_discrete}
 use lib.ListN.{length, get_or, set, length-set, replicate, length-replicate}
 use lib.Seq.{get_or-set_same, get_or-set_other}
-use Rattle.trellis.specs.Bounds.{mostWords}
-use Rattle.fields.specs.Fields.{fileWord}
-use Rattle.word_lists.specs.inner.Lists.{Copied}
+use Rattle.trellis.specs.Bounds.{most_words}
+use Rattle.fields.specs.Fields.{file_word}
+use Rattle.word_lists.specs.Inner.Lists.{Copied}
 
 pub record InCopy (file : List ℕ) (count : ℕ) (roots labels goals : List ℕ) (i : ℕ) : Type 0 where
-  pub i-le : i ≤ count
-  pub few : count ≤ mostWords
+  pub i_le : i ≤ count
+  pub few : count ≤ most_words
   pub copied : Copied file i roots labels goals
 
-pub copy-none : (file : List ℕ) (count : ℕ) → count ≤ mostWords
-    → InCopy file count (replicate mostWords 0) (replicate mostWords 0) (replicate mostWords 0) 0
-copy-none file count h = record {
-  i-le = omega arith;
+pub copy_none : (file : List ℕ) (count : ℕ) → count ≤ most_words
+    → InCopy file count (replicate most_words 0) (replicate most_words 0) (replicate most_words 0) 0
+copy_none file count h = record {
+  i_le = omega arith;
   few = h;
   copied = record {
     root = λ i l. absurd (omega arith);
     label = λ i l. absurd (omega arith);
     goal = λ i l. absurd (omega arith);
-    rootPlaces = length-replicate {A = ℕ} mostWords 0;
-    labelPlaces = length-replicate {A = ℕ} mostWords 0;
-    goalPlaces = length-replicate {A = ℕ} mostWords 0;
+    root_places = length-replicate {A = ℕ} most_words 0;
+    label_places = length-replicate {A = ℕ} most_words 0;
+    goal_places = length-replicate {A = ℕ} most_words 0;
   };
 }
 
@@ -40,22 +40,22 @@ more l f i at v p e h r j k = go (ℕ_discrete j i)
     go (no q) = get_or-set_other l at j v 0 (λ d. q (d ∙ p)) ∙ r j (omega arith)
 
 pub copy_more : {file roots labels goals : List ℕ} {count i at a b c : ℕ} → InCopy file count roots labels goals i → at ≡ i
-    → a ≡ (fileWord file i).root → b ≡ (fileWord file i).label
-    → c ≡ (fileWord file i).goal → i < count → InCopy file count (set roots at a) (set labels at b) (set goals at c) (i + 1)
+    → a ≡ (file_word file i).root → b ≡ (file_word file i).label
+    → c ≡ (file_word file i).goal → i < count → InCopy file count (set roots at a) (set labels at b) (set goals at c) (i + 1)
 copy_more {file} {roots} {labels} {goals} {count} {i} {at} {a} {b} {c} C p x y z h = record {
-  i-le = omega arith;
+  i_le = omega arith;
   few = C.few;
   copied = record {
-    root = more roots (λ j. (fileWord file j).root) i at a p x (omega (arith, C.few, C.copied.rootPlaces)) C.copied.root;
-    label = more labels (λ j. (fileWord file j).label) i at b p y (omega (arith, C.few, C.copied.labelPlaces)) C.copied.label;
-    goal = more goals (λ j. (fileWord file j).goal) i at c p z (omega (arith, C.few, C.copied.goalPlaces)) C.copied.goal;
-    rootPlaces = simp length-set C.copied.rootPlaces;
-    labelPlaces = simp length-set C.copied.labelPlaces;
-    goalPlaces = simp length-set C.copied.goalPlaces;
+    root = more roots (λ j. (file_word file j).root) i at a p x (omega (arith, C.few, C.copied.root_places)) C.copied.root;
+    label = more labels (λ j. (file_word file j).label) i at b p y (omega (arith, C.few, C.copied.label_places)) C.copied.label;
+    goal = more goals (λ j. (file_word file j).goal) i at c p z (omega (arith, C.few, C.copied.goal_places)) C.copied.goal;
+    root_places = simp length-set C.copied.root_places;
+    label_places = simp length-set C.copied.label_places;
+    goal_places = simp length-set C.copied.goal_places;
   };
 }
 
-pub copy-end : {file roots labels goals : List ℕ} {count i : ℕ} → InCopy file count roots labels goals i → count ≤ i
+pub copy_end : {file roots labels goals : List ℕ} {count i : ℕ} → InCopy file count roots labels goals i → count ≤ i
     → Copied file count roots labels goals
-copy-end {file} {roots} {labels} {goals} {count} {i} C h = let e : i ≡ count = omega (arith, C.i-le) in
+copy_end {file} {roots} {labels} {goals} {count} {i} C h = let e : i ≡ count = omega (arith, C.i-le) in
     subst (λ k. Copied file k roots labels goals) e C.copied

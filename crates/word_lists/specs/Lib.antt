@@ -1,2 +1,2 @@
 -- Words in three lists.
-pub mod inner
+pub mod Inner

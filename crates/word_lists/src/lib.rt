@@ -1,8 +1,8 @@
 // Words in three lists: those of a table file are copied into arrays, since merging goes over them many times and a word's bytes lie apart
 // in the file.
 ghost use Rattle.std.specs.Prelude.{◌+◌, ◌<◌, ◌≤◌};
-ghost use Rattle.trellis.specs.Bounds.{mostWords};
-ghost use Rattle.word_lists.specs.inner.Lists.{Copied};
+ghost use Rattle.trellis.specs.Bounds.{most_words};
+ghost use Rattle.word_lists.specs.Inner.Lists.{Copied};
 
 use numbers::wide;
 use trellis::MOST_WORDS;
@@ -16,7 +16,7 @@ pub struct Lists {
 }
 
 pub fn copy_words(file: &[u8], count: u16) -> Lists
-    requires { count ≤ mostWords }
+    requires { count ≤ most_words }
     ensures { Copied file.now count result.roots result.labels result.goals }
 {
     let mut roots = [0u8; MOST_WORDS];

@@ -23,7 +23,7 @@ same_length c = search rules
 returns : tie.Need-returns
 returns c = search rules
 
-pub put-header-spec : {M : Type 1} → statement M
-put-header-spec =
+pub put_header_spec : {M : Type 1} → statement M
+put_header_spec =
     tie.close
     (tie.spec slice-write-sizes cast-sizes slice-write-sizes-2 slice-write-sizes-3 same_length returns)

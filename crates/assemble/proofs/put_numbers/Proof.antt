@@ -2,7 +2,7 @@
 use mathlib.Core.Path.{refl}
 use Prim.Native.Nat.{◌-◌}
 use borrow.Author.Rules.{rules}
-use Rattle.assemble.proofs.Numbers.{InNumbers, numbers-none, numbers_more, numbers-end}
+use Rattle.assemble.proofs.Numbers.{InNumbers, numbers_none, numbers_more, numbers_end}
 use Rattle.assemble.proofs.put_numbers.Statement.{statement}
 use Rattle.assemble.proofs.put_numbers.Tie as tie
 
@@ -13,7 +13,7 @@ abbrev decreases-loop : tie.decreases-loop
 decreases-loop source count section₀ at i₀ section i = count - i
 
 loop-holds : tie.Need-loop-init invariant-loop decreases-loop
-loop-holds c = numbers-none _ _ _ _
+loop-holds c = numbers_none _ _ _ _
 
 mul-section : tie.Need-overflow-mul-section invariant-loop decreases-loop
 mul-section c = search rules
@@ -46,10 +46,10 @@ same_length : tie.Need-same-length invariant-loop decreases-loop
 same_length c = c.before.loop.invariant.len
 
 returns : tie.Need-returns invariant-loop decreases-loop
-returns c = numbers-end c.before.loop.invariant (search rules)
+returns c = numbers_end c.before.loop.invariant (search rules)
 
-pub put-numbers-spec : {M : Type 1} → statement M
-put-numbers-spec =
+pub put_numbers_spec : {M : Type 1} → statement M
+put_numbers_spec =
     tie.close
     (tie.spec
     invariant-loop

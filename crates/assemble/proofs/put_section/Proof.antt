@@ -1,5 +1,5 @@
 -- `assemble::put_section` writes the sizes and then the parts one behind another; each has room behind those before it.
-use Rattle.assemble.proofs.SectionParts.{room-roots, room-goals, room-pairs, room-symbols, all-parts}
+use Rattle.assemble.proofs.SectionParts.{room_roots, room_goals, room_pairs, room_symbols, all_parts}
 use borrow.Author.Rules.{rules}
 use Rattle.assemble.proofs.put_section.Statement.{statement}
 use Rattle.assemble.proofs.put_section.Tie as tie
@@ -17,14 +17,14 @@ put-states-requires : tie.Need-put-states-requires
 put-states-requires c κs =
     let s1 = c.before.before.before.before in
     let entry = s1.before.before.before.before.before.before.before.before.before.before in
-    (entry.requires.rootPlaces, entry.requires.rootBits, room-roots entry.requires s1.put-numbers.ensures)
+    (entry.requires.root_places, entry.requires.root_bits, room_roots entry.requires s1.put-numbers.ensures)
 
 put-states-requires-2 : tie.Need-put-states-requires-2
 put-states-requires-2 c κs =
     let s2 = c.before.before.before.before in
     let s1 = s2.before.before.before.before.before in
     let entry = s1.before.before.before.before.before.before.before.before.before.before in
-    (entry.requires.goalPlaces, entry.requires.goalBits, room-goals entry.requires s1.put-numbers.ensures s2.put-states.ensures)
+    (entry.requires.goal_places, entry.requires.goal_bits, room_goals entry.requires s1.put-numbers.ensures s2.put-states.ensures)
 
 put-all-pairs-requires : tie.Need-put-all-pairs-requires
 put-all-pairs-requires c κs =
@@ -34,7 +34,7 @@ put-all-pairs-requires c κs =
     let entry = s1.before.before.before.before.before.before.before.before.before.before in (
       entry.requires.small,
       entry.requires.taken,
-      room-pairs entry.requires s1.put-numbers.ensures s2.put-states.ensures s3.put-states2.ensures,
+      room_pairs entry.requires s1.put-numbers.ensures s2.put-states.ensures s3.put-states2.ensures,
     )
 
 put-all-symbols-requires : tie.Need-put-all-symbols-requires
@@ -46,7 +46,7 @@ put-all-symbols-requires c κs =
     let entry = s1.before.before.before.before.before.before.before.before.before.before in (
       entry.requires.small,
       entry.requires.taken,
-      room-symbols entry.requires s1.put-numbers.ensures s2.put-states.ensures s3.put-states2.ensures
+      room_symbols entry.requires s1.put-numbers.ensures s2.put-states.ensures s3.put-states2.ensures
           s4.put-all-pairs.ensures,
     )
 
@@ -61,11 +61,11 @@ returns c =
     let s2 = s3.before.before.before.before.before in
     let s1 = s2.before.before.before.before.before in
     let entry = s1.before.before.before.before.before.before.before.before.before.before in
-    all-parts entry.requires s1.put-numbers.ensures s2.put-states.ensures s3.put-states2.ensures
+    all_parts entry.requires s1.put-numbers.ensures s2.put-states.ensures s3.put-states2.ensures
     s4.put-all-pairs.ensures s5.put-all-symbols.ensures
 
-pub put-section-spec : {M : Type 1} → statement M
-put-section-spec =
+pub put_section_spec : {M : Type 1} → statement M
+put_section_spec =
     tie.close
     (tie.spec
     mul-put-numbers

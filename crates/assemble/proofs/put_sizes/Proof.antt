@@ -1,5 +1,5 @@
 -- `assemble::put_sizes` writes q, n and S, the counts of vertices and the counts of edges one behind another.
-use Rattle.assemble.proofs.SectionParts.{room-edges, all-sizes}
+use Rattle.assemble.proofs.SectionParts.{room_edges, all_sizes}
 use borrow.Author.Rules.{rules}
 use Rattle.assemble.proofs.put_sizes.Statement.{statement}
 use Rattle.assemble.proofs.put_sizes.Tie as tie
@@ -18,7 +18,7 @@ put-numbers-requires-2 c κs =
     let s2 = c.before.before.before.before in
     let s1 = s2.before.before.before.before.before in
     let entry = s1.before.before.before in
-    (search rules, room-edges entry.requires s1.put-header.ensures s2.put-numbers.ensures)
+    (search rules, room_edges entry.requires s1.put-header.ensures s2.put-numbers.ensures)
 
 same_length : tie.Need-same-length
 same_length c = search rules
@@ -29,10 +29,10 @@ returns c =
     let s2 = s3.before.before.before.before.before in
     let s1 = s2.before.before.before.before.before in
     let entry = s1.before.before.before in
-    all-sizes entry.requires s1.put-header.ensures s2.put-numbers.ensures s3.put-numbers2.ensures
+    all_sizes entry.requires s1.put-header.ensures s2.put-numbers.ensures s3.put-numbers2.ensures
 
-pub put-sizes-spec : {M : Type 1} → statement M
-put-sizes-spec =
+pub put_sizes_spec : {M : Type 1} → statement M
+put_sizes_spec =
     tie.close
     (tie.spec
     put-header-requires

@@ -1,8 +1,8 @@
 -- `beginnings::enter` goes over the slots. The loop's invariant: those passed have entered. The measure is how many are left.
 use borrow.Author.Rules.{rules}
 use Prim.Native.Nat.{◌-◌, ◌≤◌}
-use Rattle.beginnings.specs.inner.Entering.{AllEntered}
-use Rattle.beginnings.proofs.Entrance.{entered-start, entered-more, entered_all}
+use Rattle.beginnings.specs.Inner.Entering.{AllEntered}
+use Rattle.beginnings.proofs.Entrance.{entered_start, entered_more, entered_all}
 use Rattle.beginnings.proofs.enter.Statement.{statement}
 use Rattle.beginnings.proofs.enter.Tie as tie
 
@@ -13,7 +13,7 @@ abbrev decreases-loop : tie.decreases-loop
 decreases-loop s roots count slots have items₀ j₀ items j = have - j
 
 loop-holds : tie.Need-loop-init invariant-loop decreases-loop
-loop-holds c = (search rules, entered-start (search rules))
+loop-holds c = (search rules, entered_start (search rules))
 
 mul-entered : tie.Need-overflow-mul-entered invariant-loop decreases-loop
 mul-entered c = search rules
@@ -42,7 +42,7 @@ loop-less c = search rules
 loop-again : tie.Need-loop-preserved invariant-loop decreases-loop
 loop-again c =
     let turn = c.before.before in
-    (search rules, entered-more turn.before.loop.invariant.1 (search rules) c.entered.ensures)
+    (search rules, entered_more turn.before.loop.invariant.1 (search rules) c.entered.ensures)
 
 returns : tie.Need-returns invariant-loop decreases-loop
 returns c = entered_all c.before.loop.invariant.1 c.before.loop.invariant.0 c.loop-test.false

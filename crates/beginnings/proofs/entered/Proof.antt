@@ -1,7 +1,7 @@
 -- `beginnings::entered` finds the root of a slot's state, which is there, so its number is that of a vertex.
 use borrow.Author.Rules.{rules}
 use native.Mathlib.Omega.{arith}
-use Rattle.beginnings.proofs.Entrance.{root-here, entered-one}
+use Rattle.beginnings.proofs.Entrance.{root_here, entered_one}
 use Rattle.beginnings.proofs.entered.Statement.{statement}
 use Rattle.beginnings.proofs.entered.Tie as tie
 
@@ -23,7 +23,7 @@ coded-requires c κs =
     let v = r.before in
     let code = v.before in
     let start = code.before.before in
-    let h = root-here start.args.x code.code_of.ensures v.vertex-of.ensures r.root-at.ensures start.requires.3 in
+    let h = root_here start.args.x code.code_of.ensures v.vertex-of.ensures r.root-at.ensures start.requires.3 in
     (search rules, omega (arith, h, start.requires.1))
 
 item-requires : tie.Need-item-requires
@@ -37,11 +37,11 @@ returns c =
     let v = r.before in
     let code = v.before in
     let start = code.before.before in
-    entered-one start.args.x code.code_of.ensures v.vertex-of.ensures r.root-at.ensures start.requires.3
+    entered_one start.args.x code.code_of.ensures v.vertex-of.ensures r.root-at.ensures start.requires.3
     cost.cost-of.ensures.0 f.coded.ensures c.item.ensures
 
-pub entered-spec : {M : Type 1} → statement M
-entered-spec =
+pub entered_spec : {M : Type 1} → statement M
+entered_spec =
     tie.close
     (tie.spec
     code-of-requires

@@ -4,19 +4,19 @@ use borrow.Author.Rules.{rules}
 use native.Mathlib.Omega.{arith}
 use lib.ListN.{length, get_or}
 use Prim.Native.Nat.{◌+◌, ◌-◌, ◌≤◌, ◌<◌}
-use Rattle.beginnings.specs.inner.Entering.{stateFrom, Left}
-use Rattle.beginnings.proofs.Leaving.{from-small, goal-inside, goal-small, left-slot, left-code, left-start, left-more, left-all}
+use Rattle.beginnings.specs.Inner.Entering.{state_from, Left}
+use Rattle.beginnings.proofs.Leaving.{from_small, goal_inside, goal_small, left_slot_lem, left_code_lem, left_start, left_more, left_all}
 use Rattle.beginnings.proofs.leave.Statement.{statement}
 use Rattle.beginnings.proofs.leave.Tie as tie
 
 abbrev invariant-loop : tie.invariant-loop
-invariant-loop s goals items count b slots₀ back₀ j₀ slots back j = (j ≤ count) × Left (stateFrom s goals) items b j slots back₀ back
+invariant-loop s goals items count b slots₀ back₀ j₀ slots back j = (j ≤ count) × Left (state_from s goals) items b j slots back₀ back
 
 abbrev decreases-loop : tie.decreases-loop
 decreases-loop s goals items count b slots₀ back₀ j₀ slots back j = count - j
 
 loop-holds : tie.Need-loop-init invariant-loop decreases-loop
-loop-holds c = (search rules, left-start (search rules) (search rules))
+loop-holds c = (search rules, left_start (search rules) (search rules))
 
 mul-x : tie.Need-overflow-mul-x invariant-loop decreases-loop
 mul-x c = search rules
@@ -39,7 +39,7 @@ inside v =
     let turn = code.before.before in
     let start = turn.before.before.before in
     let j = turn.before.loop.j in
-    goal-inside start.args.goals (get_or start.args.items.now j 0) code.code_of.ensures v.vertex-of.ensures
+    goal_inside start.args.goals (get_or start.args.items.now j 0) code.code_of.ensures v.vertex-of.ensures
     (start.requires.5.inside j turn.loop-test.true)
 
 add_wide : tie.Need-overflow-add-wide invariant-loop decreases-loop
@@ -66,7 +66,7 @@ coded-requires c κs =
     let start = turn.before.before.before in
     let j = turn.before.loop.j in
     let g
-    = goal-small start.args.s.now start.args.goals (get_or start.args.items.now j 0) code.code_of.ensures
+    = goal_small start.args.s.now start.args.goals (get_or start.args.items.now j 0) code.code_of.ensures
     v.vertex-of.ensures w.wide.ensures.0 (start.requires.5.small j turn.loop-test.true) in
     (search rules, omega (arith, g))
 
@@ -96,9 +96,9 @@ coded-requires-2 c κs =
     let j = turn.before.loop.j in
     let h = turn.loop-test.true in
     let x = get_or start.args.items.now j 0 in
-    let f = from-small x code.code_of.ensures root.root-of.ensures (start.requires.5.of j h) in
+    let f = from_small x code.code_of.ensures root.root-of.ensures (start.requires.5.of j h) in
     let g
-    = goal-small start.args.s.now start.args.goals x code.code_of.ensures v.vertex-of.ensures
+    = goal_small start.args.s.now start.args.goals x code.code_of.ensures v.vertex-of.ensures
     w.wide.ensures.0 (start.requires.5.small j h) in
     (f, omega (arith, g))
 
@@ -137,15 +137,15 @@ loop-again c =
     let goals = start.args.goals in
     let x = get_or start.args.items.now j 0 in (
       search rules,
-      left-more turn.before.loop.invariant.1 (search rules) (search rules)
-          (left-slot s goals x code.code_of.ensures v.vertex-of.ensures w.wide.ensures.0 j
+      left_more turn.before.loop.invariant.1 (search rules) (search rules)
+          (left_slot_lem s goals x code.code_of.ensures v.vertex-of.ensures w.wide.ensures.0 j
           cost.cost-of.ensures.0 own.coded.ensures slot.item.ensures)
-          (left-code s goals x code.code_of.ensures v.vertex-of.ensures w.wide.ensures.0
+          (left_code_lem s goals x code.code_of.ensures v.vertex-of.ensures w.wide.ensures.0
           root.root-of.ensures label.label_of.ensures c.coded2.ensures),
     )
 
 returns : tie.Need-returns invariant-loop decreases-loop
-returns c = left-all c.before.loop.invariant.1 c.before.loop.invariant.0 c.loop-test.false
+returns c = left_all c.before.loop.invariant.1 c.before.loop.invariant.0 c.loop-test.false
 
 pub leave_spec : {M : Type 1} → statement M
 leave_spec =

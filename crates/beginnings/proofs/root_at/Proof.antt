@@ -18,5 +18,5 @@ search-root-requires c κs = search rules
 returns-2 : tie.Need-returns-2
 returns-2 c = search rules
 
-pub root-at-spec : {M : Type 1} → statement M
-root-at-spec = tie.close (tie.spec is-own-root-requires returns search-root-requires returns-2)
+pub root_at_spec : {M : Type 1} → statement M
+root_at_spec = tie.close (tie.spec is-own-root-requires returns search-root-requires returns-2)

@@ -3,7 +3,7 @@
 use borrow.Author.Rules.{rules}
 use mathlib.Core.Path.{sym, ◌∙◌}
 use Prim.Native.Nat.{◌-◌}
-use Rattle.beginnings.proofs.Entrance.{Searched, root_is, searched-start, searched-more, searched-none}
+use Rattle.beginnings.proofs.Entrance.{Searched, root_is, searched_start, searched_more, searched_none}
 use Rattle.beginnings.proofs.search_root.Statement.{statement}
 use Rattle.beginnings.proofs.search_root.Tie as tie
 
@@ -14,7 +14,7 @@ abbrev decreases-loop : tie.decreases-loop
 decreases-loop s roots count state v₀ v = count - v
 
 loop-holds : tie.Need-loop-init invariant-loop decreases-loop
-loop-holds c = searched-start
+loop-holds c = searched_start
 
 add_wide : tie.Need-overflow-add-wide invariant-loop decreases-loop
 add_wide c = search rules
@@ -42,13 +42,13 @@ loop-less c = search rules
 loop-again : tie.Need-loop-preserved invariant-loop decreases-loop
 loop-again c =
     let w = c.before in
-    searched-more w.before.before.before.loop.invariant (λ q. c.if1.false (w.wide.ensures.0 ∙ q))
+    searched_more w.before.before.before.loop.invariant (λ q. c.if1.false (w.wide.ensures.0 ∙ q))
 
 returns-2 : tie.Need-returns-2 invariant-loop decreases-loop
-returns-2 c = searched-none c.before.loop.invariant (search rules)
+returns-2 c = searched_none c.before.loop.invariant (search rules)
 
-pub search-root-spec : {M : Type 1} → statement M
-search-root-spec =
+pub search_root_spec : {M : Type 1} → statement M
+search_root_spec =
     tie.close
     (tie.spec
     invariant-loop

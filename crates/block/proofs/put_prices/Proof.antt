@@ -4,8 +4,8 @@
 use mathlib.Core.Path.{refl}
 use lib.Dec.{lit<}
 use borrow.Author.Rules.{rules}
-use Rattle.comparing.proofs.Marks.{repeated, symbol-cost}
-use Rattle.block.proofs.Costs.{prices-start, step-inside, prices-more, prices-end, InPrices}
+use Rattle.comparing.proofs.Marks.{repeated, symbol_cost_lem}
+use Rattle.block.proofs.Costs.{prices_start, step_inside, prices_more, prices_end, InPrices}
 use Rattle.block.proofs.put_prices.Statement.{statement}
 use Rattle.block.proofs.put_prices.Tie as tie
 
@@ -28,7 +28,7 @@ compare-requires-4 : tie.Need-compare-requires-4 invariant-loop decreases-loop
 compare-requires-4 c κs = search rules
 
 loop-holds : tie.Need-loop-init invariant-loop decreases-loop
-loop-holds c = prices-start c.before.before.before.before.requires.1
+loop-holds c = prices_start c.before.before.before.before.requires.1
 
 sub-t : tie.Need-overflow-sub-t invariant-loop decreases-loop
 sub-t c = search rules
@@ -126,22 +126,22 @@ loop-again c =
     let entry = zeros.before in
     let few = entry.requires.0 in
     let short = entry.ranges.received.fits in
-    let inside = step-inside turn.before.loop.invariant turn.loop-test.true in
-    prices-more few turn.before.loop.invariant turn.loop-test.true
-    (symbol-cost (zeros.compare.ensures 8 (lit< tt) short (lit< tt)) 0 refl (lit< tt) _ _ few inside bit₀.bit_at.ensures.0)
+    let inside = step_inside turn.before.loop.invariant turn.loop-test.true in
+    prices_more few turn.before.loop.invariant turn.loop-test.true
+    (symbol_cost_lem (zeros.compare.ensures 8 (lit< tt) short (lit< tt)) 0 refl (lit< tt) _ _ few inside bit₀.bit_at.ensures.0)
     price₀.price.ensures
-    (symbol-cost (ones.compare2.ensures 8 (lit< tt) short (lit< tt)) 1 refl (lit< tt) _ _ few inside bit₁.bit-at2.ensures.0)
+    (symbol_cost_lem (ones.compare2.ensures 8 (lit< tt) short (lit< tt)) 1 refl (lit< tt) _ _ few inside bit₁.bit-at2.ensures.0)
     price₁.price2.ensures
-    (symbol-cost (twos.compare3.ensures 8 (lit< tt) short (lit< tt)) 2 refl (lit< tt) _ _ few inside bit₂.bit-at3.ensures.0)
+    (symbol_cost_lem (twos.compare3.ensures 8 (lit< tt) short (lit< tt)) 2 refl (lit< tt) _ _ few inside bit₂.bit-at3.ensures.0)
     price₂.price3.ensures
-    (symbol-cost (threes.compare4.ensures 8 (lit< tt) short (lit< tt)) 3 refl (lit< tt) _ _ few inside bit₃.bit-at4.ensures.0)
+    (symbol_cost_lem (threes.compare4.ensures 8 (lit< tt) short (lit< tt)) 3 refl (lit< tt) _ _ few inside bit₃.bit-at4.ensures.0)
     c.price4.ensures
 
 returns : tie.Need-returns invariant-loop decreases-loop
-returns c = prices-end c.before.loop.invariant (search rules)
+returns c = prices_end c.before.loop.invariant (search rules)
 
-pub put-prices-spec : {M : Type 1} → statement M
-put-prices-spec =
+pub put_prices_spec : {M : Type 1} → statement M
+put_prices_spec =
     tie.close
     (tie.spec
     invariant-loop

@@ -1,7 +1,7 @@
 -- `blocks::main` lends what it read and a buffer of its own, and writes the text that stands in it: a written text is inside the buffer.
 use mathlib.Core.Path.{sym}
 use lib.Seq.{length-take-le}
-use Rattle.sheet.proofs.Whole.{sheet-inside}
+use Rattle.sheet.proofs.Whole.{sheet_inside}
 use borrow.Author.Rules.{rules}
 use Rattle.blocks.proofs.main.Statement.{statement}
 use Rattle.blocks.proofs.main.Tie as tie
@@ -32,11 +32,11 @@ enum-known-length c = search rules
 
 array-share-prefix-text : tie.Need-array-share-prefix-text
 array-share-prefix-text c = let l = c.before.before.before.before in
-    sheet-inside _ _ l.block-sheet.ensures c.before.length.given.1
+    sheet_inside _ _ l.block-sheet.ensures c.before.length.given.1
 
 slice-aggregate-write-all : tie.Need-slice-aggregate-write-all
 slice-aggregate-write-all c = let l = c.before.before.before.before.before in
-    sym (length-take-le _ _ (sheet-inside _ _ l.block-sheet.ensures c.before.before.length.given.1))
+    sym (length-take-le _ _ (sheet_inside _ _ l.block-sheet.ensures c.before.before.length.given.1))
 
 write-all-requires : tie.Need-write-all-requires
 write-all-requires c κs = search rules

@@ -1,5 +1,5 @@
 -- `c_decoding::decode_numbered` is decoding, its answer in numbers.
-use Rattle.c_decoding.proofs.Left.{decode-left}
+use Rattle.c_decoding.proofs.Left.{decode_left}
 use borrow.Author.Rules.{rules}
 use Rattle.c_decoding.proofs.decode_numbered.Statement.{statement}
 use Rattle.c_decoding.proofs.decode_numbered.Tie as tie
@@ -29,10 +29,10 @@ returns : tie.Need-returns
 returns c =
     let o = c.before.before in
     let decode = o.before.before.before.before.before.before.before.before.before in
-    decode-left decode.decode.ensures (c.store.ensures _ o.outcome.ensures)
+    decode_left decode.decode.ensures (c.store.ensures _ o.outcome.ensures)
 
-pub decode-numbered-spec : {M : Type 1} → statement M
-decode-numbered-spec =
+pub decode_numbered_spec : {M : Type 1} → statement M
+decode_numbered_spec =
     tie.close
     (tie.spec
     decode-requires

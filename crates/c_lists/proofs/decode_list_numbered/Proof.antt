@@ -1,5 +1,5 @@
 -- `c_lists::decode_list_numbered` is the listing of several paths, its answer in numbers.
-use Rattle.c_lists.proofs.Left.{decode-list-left}
+use Rattle.c_lists.proofs.Left.{decode_list_left}
 use borrow.Author.Rules.{rules}
 use Rattle.c_lists.proofs.decode_list_numbered.Statement.{statement}
 use Rattle.c_lists.proofs.decode_list_numbered.Tie as tie
@@ -29,10 +29,10 @@ returns : tie.Need-returns
 returns c =
     let o = c.before.before in
     let listed = o.before.before.before.before.before.before.before.before.before in
-    decode-list-left listed.decode-list.ensures (c.store.ensures _ o.outcome.ensures)
+    decode_list_left listed.decode-list.ensures (c.store.ensures _ o.outcome.ensures)
 
-pub decode-list-numbered-spec : {M : Type 1} → statement M
-decode-list-numbered-spec =
+pub decode_list_numbered_spec : {M : Type 1} → statement M
+decode_list_numbered_spec =
     tie.close
     (tie.spec
     decode-list-requires

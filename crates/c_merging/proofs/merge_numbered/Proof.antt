@@ -1,5 +1,5 @@
 -- `c_merging::merge_numbered` is merging, its answer in numbers.
-use Rattle.c_merging.proofs.Left.{merge-left}
+use Rattle.c_merging.proofs.Left.{merge_left}
 use borrow.Author.Rules.{rules}
 use Rattle.c_merging.proofs.merge_numbered.Statement.{statement}
 use Rattle.c_merging.proofs.merge_numbered.Tie as tie
@@ -22,9 +22,9 @@ same-length-2 c = search rules
 returns : tie.Need-returns
 returns c =
     let o = c.before.before in
-    merge-left o.before.before.before.before.before.merge.ensures (c.store.ensures _ o.outcome.ensures)
+    merge_left o.before.before.before.before.before.merge.ensures (c.store.ensures _ o.outcome.ensures)
 
-pub merge-numbered-spec : {M : Type 1} → statement M
-merge-numbered-spec =
+pub merge_numbered_spec : {M : Type 1} → statement M
+merge_numbered_spec =
     tie.close
     (tie.spec merge-requires outcome-requires store-requires same_length same-length-2 returns)

@@ -1,5 +1,5 @@
 -- `c_rows::merge_rows_numbered` is the merging of generator rows, its answer in numbers.
-use Rattle.c_rows.proofs.Left.{merge-rows-left}
+use Rattle.c_rows.proofs.Left.{merge_rows_left}
 use borrow.Author.Rules.{rules}
 use Rattle.c_rows.proofs.merge_rows_numbered.Statement.{statement}
 use Rattle.c_rows.proofs.merge_rows_numbered.Tie as tie
@@ -26,10 +26,10 @@ returns : tie.Need-returns
 returns c =
     let o = c.before.before in
     let merged = o.before.before.before.before.before.before.before in
-    merge-rows-left merged.merge-rows.ensures (c.store.ensures _ o.outcome.ensures)
+    merge_rows_left merged.merge-rows.ensures (c.store.ensures _ o.outcome.ensures)
 
-pub merge-rows-numbered-spec : {M : Type 1} → statement M
-merge-rows-numbered-spec =
+pub merge_rows_numbered_spec : {M : Type 1} → statement M
+merge_rows_numbered_spec =
     tie.close
     (tie.spec
     merge-rows-requires

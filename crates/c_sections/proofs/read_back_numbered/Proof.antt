@@ -1,5 +1,5 @@
 -- `c_sections::read_back_numbered` is reading back, its answer in numbers.
-use Rattle.c_sections.proofs.Left.{read-back-left}
+use Rattle.c_sections.proofs.Left.{read_back_left}
 use borrow.Author.Rules.{rules}
 use Rattle.c_sections.proofs.read_back_numbered.Statement.{statement}
 use Rattle.c_sections.proofs.read_back_numbered.Tie as tie
@@ -19,8 +19,8 @@ same_length c = search rules
 returns : tie.Need-returns
 returns c =
     let o = c.before.before in
-    read-back-left o.before.before.before.read_back.ensures (c.store.ensures _ o.outcome.ensures)
+    read_back_left o.before.before.before.read_back.ensures (c.store.ensures _ o.outcome.ensures)
 
-pub read-back-numbered-spec : {M : Type 1} → statement M
-read-back-numbered-spec =
+pub read_back_numbered_spec : {M : Type 1} → statement M
+read_back_numbered_spec =
     tie.close (tie.spec read-back-requires outcome-requires store-requires same_length returns)

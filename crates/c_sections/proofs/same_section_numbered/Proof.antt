@@ -1,5 +1,5 @@
 -- `c_sections::same_section_numbered` is comparing two sections, its answer in numbers.
-use Rattle.outcomes.proofs.Numbering.{numbered-by}
+use Rattle.outcomes.proofs.Numbering.{numbered_by}
 use borrow.Author.Rules.{rules}
 use Rattle.c_sections.proofs.same_section_numbered.Statement.{statement}
 use Rattle.c_sections.proofs.same_section_numbered.Tie as tie
@@ -16,7 +16,7 @@ store-requires c κs = search rules
 returns : tie.Need-returns
 returns c =
     let o = c.before.before in
-    numbered-by o.before.same-section.ensures (c.store.ensures _ o.outcome.ensures)
+    numbered_by o.before.same-section.ensures (c.store.ensures _ o.outcome.ensures)
 
-pub same-section-numbered-spec : {M : Type 1} → statement M
-same-section-numbered-spec = tie.close (tie.spec same-section-requires outcome-requires store-requires returns)
+pub same_section_numbered_spec : {M : Type 1} → statement M
+same_section_numbered_spec = tie.close (tie.spec same-section-requires outcome-requires store-requires returns)

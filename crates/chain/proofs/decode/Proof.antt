@@ -2,7 +2,7 @@
 use borrow.Author.Rules.{rules}
 use mathlib.Core.Path.{◌∙◌}
 use Rattle.frame.specs.Frame.{Frame, frame}
-use Rattle.decoding.proofs.Faults.{ends-section, past-sections}
+use Rattle.decoding.proofs.Faults.{ends_section, past_sections}
 use Rattle.chain.proofs.decode.Statement.{statement}
 use Rattle.chain.proofs.decode.Tie as tie
 
@@ -19,7 +19,7 @@ returns : tie.Need-returns
 returns c =
     let entry = c.before.before.before.before.before.before.before.before.before.before in
     let L = c.before.find.ensures in
-    ends-section (frame-of entry) _ _ _ _ (L.badIs ∙ c.if1.true) L.indexIs
+    ends_section (frame-of entry) _ _ _ _ (L.bad_is ∙ c.if1.true) L.index_is
 
 decode-frame-requires : tie.Need-decode-frame-requires
 decode-frame-requires c κs =
@@ -40,14 +40,14 @@ same-length-4 c = search rules
 
 returns-2 : tie.Need-returns-2
 returns-2 c =
-    let decode-frame = c.before.before.before.before.before.before.before.before in
-    let else1 = decode-frame.before.before.before.before.before.before.before.before in
+    let decode_frame = c.before.before.before.before.before.before.before.before in
+    let else1 = decode_frame.before.before.before.before.before.before.before.before in
     let find = else1.before in
     let entry = find.before.before.before.before.before.before.before.before.before in
-    past-sections (frame-of entry) _ _ _ _ (find.find.ensures.badIs ∙ else1.if1.false) decode-frame.decode-frame.ensures
+    past_sections (frame-of entry) _ _ _ _ (find.find.ensures.bad_is ∙ else1.if1.false) decode_frame.decode-frame.ensures
 
-pub decode-spec : {M : Type 1} → statement M
-decode-spec =
+pub decode_spec : {M : Type 1} → statement M
+decode_spec =
     tie.close
     (tie.spec
     find-requires

@@ -2,7 +2,7 @@
 use borrow.Author.Rules.{rules}
 use mathlib.Core.Path.{◌∙◌}
 use Rattle.frame.specs.Frame.{Frame, frame}
-use Rattle.path_list.proofs.Faults.{ends-section, past-sections}
+use Rattle.path_list.proofs.Faults.{ends_section, past_sections}
 use Rattle.chain_list.proofs.decode_list.Statement.{statement}
 use Rattle.chain_list.proofs.decode_list.Tie as tie
 
@@ -19,7 +19,7 @@ returns : tie.Need-returns
 returns c =
     let entry = c.before.before.before.before.before.before.before.before.before.before in
     let L = c.before.find.ensures in
-    ends-section (frame-of entry) _ _ _ _ _ (L.badIs ∙ c.if1.true) L.indexIs
+    ends_section (frame-of entry) _ _ _ _ _ (L.bad_is ∙ c.if1.true) L.index_is
 
 list-frame-requires : tie.Need-list-frame-requires
 list-frame-requires c κs =
@@ -40,14 +40,14 @@ same-length-4 c = search rules
 
 returns-2 : tie.Need-returns-2
 returns-2 c =
-    let list-frame = c.before.before.before.before.before.before.before.before in
-    let else1 = list-frame.before.before.before.before.before.before.before.before in
+    let list_frame = c.before.before.before.before.before.before.before.before in
+    let else1 = list_frame.before.before.before.before.before.before.before.before in
     let find = else1.before in
     let entry = find.before.before.before.before.before.before.before.before.before in
-    past-sections (frame-of entry) _ _ _ _ _ (find.find.ensures.badIs ∙ else1.if1.false) list-frame.list-frame.ensures
+    past_sections (frame-of entry) _ _ _ _ _ (find.find.ensures.bad_is ∙ else1.if1.false) list_frame.list-frame.ensures
 
-pub decode-list-spec : {M : Type 1} → statement M
-decode-list-spec =
+pub decode_list_spec : {M : Type 1} → statement M
+decode_list_spec =
     tie.close
     (tie.spec
     find-requires

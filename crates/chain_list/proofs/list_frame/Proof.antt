@@ -2,8 +2,8 @@
 use borrow.Author.Rules.{rules}
 use mathlib.Core.Path.{sym, ◌∙◌}
 use Rattle.frame.specs.Frame.{Frame, frame}
-use Rattle.frame.proofs.Checks.{FramePassed, views-of, framed_of, frame-passed, checked}
-use Rattle.path_list.proofs.Faults.{ends-frame, ends-block, past-frame}
+use Rattle.frame.proofs.Checks.{FramePassed, views_of, framed_of, frame_passed, checked}
+use Rattle.path_list.proofs.Faults.{ends_frame, ends_block, past_frame}
 use Rattle.chain_list.proofs.list_frame.Statement.{statement}
 use Rattle.chain_list.proofs.list_frame.Tie as tie
 
@@ -18,7 +18,7 @@ passed : (e : tie.Else2) → FramePassed (frame-of e.before.before.before.before
 passed e =
     let s = e.before.before.before.before.before.before.before.before.before.before.before.before in
     let f = frame-of s in
-    frame-passed {f = f} (e.before.before.before.frame-bad.ensures f.sections f.k) e.before.before.if1.false
+    frame_passed {f = f} (e.before.before.before.frame-bad.ensures f.sections f.k) e.before.before.if1.false
     (e.before.first-bad.ensures f.sections s.args.starts.now f.start f.end s.requires.found) (search rules)
 
 frame-bad-requires : tie.Need-frame-bad-requires
@@ -27,19 +27,19 @@ frame-bad-requires c κs = search rules
 returns : tie.Need-returns
 returns c =
     let entry = c.before.before.before.before.before.before.before.before.before.before in
-    ends-frame (frame-of entry) _ _ _ _ _ (c.before.frame-bad.ensures _ _) c.if1.true
+    ends_frame (frame-of entry) _ _ _ _ _ (c.before.frame-bad.ensures _ _) c.if1.true
 
 first-bad-requires : tie.Need-first-bad-requires
 first-bad-requires c κs =
     let s = c.before.before.before.before.before.before.before.before.before.before in
     let G = framed_of {f = frame-of s} (sym (c.before.frame-bad.ensures s.args.sections.now s.args.k) ∙ c.if1.false) in
-    (views-of s.requires, G.receivedLong, G.erasedLong)
+    (views_of s.requires, G.received_long, G.erased_long)
 
 returns-2 : tie.Need-returns-2
 returns-2 c =
     let s = c.before.before.before.before.before.before.before.before.before.before.before.before in
     let f = frame-of s in
-    ends-block f _ _ _ _ _ (c.before.before.before.frame-bad.ensures _ _) c.before.before.if1.false
+    ends_block f _ _ _ _ _ (c.before.before.before.frame-bad.ensures _ _) c.before.before.if1.false
     (c.before.first-bad.ensures f.sections s.args.starts.now f.start f.end s.requires.found) c.if2.true
 
 list-blocks-requires : tie.Need-list-blocks-requires
@@ -62,13 +62,13 @@ same-length-4 c = search rules
 
 returns-3 : tie.Need-returns-3
 returns-3 c =
-    let list-blocks = c.before.before.before.before.before.before.before.before in
-    let else2 = list-blocks.before.before.before.before.before in
+    let list_blocks = c.before.before.before.before.before.before.before.before in
+    let else2 = list_blocks.before.before.before.before.before in
     let entry = else2.before.before.before.before.before.before.before.before.before.before.before.before in
-    past-frame (frame-of entry) _ _ _ _ _ (passed else2) (list-blocks.list-blocks.ensures entry.args.k)
+    past_frame (frame-of entry) _ _ _ _ _ (passed else2) (list_blocks.list-blocks.ensures entry.args.k)
 
-pub list-frame-spec : {M : Type 1} → statement M
-list-frame-spec =
+pub list_frame_spec : {M : Type 1} → statement M
+list_frame_spec =
     tie.close
     (tie.spec
     frame-bad-requires

@@ -1,5 +1,5 @@
 -- `codes::further` meets its contract, by what its calls ensure.
-use Rattle.codes.proofs.Codes.{further-is}
+use Rattle.codes.proofs.Codes.{further_is}
 use borrow.Author.Rules.{rules}
 use Rattle.codes.proofs.further.Statement.{statement}
 use Rattle.codes.proofs.further.Tie as tie
@@ -33,10 +33,10 @@ add-result-2 c = search rules
 
 returns : tie.Need-returns
 returns c = let w = c.before in let a = w.before in let l = a.before.before in
-    further-is _ l.before.args.e l.label_of.ensures a.append.ensures w.wider.ensures
+    further_is _ l.before.args.e l.label_of.ensures a.append.ensures w.wider.ensures
 
-pub further-spec : {M : Type 1} → statement M
-further-spec =
+pub further_spec : {M : Type 1} → statement M
+further_spec =
     tie.close
     (tie.spec
     label-of-requires

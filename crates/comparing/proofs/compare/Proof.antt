@@ -17,5 +17,5 @@ returns c =
     let a = entry.args in
     compared 8 a.x a.erased a.y (ap (λ d. bit_and d (255 - a.erased)) c.differences.ensures) refl entry.ranges.erased.fits
 
-pub compare-spec : {M : Type 1} → statement M
-compare-spec = tie.close (tie.spec differences-requires returns)
+pub compare_spec : {M : Type 1} → statement M
+compare_spec = tie.close (tie.spec differences-requires returns)

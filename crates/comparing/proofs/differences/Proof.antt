@@ -4,8 +4,8 @@ use mathlib.Core.Path.{refl, ◌∙◌}
 use lib.Dec.{lit<}
 use borrow.Author.Rules.{rules}
 use Rattle.trellis.specs.Comparing.{differing}
-use Rattle.trellis.proofs.Comparing.{differing-short}
-use Rattle.comparing.proofs.Fields.{lowHalves, drawn-together, one_field, kept-below}
+use Rattle.trellis.proofs.Comparing.{differing_short}
+use Rattle.comparing.proofs.Fields.{low_halves, drawn_together, one_field, kept_below}
 use Rattle.comparing.proofs.Folding.{folded}
 use Rattle.comparing.proofs.differences.Statement.{statement}
 use Rattle.comparing.proofs.differences.Tie as tie
@@ -23,10 +23,10 @@ masked-or-requires-4 : tie.Need-masked-or-requires-4
 masked-or-requires-4 c κs = search rules
 
 cast-result : tie.Need-overflow-cast-result
-cast-result c = record { fits = kept-below 8 c.masked-or4.ensures (lit< tt) }
+cast-result c = record { fits = kept_below 8 c.masked-or4.ensures (lit< tt) }
 
 returns : tie.Need-returns
-unfolding lowHalves
+unfolding low_halves
 returns c =
     let twos = c.before.before in
     let entry = twos.before.before in
@@ -34,12 +34,12 @@ returns c =
     let y = entry.args.y in
     let v = differing 8 x 0 y in
     let by_two = folded 8 x y twos.before.masked-or.ensures refl refl refl in
-    let by-four = drawn-together 1 4 v twos.masked-or2.ensures by_two refl refl in
-    let by-eight = drawn-together 2 2 v c.before.masked-or3.ensures by-four refl refl in
-    drawn-together 4 1 v c.masked-or4.ensures by-eight refl refl ∙ one_field 8 (differing-short 8 x 0 y)
+    let by_four = drawn_together 1 4 v twos.masked-or2.ensures by_two refl refl in
+    let by_eight = drawn_together 2 2 v c.before.masked-or3.ensures by_four refl refl in
+    drawn_together 4 1 v c.masked-or4.ensures by_eight refl refl ∙ one_field 8 (differing_short 8 x 0 y)
 
-pub differences-spec : {M : Type 1} → statement M
-differences-spec =
+pub differences_spec : {M : Type 1} → statement M
+differences_spec =
     tie.close
     (tie.spec
     masked-or-requires

@@ -12,7 +12,7 @@ returns : tie.Need-returns
 returns c =
     let a = c.before.args in
     let compared = c.compare.ensures 8 (lit< tt) c.before.ranges.x.fits (lit< tt) in
-    rw compared.distanceIs (distance_most 8 a.x a.erased 6939)
+    rw compared.distance_is (distance_most 8 a.x a.erased 6939)
 
-pub at-once-spec : {M : Type 1} → statement M
-at-once-spec = tie.close (tie.spec compare-requires returns)
+pub at_once_spec : {M : Type 1} → statement M
+at_once_spec = tie.close (tie.spec compare-requires returns)

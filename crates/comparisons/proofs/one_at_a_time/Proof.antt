@@ -40,8 +40,8 @@ loop-again c = search rules
 returns : tie.Need-returns invariant-loop decreases-loop
 returns c = search rules
 
-pub one-at-a-time-spec : {M : Type 1} → statement M
-one-at-a-time-spec =
+pub one_at_a_time_spec : {M : Type 1} → statement M
+one_at_a_time_spec =
     tie.close
     (tie.spec
     invariant-loop

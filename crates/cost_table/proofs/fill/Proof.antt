@@ -3,7 +3,7 @@
 use borrow.Author.Rules.{rules}
 use native.Mathlib.Omega.{arith}
 use lib.ListN.{length-take, length-drop}
-use Rattle.cost_table.specs.inner.Filled.{heldBlocks}
+use Rattle.cost_table.specs.Inner.Filled.{held_blocks}
 use Rattle.cost_table.proofs.Tables.{InFill, fill_start, block_at, fill_more, fill_end}
 use Rattle.cost_table.proofs.Rows.{one_below, row_inside, row_back}
 use Rattle.cost_table.proofs.fill.Statement.{statement}
@@ -11,7 +11,7 @@ use Rattle.cost_table.proofs.fill.Tie as tie
 
 abbrev invariant-loop : tie.invariant-loop
 invariant-loop sections starts indices received erased costs₀ views left₀ prices₀ even₀ odd₀ b₀ costs left prices even odd b =
-    InFill (heldBlocks sections starts views indices received erased) left₀ costs₀ costs left prices even odd b
+    InFill (held_blocks sections starts views indices received erased) left₀ costs₀ costs left prices even odd b
 
 abbrev decreases-loop : tie.decreases-loop
 decreases-loop sections starts indices received erased costs₀ views left₀ prices₀ even₀ odd₀ b₀ costs left prices even odd b = b
@@ -76,7 +76,7 @@ shared-slice-read-word c =
     let head = turn.before in
     let entry = head.before.before.before.before.before.before in
     let B = block_at entry.requires.0 (one_below head.loop.invariant.b-le turn.loop-test.true) widened.widened.ensures.0 in
-    omega (arith, head.loop.invariant.b-le, entry.requires.0.receivedLong, entry.requires.0.erasedLong)
+    omega (arith, head.loop.invariant.b-le, entry.requires.0.received_long, entry.requires.0.erased_long)
 
 shared-slice-read-mask : tie.Need-shared-slice-read-mask invariant-loop decreases-loop
 shared-slice-read-mask c =
@@ -85,7 +85,7 @@ shared-slice-read-mask c =
     let head = turn.before in
     let entry = head.before.before.before.before.before.before in
     let B = block_at entry.requires.0 (one_below head.loop.invariant.b-le turn.loop-test.true) widened.widened.ensures.0 in
-    omega (arith, head.loop.invariant.b-le, entry.requires.0.receivedLong, entry.requires.0.erasedLong)
+    omega (arith, head.loop.invariant.b-le, entry.requires.0.received_long, entry.requires.0.erased_long)
 
 mul-first : tie.Need-overflow-mul-first invariant-loop decreases-loop
 mul-first c =
@@ -189,17 +189,17 @@ loop-less c =
 
 loop-again : tie.Need-loop-preserved invariant-loop decreases-loop
 loop-again c =
-    let fill-block = c.before.before in
-    let widened = fill-block.before.before.before.before.before.before.before.before.before.before.before in
+    let fill_block = c.before.before in
+    let widened = fill_block.before.before.before.before.before.before.before.before.before.before.before in
     let turn = widened.before.before in
     let head = turn.before in
     let entry = head.before.before.before.before.before.before in
     let I = head.loop.invariant in
     let h = turn.loop-test.true in
-    let E = fill-block.fill-block.ensures in
+    let E = fill_block.fill-block.ensures in
     let A = block_at entry.requires.0 (one_below I.b-le h) widened.widened.ensures.0 in
     fill_more I h A.part-is E.0 E.1
-    (row_back E.0.passed.notesLong (row_inside I.b-le h I.long entry.requires.2))
+    (row_back E.0.passed.notes_long (row_inside I.b-le h I.long entry.requires.2))
 
 same_length : tie.Need-same-length invariant-loop decreases-loop
 same_length c = c.before.loop.invariant.long

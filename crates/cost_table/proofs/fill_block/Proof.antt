@@ -2,7 +2,7 @@
 use borrow.Author.Rules.{rules}
 use native.Mathlib.Omega.{arith}
 use Rattle.section_file.proofs.Seen.{header}
-use Rattle.cost_table.proofs.Tables.{block-filled}
+use Rattle.cost_table.proofs.Tables.{block_filled}
 use Rattle.cost_table.proofs.fill_block.Statement.{statement}
 use Rattle.cost_table.proofs.fill_block.Tie as tie
 
@@ -19,17 +19,17 @@ same_length c = search rules
 
 returns : tie.Need-returns
 returns c =
-    let pass-block = c.before.before in
-    let put-prices = pass-block.before.before.before.before.before.before.before in
-    let entry = put-prices.before.before.before.before in
-    let P = put-prices.put-prices.ensures in
-    let B = pass-block.pass-block.ensures in (
-      block-filled (header entry.requires.0).n-is P B.0,
-      record { leftLong = B.0.long; room = P.room; evenLong = B.1; oddLong = B.2 },
+    let pass_block = c.before.before in
+    let put_prices = pass_block.before.before.before.before.before.before.before in
+    let entry = put_prices.before.before.before.before in
+    let P = put_prices.put-prices.ensures in
+    let B = pass_block.pass-block.ensures in (
+      block_filled (header entry.requires.0).n-is P B.0,
+      record { left_long = B.0.long; room = P.room; even_long = B.1; odd_long = B.2 },
     )
 
-pub fill-block-spec : {M : Type 1} → statement M
-fill-block-spec =
+pub fill_block_spec : {M : Type 1} → statement M
+fill_block_spec =
     tie.close
     (tie.spec
     put-prices-requires

@@ -1,8 +1,8 @@
 -- `dearest::dearest_before` goes back from the place at which cheaper ones begin. The loop's invariant: those from i on cost less than the
 -- bound, and none costs more. So an item that costs as much as the bound is the last dearest. The measure is i.
 use borrow.Author.Rules.{rules}
-use Rattle.dearest.specs.inner.Loops.{CheaperFrom}
-use Rattle.dearest.proofs.LastDearest.{cheaper-found, cheaper-more}
+use Rattle.dearest.specs.Inner.Loops.{CheaperFrom}
+use Rattle.dearest.proofs.LastDearest.{cheaper_found, cheaper_more}
 use Rattle.dearest.proofs.dearest_before.Statement.{statement}
 use Rattle.dearest.proofs.dearest_before.Tie as tie
 
@@ -34,7 +34,7 @@ returns : tie.Need-returns invariant-loop decreases-loop
 returns c =
     let one = c.before in
     let turn = one.before.before in
-    cheaper-found turn.before.loop.invariant turn.loop-test.true one.cost-of.ensures.0 c.if1.true
+    cheaper_found turn.before.loop.invariant turn.loop-test.true one.cost-of.ensures.0 c.if1.true
 
 sub-i : tie.Need-overflow-sub-i invariant-loop decreases-loop
 sub-i c = search rules
@@ -46,7 +46,7 @@ loop-again : tie.Need-loop-preserved invariant-loop decreases-loop
 loop-again c =
     let one = c.before in
     let turn = one.before.before in
-    cheaper-more turn.before.loop.invariant turn.loop-test.true one.cost-of.ensures.0 c.if1.false
+    cheaper_more turn.before.loop.invariant turn.loop-test.true one.cost-of.ensures.0 c.if1.false
 
 last-dearest-requires : tie.Need-last-dearest-requires invariant-loop decreases-loop
 last-dearest-requires c κs = search rules
@@ -54,8 +54,8 @@ last-dearest-requires c κs = search rules
 returns-2 : tie.Need-returns-2 invariant-loop decreases-loop
 returns-2 c = search rules
 
-pub dearest-before-spec : {M : Type 1} → statement M
-dearest-before-spec =
+pub dearest_before_spec : {M : Type 1} → statement M
+dearest_before_spec =
     tie.close
     (tie.spec
     invariant-loop

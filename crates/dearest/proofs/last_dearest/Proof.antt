@@ -2,7 +2,7 @@
 -- The measure is how many are left.
 use borrow.Author.Rules.{rules}
 use Prim.Native.Nat.{◌-◌}
-use Rattle.dearest.proofs.LastDearest.{Looked, looked-start, looked-more, looked-all}
+use Rattle.dearest.proofs.LastDearest.{Looked, looked_start, looked_more, looked_all}
 use Rattle.dearest.proofs.last_dearest.Statement.{statement}
 use Rattle.dearest.proofs.last_dearest.Tie as tie
 
@@ -19,7 +19,7 @@ cost-of-requires : tie.Need-cost-of-requires invariant-loop decreases-loop
 cost-of-requires c κs = search rules
 
 loop-holds : tie.Need-loop-init invariant-loop decreases-loop
-loop-holds c = looked-start c.cost-of.ensures.0 (search rules)
+loop-holds c = looked_start c.cost-of.ensures.0 (search rules)
 
 mul-cost-of : tie.Need-overflow-mul-cost-of invariant-loop decreases-loop
 mul-cost-of c = search rules
@@ -42,13 +42,13 @@ loop-less c = search rules
 loop-again : tie.Need-loop-preserved invariant-loop decreases-loop
 loop-again c =
     let turn = c.before.before.before in
-    looked-more turn.before.loop.invariant (search rules) c.before.cost-of2.ensures.0 c.dearer.ensures
+    looked_more turn.before.loop.invariant (search rules) c.before.cost-of2.ensures.0 c.dearer.ensures
 
 returns : tie.Need-returns invariant-loop decreases-loop
-returns c = looked-all c.before.loop.invariant (search rules)
+returns c = looked_all c.before.loop.invariant (search rules)
 
-pub last-dearest-spec : {M : Type 1} → statement M
-last-dearest-spec =
+pub last_dearest_spec : {M : Type 1} → statement M
+last_dearest_spec =
     tie.close
     (tie.spec
     invariant-loop

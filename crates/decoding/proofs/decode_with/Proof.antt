@@ -1,7 +1,7 @@
 -- `decoding::decode_with` goes backward, forward, and turns the notes into costs: what is left is what the frame's best path gives.
 use borrow.Author.Rules.{rules}
 use Rattle.decoding.proofs.Ends.{ready}
-use Rattle.decoding.proofs.Held.{with-notes, with_none, with-way, with-labels, with-path}
+use Rattle.decoding.proofs.Held.{with_notes, with_none, with_way, with_labels, with_path}
 use Rattle.decoding.proofs.decode_with.Statement.{statement}
 use Rattle.decoding.proofs.decode_with.Tie as tie
 
@@ -16,9 +16,9 @@ ends-in-requires c κs = search rules
 
 fill-requires : tie.Need-fill-requires
 fill-requires c κs =
-    let ends-in = c.before in
-    let entry = ends-in.before.before.before.before.before.before.before.before.before.before.before in
-    (ready entry.requires.0.checks, ends-in.ends-in.ensures.long, entry.requires.1.forCosts)
+    let ends_in = c.before in
+    let entry = ends_in.before.before.before.before.before.before.before.before.before.before.before in
+    (ready entry.requires.0.checks, ends_in.ends-in.ensures.long, entry.requires.1.for_costs)
 
 mul-distance : tie.Need-overflow-mul-distance
 mul-distance c = search rules
@@ -29,11 +29,11 @@ array-read-distance c = search rules
 settle-requires : tie.Need-settle-requires
 settle-requires c κs =
     let fill = c.before.before.before.before in
-    let ends-in = fill.before.before in
-    let widened2 = ends-in.before in
+    let ends_in = fill.before.before in
+    let widened2 = ends_in.before in
     let widened = widened2.before in
     let entry = widened.before.before.before.before.before.before.before.before.before in
-    with-notes entry.requires.0 widened.widened.ensures.0 widened2.widened2.ensures.0 ends-in.ends-in.ensures entry.requires.1
+    with_notes entry.requires.0 widened.widened.ensures.0 widened2.widened2.ensures.0 ends_in.ends-in.ensures entry.requires.1
     fill.fill.ensures
 
 same_length : tie.Need-same-length
@@ -44,11 +44,11 @@ returns c =
     let settle = c.before.before in
     let then1 = settle.before.before in
     let fill = then1.before.before.before in
-    let ends-in = fill.before.before in
-    let widened2 = ends-in.before in
+    let ends_in = fill.before.before in
+    let widened2 = ends_in.before in
     let widened = widened2.before in
     let entry = widened.before.before.before.before.before.before.before.before.before in
-    with_none entry.requires.0 widened.widened.ensures.0 widened2.widened2.ensures.0 ends-in.ends-in.ensures entry.requires.1
+    with_none entry.requires.0 widened.widened.ensures.0 widened2.widened2.ensures.0 ends_in.ends-in.ensures entry.requires.1
     fill.fill.ensures
     then1.if1.true settle.settle.ensures
 
@@ -56,11 +56,11 @@ follow-requires : tie.Need-follow-requires
 follow-requires c κs =
     let else1 = c.before.before.before in
     let fill = else1.before.before.before in
-    let ends-in = fill.before.before in
-    let widened2 = ends-in.before in
+    let ends_in = fill.before.before in
+    let widened2 = ends_in.before in
     let widened = widened2.before in
     let entry = widened.before.before.before.before.before.before.before.before.before in
-    with-way entry.requires.0 widened.widened.ensures.0 widened2.widened2.ensures.0 ends-in.ends-in.ensures entry.requires.1
+    with_way entry.requires.0 widened.widened.ensures.0 widened2.widened2.ensures.0 ends_in.ends-in.ensures entry.requires.1
     fill.fill.ensures
     else1.if1.false
 
@@ -69,25 +69,25 @@ put-masks-requires c κs =
     let follow = c.before.before.before.before.before.before in
     let else1 = follow.before.before.before.before in
     let fill = else1.before.before.before in
-    let ends-in = fill.before.before in
-    let widened2 = ends-in.before in
+    let ends_in = fill.before.before in
+    let widened2 = ends_in.before in
     let widened = widened2.before in
     let entry = widened.before.before.before.before.before.before.before.before.before in
-    with-labels entry.requires.0 widened.widened.ensures.0 widened2.widened2.ensures.0 ends-in.ends-in.ensures entry.requires.1
+    with_labels entry.requires.0 widened.widened.ensures.0 widened2.widened2.ensures.0 ends_in.ends-in.ensures entry.requires.1
     fill.fill.ensures
     else1.if1.false follow.follow.ensures
 
 settle-requires-2 : tie.Need-settle-requires-2
 settle-requires-2 c κs =
-    let put-masks = c.before.before.before in
-    let follow = put-masks.before.before.before.before.before.before.before in
+    let put_masks = c.before.before.before in
+    let follow = put_masks.before.before.before.before.before.before.before in
     let else1 = follow.before.before.before.before in
     let fill = else1.before.before.before in
-    let ends-in = fill.before.before in
-    let widened2 = ends-in.before in
+    let ends_in = fill.before.before in
+    let widened2 = ends_in.before in
     let widened = widened2.before in
     let entry = widened.before.before.before.before.before.before.before.before.before in
-    with-notes entry.requires.0 widened.widened.ensures.0 widened2.widened2.ensures.0 ends-in.ends-in.ensures entry.requires.1
+    with_notes entry.requires.0 widened.widened.ensures.0 widened2.widened2.ensures.0 ends_in.ends-in.ensures entry.requires.1
     fill.fill.ensures
 
 same-length-2 : tie.Need-same-length-2
@@ -105,20 +105,20 @@ same-length-5 c = search rules
 returns-2 : tie.Need-returns-2
 returns-2 c =
     let settle2 = c.before.before in
-    let put-masks = settle2.before.before.before.before in
-    let follow = put-masks.before.before.before.before.before.before.before in
+    let put_masks = settle2.before.before.before.before in
+    let follow = put_masks.before.before.before.before.before.before.before in
     let else1 = follow.before.before.before.before in
     let fill = else1.before.before.before in
-    let ends-in = fill.before.before in
-    let widened2 = ends-in.before in
+    let ends_in = fill.before.before in
+    let widened2 = ends_in.before in
     let widened = widened2.before in
     let entry = widened.before.before.before.before.before.before.before.before.before in
-    with-path entry.requires.0 widened.widened.ensures.0 widened2.widened2.ensures.0 ends-in.ends-in.ensures entry.requires.1
+    with_path entry.requires.0 widened.widened.ensures.0 widened2.widened2.ensures.0 ends_in.ends-in.ensures entry.requires.1
     fill.fill.ensures
-    else1.if1.false follow.follow.ensures put-masks.put-masks.ensures settle2.settle2.ensures
+    else1.if1.false follow.follow.ensures put_masks.put-masks.ensures settle2.settle2.ensures
 
-pub decode-with-spec : {M : Type 1} → statement M
-decode-with-spec =
+pub decode_with_spec : {M : Type 1} → statement M
+decode_with_spec =
     tie.close
     (tie.spec
     widened-requires

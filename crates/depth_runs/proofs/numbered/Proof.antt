@@ -14,5 +14,5 @@ returns c = simp (eq-eqb _ _ c.if1.true)
 returns-2 : tie.Need-returns-2
 returns-2 c = simp (ne_eqb _ _ c.if1.false) (omega arith)
 
-pub numbered-spec : {M : Type 1} → statement M
-numbered-spec = tie.close (tie.spec add-result returns returns-2)
+pub numbered_spec : {M : Type 1} → statement M
+numbered_spec = tie.close (tie.spec add-result returns returns-2)

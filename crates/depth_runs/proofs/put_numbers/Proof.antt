@@ -4,19 +4,19 @@ use Prim.Native.Nat.{◌-◌}
 use lib.ListN.{length-set}
 use borrow.Author.Rules.{rules}
 use native.Mathlib.Omega.{arith}
-use Rattle.depth_runs.proofs.Numbers.{InNumbers, numbers-none, numbers-own, numbers-few, numbers_more, numbers-end}
-use Rattle.depth_runs.specs.inner.Rows.{firstWordIn}
+use Rattle.depth_runs.proofs.Numbers.{InNumbers, numbers_none, numbers_own, numbers_few, numbers_more, numbers_end}
+use Rattle.depth_runs.specs.Inner.Rows.{first_word_in}
 use Rattle.depth_runs.proofs.put_numbers.Statement.{statement}
 use Rattle.depth_runs.proofs.put_numbers.Tie as tie
 
 abbrev invariant-loop : tie.invariant-loop
-invariant-loop starts firsts w map₀ place i₀ count₀ map i count = InNumbers place w (firstWordIn starts firsts) map₀ map i count
+invariant-loop starts firsts w map₀ place i₀ count₀ map i count = InNumbers place w (first_word_in starts firsts) map₀ map i count
 
 abbrev decreases-loop : tie.decreases-loop
 decreases-loop starts firsts w map₀ place i₀ count₀ map i count = w - i
 
 loop-holds : tie.Need-loop-init invariant-loop decreases-loop
-loop-holds c = numbers-none _ _ _ _
+loop-holds c = numbers_none _ _ _ _
 
 first-word-requires : tie.Need-first-word-requires invariant-loop decreases-loop
 first-word-requires c κs = (search rules, c.before.before.before.requires.few, c.before.before.before.requires.backward)
@@ -34,13 +34,13 @@ add-map-2 : tie.Need-overflow-add-map-2 invariant-loop decreases-loop
 add-map-2 c =
     let turn = c.before.before in
     let entry = turn.before.before in
-    omega (arith, turn.loop.invariant.row.len, entry.requires.room, (numbers-own entry.requires c.first_word.ensures (search rules)))
+    omega (arith, turn.loop.invariant.row.len, entry.requires.room, (numbers_own entry.requires c.first_word.ensures (search rules)))
 
 mul-map-2 : tie.Need-overflow-mul-map-2 invariant-loop decreases-loop
 mul-map-2 c =
     let turn = c.before.before in
     let entry = turn.before.before in
-    omega (arith, turn.loop.invariant.row.len, entry.requires.room, (numbers-own entry.requires c.first_word.ensures (search rules)))
+    omega (arith, turn.loop.invariant.row.len, entry.requires.room, (numbers_own entry.requires c.first_word.ensures (search rules)))
 
 slice-read-map : tie.Need-slice-read-map invariant-loop decreases-loop
 slice-read-map c =
@@ -48,7 +48,7 @@ slice-read-map c =
     let turn = at_first.before.before in
     let entry = turn.before.before in
     simp length-set (omega
-    (arith, turn.loop.invariant.row.len, entry.requires.room, (numbers-own entry.requires at_first.first_word.ensures (search rules))))
+    (arith, turn.loop.invariant.row.len, entry.requires.room, (numbers_own entry.requires at_first.first_word.ensures (search rules))))
 
 add-map-3 : tie.Need-overflow-add-map-3 invariant-loop decreases-loop
 add-map-3 c = omega (arith, c.before.before.before.loop.invariant.row.len, c.before.before.before.before.before.requires.room)
@@ -62,7 +62,7 @@ slice-write-map-2 c =
 
 numbered-requires : tie.Need-numbered-requires invariant-loop decreases-loop
 numbered-requires c κs =
-    omega (arith, numbers-few c.before.before.before.loop.invariant, c.before.before.before.before.before.requires.few)
+    omega (arith, numbers_few c.before.before.before.loop.invariant, c.before.before.before.before.before.requires.few)
 
 add-i : tie.Need-overflow-add-i invariant-loop decreases-loop
 add-i c = search rules
@@ -75,17 +75,17 @@ loop-again c =
     let at_first = c.before.before in
     let turn = at_first.before.before in
     let entry = turn.before.before in
-    numbers_more turn.loop.invariant at_first.first_word.ensures (numbers-own entry.requires at_first.first_word.ensures (search rules))
+    numbers_more turn.loop.invariant at_first.first_word.ensures (numbers_own entry.requires at_first.first_word.ensures (search rules))
     (entry.requires.twice _ (search rules)) entry.requires.room c.numbered.ensures (search rules)
 
 same_length : tie.Need-same-length invariant-loop decreases-loop
 same_length c = c.before.loop.invariant.row.len
 
 returns : tie.Need-returns invariant-loop decreases-loop
-returns c = numbers-end c.before.loop.invariant (search rules)
+returns c = numbers_end c.before.loop.invariant (search rules)
 
-pub put-numbers-spec : {M : Type 1} → statement M
-put-numbers-spec =
+pub put_numbers_spec : {M : Type 1} → statement M
+put_numbers_spec =
     tie.close
     (tie.spec
     invariant-loop

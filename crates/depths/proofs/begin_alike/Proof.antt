@@ -1,6 +1,6 @@
 -- `depths::begin_alike` meets its contract: roots alike and fronts alike, by what `label::front` ensures.
 use borrow.Author.Tests.{eq-eqb, ne_eqb}
-use Rattle.depth_runs.specs.inner.Rows.{beginAlike}
+use Rattle.depth_runs.specs.Inner.Rows.{begin_alike}
 use borrow.Author.Rules.{rules}
 use Rattle.depths.proofs.begin_alike.Statement.{statement}
 use Rattle.depths.proofs.begin_alike.Tie as tie
@@ -30,15 +30,15 @@ front-requires-2 : tie.Need-front-requires-2
 front-requires-2 c κs = search rules
 
 returns : tie.Need-returns
-unfolding beginAlike
+unfolding begin_alike
 returns c = simp (eq-eqb _ _ c.before.before.before.before.if1.true, c.before.before.front.ensures, c.front2.ensures)
 
 returns-2 : tie.Need-returns-2
-unfolding beginAlike
+unfolding begin_alike
 returns-2 c = simp (ne_eqb _ _ c.if1.false)
 
-pub begin-alike-spec : {M : Type 1} → statement M
-begin-alike-spec =
+pub begin_alike_spec : {M : Type 1} → statement M
+begin_alike_spec =
     tie.close
     (tie.spec
     shared-slice-read-if1

@@ -4,7 +4,7 @@ use Prim.Native.Nat.{◌-◌}
 use lib.ListN.{length}
 use borrow.Author.Rules.{rules}
 use native.Mathlib.Omega.{arith}
-use Rattle.depths.proofs.Firsts.{InFirsts, firsts-none, firsts-small, firsts-key, firsts-lt, firsts_more, firsts-end}
+use Rattle.depths.proofs.Firsts.{InFirsts, firsts_none, firsts_small, firsts_key, firsts_lt, firsts_more, firsts_end}
 use Rattle.depths.proofs.put_firsts.Statement.{statement}
 use Rattle.depths.proofs.put_firsts.Tie as tie
 
@@ -15,7 +15,7 @@ abbrev decreases-loop : tie.decreases-loop
 decreases-loop labels n t row₀ seen₀ i₀ row seen i = length labels - i
 
 loop-holds : tie.Need-loop-init invariant-loop decreases-loop
-loop-holds c = firsts-none _ _ _ _ (search rules) c.before.requires.1
+loop-holds c = firsts_none _ _ _ _ (search rules) c.before.requires.1
 
 mul_wide : tie.Need-overflow-mul-wide invariant-loop decreases-loop
 mul_wide c = search rules
@@ -27,7 +27,7 @@ wide-requires : tie.Need-wide-requires invariant-loop decreases-loop
 wide-requires c κs = search rules
 
 mul-key : tie.Need-overflow-mul-key invariant-loop decreases-loop
-mul-key c = omega (arith, firsts-small c.before.before.before.loop.invariant c.wide.ensures.0 (search rules))
+mul-key c = omega (arith, firsts_small c.before.before.before.loop.invariant c.wide.ensures.0 (search rules))
 
 mul-symbol : tie.Need-overflow-mul-symbol invariant-loop decreases-loop
 mul-symbol c = search rules
@@ -48,7 +48,7 @@ add-key c =
     let turn = at_wide.before.before.before in
     omega (
       arith,
-      firsts-lt turn.loop.invariant at_wide.wide.ensures.0 at_symbol.symbol.ensures c.wide2.ensures.0
+      firsts_lt turn.loop.invariant at_wide.wide.ensures.0 at_symbol.symbol.ensures c.wide2.ensures.0
           (search rules),
     )
 
@@ -59,7 +59,7 @@ mul-noted c =
     let turn = at_wide.before.before.before in
     omega (
       arith,
-      firsts-lt turn.loop.invariant at_wide.wide.ensures.0 at_symbol.symbol.ensures c.wide2.ensures.0
+      firsts_lt turn.loop.invariant at_wide.wide.ensures.0 at_symbol.symbol.ensures c.wide2.ensures.0
           (search rules),
     )
 
@@ -70,7 +70,7 @@ array-read-noted c =
     let turn = at_wide.before.before.before in
     omega (
       arith,
-      firsts-lt turn.loop.invariant at_wide.wide.ensures.0 at_symbol.symbol.ensures c.wide2.ensures.0
+      firsts_lt turn.loop.invariant at_wide.wide.ensures.0 at_symbol.symbol.ensures c.wide2.ensures.0
           (search rules),
     )
 
@@ -82,25 +82,25 @@ noted-requires c κs = search rules
 
 mul-seen : tie.Need-overflow-mul-seen invariant-loop decreases-loop
 mul-seen c =
-    let at-wide2 = c.before in
-    let at_symbol = at-wide2.before in
+    let at_wide2 = c.before in
+    let at_symbol = at_wide2.before in
     let at_wide = at_symbol.before.before in
     let turn = at_wide.before.before.before in
     omega (
       arith,
-      firsts-lt turn.loop.invariant at_wide.wide.ensures.0 at_symbol.symbol.ensures at-wide2.wide2.ensures.0
+      firsts_lt turn.loop.invariant at_wide.wide.ensures.0 at_symbol.symbol.ensures at_wide2.wide2.ensures.0
           (search rules),
     )
 
 array-write-seen : tie.Need-array-write-seen invariant-loop decreases-loop
 array-write-seen c =
-    let at-wide2 = c.before in
-    let at_symbol = at-wide2.before in
+    let at_wide2 = c.before in
+    let at_symbol = at_wide2.before in
     let at_wide = at_symbol.before.before in
     let turn = at_wide.before.before.before in
     omega (
       arith,
-      firsts-lt turn.loop.invariant at_wide.wide.ensures.0 at_symbol.symbol.ensures at-wide2.wide2.ensures.0
+      firsts_lt turn.loop.invariant at_wide.wide.ensures.0 at_symbol.symbol.ensures at_wide2.wide2.ensures.0
           (search rules),
     )
 
@@ -118,19 +118,19 @@ loop-less c = search rules
 
 loop-again : tie.Need-loop-preserved invariant-loop decreases-loop
 loop-again c =
-    let at-wide2 = c.before in
-    let at_symbol = at-wide2.before in
+    let at_wide2 = c.before in
+    let at_symbol = at_wide2.before in
     let at_wide = at_symbol.before.before in
     let turn = at_wide.before.before.before in
     firsts_more turn.loop.invariant
-    (firsts-key turn.loop.invariant at_wide.wide.ensures.0 at_symbol.symbol.ensures at-wide2.wide2.ensures.0)
+    (firsts_key turn.loop.invariant at_wide.wide.ensures.0 at_symbol.symbol.ensures at_wide2.wide2.ensures.0)
     c.noted.ensures (search rules)
 
 returns : tie.Need-returns invariant-loop decreases-loop
-returns c = firsts-end c.before.loop.invariant (search rules)
+returns c = firsts_end c.before.loop.invariant (search rules)
 
-pub put-firsts-spec : {M : Type 1} → statement M
-put-firsts-spec =
+pub put_firsts_spec : {M : Type 1} → statement M
+put_firsts_spec =
     tie.close
     (tie.spec
     invariant-loop

@@ -2,7 +2,7 @@
 use Prim.Native.Nat.{◌-◌}
 use lib.ListN.{length}
 use borrow.Author.Rules.{rules}
-use Rattle.depths.proofs.Goals.{InBytes, bytes-none, bytes-more, bytes-end}
+use Rattle.depths.proofs.Goals.{InBytes, bytes_none, bytes_more, bytes_end}
 use Rattle.depths.proofs.put_goals.Statement.{statement}
 use Rattle.depths.proofs.put_goals.Tie as tie
 
@@ -13,7 +13,7 @@ abbrev decreases-loop : tie.decreases-loop
 decreases-loop goals row₀ i₀ row i = length goals - i
 
 loop-holds : tie.Need-loop-init invariant-loop decreases-loop
-loop-holds c = bytes-none _ _ (search rules)
+loop-holds c = bytes_none _ _ (search rules)
 
 shared-slice-read-widen : tie.Need-shared-slice-read-widen invariant-loop decreases-loop
 shared-slice-read-widen c = search rules
@@ -34,13 +34,13 @@ loop-less : tie.Need-loop-smaller invariant-loop decreases-loop
 loop-less c = search rules
 
 loop-again : tie.Need-loop-preserved invariant-loop decreases-loop
-loop-again c = bytes-more c.before.before.before.loop.invariant c.widen.ensures (search rules) (search rules)
+loop-again c = bytes_more c.before.before.before.loop.invariant c.widen.ensures (search rules) (search rules)
 
 returns : tie.Need-returns invariant-loop decreases-loop
-returns c = bytes-end c.before.loop.invariant (search rules)
+returns c = bytes_end c.before.loop.invariant (search rules)
 
-pub put-goals-spec : {M : Type 1} → statement M
-put-goals-spec =
+pub put_goals_spec : {M : Type 1} → statement M
+put_goals_spec =
     tie.close
     (tie.spec
     invariant-loop

@@ -2,7 +2,7 @@
 use Prim.Native.Nat.{◌-◌}
 use lib.ListN.{length}
 use borrow.Author.Rules.{rules}
-use Rattle.depths.proofs.Starts.{InStarts, starts_none, starts_more, starts-end}
+use Rattle.depths.proofs.Starts.{InStarts, starts_none, starts_more, starts_end}
 use Rattle.depths.proofs.put_starts.Statement.{statement}
 use Rattle.depths.proofs.put_starts.Tie as tie
 
@@ -34,10 +34,10 @@ loop-again : tie.Need-loop-preserved invariant-loop decreases-loop
 loop-again c = starts_more c.before.before.loop.invariant c.run-start.ensures (search rules) (search rules)
 
 returns : tie.Need-returns invariant-loop decreases-loop
-returns c = starts-end c.before.loop.invariant (search rules)
+returns c = starts_end c.before.loop.invariant (search rules)
 
-pub put-starts-spec : {M : Type 1} → statement M
-put-starts-spec =
+pub put_starts_spec : {M : Type 1} → statement M
+put_starts_spec =
     tie.close
     (tie.spec
     invariant-loop

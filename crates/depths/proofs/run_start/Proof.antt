@@ -1,7 +1,7 @@
 -- `depths::run_start` meets its contract, by its three ways out.
 use borrow.Author.Tests.{eq-eqb, ne_eqb}
 use mathlib.Core.Path.{sym}
-use Rattle.depth_runs.specs.inner.Rows.{joins, start_by}
+use Rattle.depth_runs.specs.Inner.Rows.{joins, start_by}
 use borrow.Author.Rules.{rules}
 use Rattle.depths.proofs.run_start.Statement.{statement}
 use Rattle.depths.proofs.run_start.Tie as tie
@@ -27,7 +27,7 @@ returns-3 : tie.Need-returns-3
 unfolding start_by joins
 returns-3 c = simp (ne_eqb _ _ c.before.before.if1.false, sym c.before.begin-alike.ensures, c.if2.false)
 
-pub run-start-spec : {M : Type 1} → statement M
-run-start-spec =
+pub run_start_spec : {M : Type 1} → statement M
+run_start_spec =
     tie.close
     (tie.spec returns sub-begin-alike begin-alike-requires cast-result returns-2 returns-3)

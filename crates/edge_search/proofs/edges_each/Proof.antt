@@ -22,6 +22,6 @@ div-result c = search rules
 returns : tie.Need-returns
 returns c = le_trans (div-le_self _ _) c.before.before.before.requires.3
 
-pub edges-each-spec : {M : Type 1} → statement M
-edges-each-spec =
+pub edges_each_spec : {M : Type 1} → statement M
+edges_each_spec =
     tie.close (tie.spec add_wide mul_wide shared-slice-read-wide wide-requires div-result returns)

@@ -1,6 +1,6 @@
 -- `edge_search::is_first` meets its contract: each way out is the test of the definition that the ones before it leave. The first edge of
 -- all has none before it.
-use Rattle.edge_search.proofs.FirstEdges.{first_past, first_under, first-front, first-behind}
+use Rattle.edge_search.proofs.FirstEdges.{first_past, first_under, first_front, first_behind}
 use borrow.Author.Rules.{rules}
 use Rattle.edge_search.proofs.is_first.Statement.{statement}
 use Rattle.edge_search.proofs.is_first.Tie as tie
@@ -26,7 +26,7 @@ returns-2 c = let w = c.before in
 
 returns-3 : tie.Need-returns-3
 returns-3 c = let e = c.before in let w = e.before in
-    first-front _ _ _ _ w.before.before.if1.false w.wide.ensures.0 e.if2.false c.if3.true
+    first_front _ _ _ _ w.before.before.if1.false w.wide.ensures.0 e.if2.false c.if3.true
 
 sub_wide : tie.Need-overflow-sub-wide
 sub_wide c = search rules
@@ -45,10 +45,10 @@ wide-requires-2 c κs = search rules
 
 returns-4 : tie.Need-returns-4
 returns-4 c = let b = c.before.before in let e = b.before in let w = e.before in
-    first-behind _ _ _ _ w.before.before.if1.false w.wide.ensures.0 e.if2.false b.if3.false c.wide2.ensures.0
+    first_behind _ _ _ _ w.before.before.if1.false w.wide.ensures.0 e.if2.false b.if3.false c.wide2.ensures.0
 
-pub is-first-spec : {M : Type 1} → statement M
-is-first-spec =
+pub is_first_spec : {M : Type 1} → statement M
+is_first_spec =
     tie.close
     (tie.spec
     returns

@@ -3,7 +3,7 @@
 use native.Mathlib.Omega.{arith}
 use Prim.Native.Nat.{◌-◌, ◌*◌}
 use lib.ListN.{get_or}
-use Rattle.edge_search.proofs.FirstEdges.{Halving, halving-start, halving-up, halving-down, halving-done}
+use Rattle.edge_search.proofs.FirstEdges.{Halving, halving_start, halving_up, halving_down, halving_done}
 use borrow.Author.Rules.{rules}
 use Rattle.edge_search.proofs.search_edge.Statement.{statement}
 use Rattle.edge_search.proofs.search_edge.Tie as tie
@@ -15,7 +15,7 @@ abbrev decreases-loop : tie.decreases-loop
 decreases-loop pairs count vertex low₀ high₀ low high = high - low
 
 loop-holds : tie.Need-loop-init invariant-loop decreases-loop
-loop-holds c = halving-start _ _ _
+loop-holds c = halving_start _ _ _
 
 add-middle : tie.Need-overflow-add-middle invariant-loop decreases-loop
 add-middle c = search rules
@@ -40,7 +40,7 @@ loop-less c = search rules
 
 loop-again : tie.Need-loop-preserved invariant-loop decreases-loop
 loop-again c = let w = c.before in let h = w.before.before in
-    halving-up h.before.loop.invariant h.loop-test.true h.before.before.before.requires.rise
+    halving_up h.before.loop.invariant h.loop-test.true h.before.before.before.requires.rise
     (omega (arith, w.wide.ensures.0, c.if1.true))
 
 loop-less-2 : tie.Need-loop-smaller-2 invariant-loop decreases-loop
@@ -48,14 +48,14 @@ loop-less-2 c = search rules
 
 loop-again-2 : tie.Need-loop-preserved-2 invariant-loop decreases-loop
 loop-again-2 c = let w = c.before in let h = w.before.before in
-    halving-down h.before.loop.invariant h.loop-test.true h.before.before.before.requires.rise
+    halving_down h.before.loop.invariant h.loop-test.true h.before.before.before.requires.rise
     (omega (arith, w.wide.ensures.0, c.if1.false))
 
 returns : tie.Need-returns invariant-loop decreases-loop
-returns c = halving-done c.before.loop.invariant c.loop-test.false
+returns c = halving_done c.before.loop.invariant c.loop-test.false
 
-pub search-edge-spec : {M : Type 1} → statement M
-search-edge-spec =
+pub search_edge_spec : {M : Type 1} → statement M
+search_edge_spec =
     tie.close
     (tie.spec
     invariant-loop

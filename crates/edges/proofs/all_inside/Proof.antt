@@ -1,14 +1,14 @@
 -- `edges::all_inside` meets its contract. The loop's invariant: all edges passed are within bounds.
 -- The measure is what is left of them.
 use Prim.Native.Nat.{◌-◌}
-use Rattle.edges.specs.inner.Edges.{inside, edgeIn}
-use Rattle.edges.proofs.Tests.{Passed, passed_start, passed-next, passed-fails, passed-all}
+use Rattle.edges.specs.Inner.Edges.{inside, edge_in}
+use Rattle.edges.proofs.Tests.{Passed, passed_start, passed_next, passed_fails, passed_all}
 use borrow.Author.Rules.{rules}
 use Rattle.edges.proofs.all_inside.Statement.{statement}
 use Rattle.edges.proofs.all_inside.Tie as tie
 
 abbrev invariant-loop : tie.invariant-loop
-invariant-loop pairs symbols count q froms tos k₀ k = Passed (inside (edgeIn pairs symbols) q froms tos) count k
+invariant-loop pairs symbols count q froms tos k₀ k = Passed (inside (edge_in pairs symbols) q froms tos) count k
 
 abbrev decreases-loop : tie.decreases-loop
 decreases-loop pairs symbols count q froms tos k₀ k = count - k
@@ -20,7 +20,7 @@ is-inside-requires : tie.Need-is-inside-requires invariant-loop decreases-loop
 is-inside-requires c κs = search rules
 
 returns : tie.Need-returns invariant-loop decreases-loop
-returns c = passed-fails c.before.before.before.loop.invariant (search rules) c.before.is-inside.ensures c.if1.true
+returns c = passed_fails c.before.before.before.loop.invariant (search rules) c.before.is-inside.ensures c.if1.true
 
 add-k : tie.Need-overflow-add-k invariant-loop decreases-loop
 add-k c = search rules
@@ -29,13 +29,13 @@ loop-less : tie.Need-loop-smaller invariant-loop decreases-loop
 loop-less c = search rules
 
 loop-again : tie.Need-loop-preserved invariant-loop decreases-loop
-loop-again c = passed-next c.before.before.before.loop.invariant (search rules) c.before.is-inside.ensures c.if1.false
+loop-again c = passed_next c.before.before.before.loop.invariant (search rules) c.before.is-inside.ensures c.if1.false
 
 returns-2 : tie.Need-returns-2 invariant-loop decreases-loop
-returns-2 c = passed-all c.before.loop.invariant (search rules)
+returns-2 c = passed_all c.before.loop.invariant (search rules)
 
-pub all-inside-spec : {M : Type 1} → statement M
-all-inside-spec =
+pub all_inside_spec : {M : Type 1} → statement M
+all_inside_spec =
     tie.close
     (tie.spec
     invariant-loop

@@ -1,5 +1,5 @@
 -- `edges::edge_at` meets its contract: it reads the three places that the definition names.
-use Rattle.edges.proofs.Reading.{edge-held}
+use Rattle.edges.proofs.Reading.{edge_held}
 use borrow.Author.Rules.{rules}
 use Rattle.edges.proofs.edge_at.Statement.{statement}
 use Rattle.edges.proofs.edge_at.Tie as tie
@@ -41,10 +41,10 @@ wide-requires-3 : tie.Need-wide-requires-3
 wide-requires-3 c κs = search rules
 
 returns : tie.Need-returns
-returns c = search (rules, edge-held)
+returns c = search (rules, edge_held)
 
-pub edge-at-spec : {M : Type 1} → statement M
-edge-at-spec =
+pub edge_at_spec : {M : Type 1} → statement M
+edge_at_spec =
     tie.close
     (tie.spec
     mul_wide

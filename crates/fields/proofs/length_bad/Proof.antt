@@ -22,6 +22,6 @@ add-result c = search rules
 returns-2 : tie.Need-returns-2
 returns-2 c = long _ c.before.if1.false c.word_count.ensures
 
-pub length-bad-spec : {M : Type 1} → statement M
-length-bad-spec =
+pub length_bad_spec : {M : Type 1} → statement M
+length_bad_spec =
     tie.close (tie.spec returns word-count-requires cast-result mul-result add-result returns-2)

@@ -1,5 +1,5 @@
 -- `file_words::goal_at` meets its contract: it reads the place that the definition names.
-use Rattle.fields.specs.Fields.{fileWord}
+use Rattle.fields.specs.Fields.{file_word}
 use borrow.Author.Rules.{rules}
 use Rattle.file_words.proofs.goal_at.Statement.{statement}
 use Rattle.file_words.proofs.goal_at.Tie as tie
@@ -17,8 +17,8 @@ byte-at-requires : tie.Need-byte-at-requires
 byte-at-requires c κs = search rules
 
 returns : tie.Need-returns
-unfolding fileWord
+unfolding file_word
 returns c = c.byte_at.ensures
 
-pub goal-at-spec : {M : Type 1} → statement M
-goal-at-spec = tie.close (tie.spec mul-byte-at add-byte-at add-byte-at-2 byte-at-requires returns)
+pub goal_at_spec : {M : Type 1} → statement M
+goal_at_spec = tie.close (tie.spec mul-byte-at add-byte-at add-byte-at-2 byte-at-requires returns)

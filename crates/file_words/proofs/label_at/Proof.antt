@@ -40,8 +40,8 @@ returns c =
     label_is _ _ c.before.before.before.word_count.ensures c.before.before.byte_at.ensures c.before.byte-at2.ensures
     c.two_bytes.ensures
 
-pub label-at-spec : {M : Type 1} → statement M
-label-at-spec =
+pub label_at_spec : {M : Type 1} → statement M
+label_at_spec =
     tie.close
     (tie.spec
     word-count-requires

@@ -4,19 +4,19 @@ use mathlib.Core.Path.{ap}
 use native.Mathlib.Omega.{arith}
 use Prim.Native.Nat.{◌+◌, ◌-◌, ◌*◌, ◌<◌}
 use lib.ListN.{get_or}
-use Rattle.trellis.specs.Bounds.{mostQ, mostWords}
-use Rattle.edges.specs.inner.Edges.{edgeIn}
+use Rattle.trellis.specs.Bounds.{most_q, most_words}
+use Rattle.edges.specs.Inner.Edges.{edge_in}
 use Rattle.edges.specs.declared.Edge.{Edge}
-use Rattle.partners.specs.inner.Following.{slot}
-use Rattle.partners.proofs.Tests.{Agreeing, agree-start, agree-not, agree-next, agree-all}
+use Rattle.partners.specs.Inner.Following.{slot}
+use Rattle.partners.proofs.Tests.{Agreeing, agree_start, agree_not, agree_next, agree_all}
 use borrow.Author.Rules.{rules}
 use Rattle.following.proofs.all_close.Statement.{statement}
 use Rattle.following.proofs.all_close.Tie as tie
 
 abbrev invariant-loop : tie.invariant-loop
 invariant-loop pairs symbols count starts matched k₀ k =
-    Agreeing (λ k. get_or starts (slot (edgeIn pairs symbols k).to (edgeIn pairs symbols k).symbol) 0)
-    (λ k. get_or matched (edgeIn pairs symbols k).from 0) count k
+    Agreeing (λ k. get_or starts (slot (edge_in pairs symbols k).to (edge_in pairs symbols k).symbol) 0)
+    (λ k. get_or matched (edge_in pairs symbols k).from 0) count k
 
 abbrev decreases-loop : tie.decreases-loop
 decreases-loop pairs symbols count starts matched k₀ k = count - k
@@ -25,50 +25,50 @@ abbrev start : tie.In-loop invariant-loop decreases-loop → tie.Start invariant
 start h = h.before.before.before.before
 
 -- the edge that was read is in bounds
-slot-low : (m : tie.After-edge-at invariant-loop decreases-loop) → mostQ * m.edge_at.result.to + m.edge_at.result.symbol < mostQ * mostWords
-slot-low m =
+slot_low : (m : tie.After-edge-at invariant-loop decreases-loop) → most_q * m.edge_at.result.to + m.edge_at.result.symbol < most_q * most_words
+slot_low m =
     let h = m.before in let p = (start h).requires.0 in
     omega (
       arith,
-      p.toSmall _ h.loop-test.true,
-      p.symbolSmall _ h.loop-test.true,
+      p.to_small _ h.loop-test.true,
+      p.symbol_small _ h.loop-test.true,
       ap (λ (e : Edge). e.to) m.edge_at.ensures,
       ap (λ (e : Edge). e.symbol) m.edge_at.ensures,
     )
 
-from_low : (m : tie.After-edge-at invariant-loop decreases-loop) → m.edge_at.result.from < mostWords
-from_low m =
+from_low_lem : (m : tie.After-edge-at invariant-loop decreases-loop) → m.edge_at.result.from < most_words
+from_low_lem m =
     let h = m.before in
-    omega (arith, (start h).requires.0.fromSmall _ h.loop-test.true, ap (λ (e : Edge). e.from) m.edge_at.ensures)
+    omega (arith, (start h).requires.0.from_small _ h.loop-test.true, ap (λ (e : Edge). e.from) m.edge_at.ensures)
 
 loop-holds : tie.Need-loop-init invariant-loop decreases-loop
-loop-holds c = agree-start
+loop-holds c = agree_start
 
 edge-at-requires : tie.Need-edge-at-requires invariant-loop decreases-loop
 edge-at-requires c κs = search rules
 
 mul-slot : tie.Need-overflow-mul-slot invariant-loop decreases-loop
-mul-slot c = record { fits = omega (arith, slot-low c.before) }
+mul-slot c = record { fits = omega (arith, slot_low c.before) }
 
 add-slot : tie.Need-overflow-add-slot invariant-loop decreases-loop
-add-slot c = record { fits = omega (arith, slot-low c.before.before) }
+add-slot c = record { fits = omega (arith, slot_low c.before.before) }
 
 mul-if1 : tie.Need-overflow-mul-if1 invariant-loop decreases-loop
-mul-if1 c = record { fits = omega (arith, slot-low c.before.before) }
+mul-if1 c = record { fits = omega (arith, slot_low c.before.before) }
 
 element-copy-out-if1 : tie.Need-element-copy-out-if1 invariant-loop decreases-loop
-element-copy-out-if1 c = slot-low c.before.before
+element-copy-out-if1 c = slot_low c.before.before
 
 mul-if1-2 : tie.Need-overflow-mul-if1-2 invariant-loop decreases-loop
-mul-if1-2 c = record { fits = omega (arith, from_low c.before.before.before) }
+mul-if1-2 c = record { fits = omega (arith, from_low_lem c.before.before.before) }
 
 element-copy-out-if1-2 : tie.Need-element-copy-out-if1-2 invariant-loop decreases-loop
-element-copy-out-if1-2 c = from_low c.before.before.before
+element-copy-out-if1-2 c = from_low_lem c.before.before.before
 
 returns : tie.Need-returns invariant-loop decreases-loop
 returns c =
     let m = c.before.before.before.before.before in let h = m.before in let a = (start h).args in
-    agree-not h.before.loop.invariant h.loop-test.true
+    agree_not h.before.loop.invariant h.loop-test.true
     (ap (λ (e : Edge). get_or a.starts.now (slot e.to e.symbol) 0) m.edge_at.ensures)
     (ap (λ (e : Edge). get_or a.matched.now e.from 0) m.edge_at.ensures) c.if1.true
 
@@ -81,15 +81,15 @@ loop-less c = search rules
 loop-again : tie.Need-loop-preserved invariant-loop decreases-loop
 loop-again c =
     let m = c.before.before.before.before.before in let h = m.before in let a = (start h).args in
-    agree-next h.before.loop.invariant h.loop-test.true
+    agree_next h.before.loop.invariant h.loop-test.true
     (ap (λ (e : Edge). get_or a.starts.now (slot e.to e.symbol) 0) m.edge_at.ensures)
     (ap (λ (e : Edge). get_or a.matched.now e.from 0) m.edge_at.ensures) c.if1.false
 
 returns-2 : tie.Need-returns-2 invariant-loop decreases-loop
-returns-2 c = agree-all c.before.loop.invariant (search rules)
+returns-2 c = agree_all c.before.loop.invariant (search rules)
 
-pub all-close-spec : {M : Type 1} → statement M
-all-close-spec =
+pub all_close_spec : {M : Type 1} → statement M
+all_close_spec =
     tie.close
     (tie.spec
     invariant-loop

@@ -3,10 +3,10 @@
 use Prim.Native.Nat.{◌-◌}
 use borrow.Author.Rules.{rules, Fits-under}
 use borrow.Author.Tests.{not-true, not-false}
-use Rattle.whole_section.proofs.Places.{counts-near, count-near, twice-near, pairs-near, symbols-near, next-near, next-less}
-use Rattle.following.proofs.Depths.{Depth, roots-order, roots_few, depth-start, step-here, step-there, single, single-back, partners}
-use Rattle.following.proofs.Depths.{depth-stuck, depth-next, depth-last, before_last, last_step, next-inner, at_last, last_inner}
-use Rattle.following.proofs.Depths.{last-count}
+use Rattle.whole_section.proofs.Places.{counts_near, count_near, twice_near, pairs_near, symbols_near, next_near, next_less}
+use Rattle.following.proofs.Depths.{Depth, roots_order, roots_few, depth_start, step_here, step_there, single, single_back, partners}
+use Rattle.following.proofs.Depths.{depth_stuck, depth_next, depth_last, before_last, last_step, next_inner, at_last, last_inner}
+use Rattle.following.proofs.Depths.{last_count}
 use Rattle.following.proofs.follow.Statement.{statement}
 use Rattle.following.proofs.follow.Tie as tie
 
@@ -29,19 +29,19 @@ sub-last : tie.Need-overflow-sub-last invariant-loop decreases-loop
 sub-last c = search rules
 
 sub-own-partners : tie.Need-overflow-sub-own-partners invariant-loop decreases-loop
-sub-own-partners c = roots-order c.before.before.before.requires.0
+sub-own-partners c = roots_order c.before.before.before.requires.0
 
 own-partners-requires : tie.Need-own-partners-requires invariant-loop decreases-loop
 own-partners-requires c κs = roots_few c.before.before.before.requires.0
 
 loop-holds : tie.Need-loop-init invariant-loop decreases-loop
-loop-holds c = depth-start c.before.before.before.before.requires.0 c.own-partners.ensures
+loop-holds c = depth_start c.before.before.before.before.requires.0 c.own-partners.ensures
 
 add-number : tie.Need-overflow-add-number invariant-loop decreases-loop
-add-number c = Fits-under _ _ 13 (counts-near (start c).requires.0.here) tt
+add-number c = Fits-under _ _ 13 (counts_near (start c).requires.0.here) tt
 
 add-number-2 : tie.Need-overflow-add-number-2 invariant-loop decreases-loop
-add-number-2 c = Fits-under _ _ 21 (count-near (start c).requires.0.here (before_last c.loop-test.true)) tt
+add-number-2 c = Fits-under _ _ 21 (count_near (start c).requires.0.here (before_last c.loop-test.true)) tt
 
 number-requires : tie.Need-number-requires invariant-loop decreases-loop
 number-requires c κs = search rules
@@ -53,48 +53,48 @@ match-step-requires : tie.Need-match-step-requires invariant-loop decreases-loop
 match-step-requires c κs =
     let w = c.before in let h = w.before.before in let B = (start h).requires.0 in let i = h.before.loop.invariant in
     let y = w.before.number.ensures in let n = w.wide.ensures in
-    (step-here B i y n, step-there B i y n, single B i y n (next-inner B h.loop-test.true), partners B i y n)
+    (step_here B i y n, step_there B i y n, single B i y n (next_inner B h.loop-test.true), partners B i y n)
 
 returns : tie.Need-returns invariant-loop decreases-loop
 returns c =
     let g = c.before in let w = read g in let h = w.before.before in
-    depth-stuck (start h).pre.0 h.before.loop.inv w.before.number.ensures w.wide.ensures g.match-step.ensures
+    depth_stuck (start h).pre.0 h.before.loop.inv w.before.number.ensures w.wide.ensures g.match-step.ensures
     (not-true _ c.if1.true)
 
 mul-pairs : tie.Need-overflow-mul-pairs invariant-loop decreases-loop
-mul-pairs c = let w = read c.before in Fits-under _ _ 200000 (twice-near _ w.wide.ensures.1) tt
+mul-pairs c = let w = read c.before in Fits-under _ _ 200000 (twice_near _ w.wide.ensures.1) tt
 
 add-pairs : tie.Need-overflow-add-pairs invariant-loop decreases-loop
 add-pairs c =
     let w = read c.before in let h = w.before.before in
-    Fits-under _ _ 200000 (pairs-near (start h).pre.0.here h.before.loop.inv.here (before_last h.loop-test.taken)
+    Fits-under _ _ 200000 (pairs_near (start h).pre.0.here h.before.loop.inv.here (before_last h.loop-test.taken)
     w.before.number.ensures w.wide.ensures) tt
 
 add-symbols : tie.Need-overflow-add-symbols invariant-loop decreases-loop
 add-symbols c =
     let w = read c.before in let h = w.before.before in
-    Fits-under _ _ 200000 (symbols-near (start h).pre.0.here h.before.loop.inv.here (before_last h.loop-test.taken)
+    Fits-under _ _ 200000 (symbols_near (start h).pre.0.here h.before.loop.inv.here (before_last h.loop-test.taken)
     w.before.number.ensures w.wide.ensures) tt
 
 add-t : tie.Need-overflow-add-t invariant-loop decreases-loop
 add-t c =
     let h = (read c.before).before.before in
-    Fits-under _ _ 21 (next-near (start h).pre.0.here (before_last h.loop-test.taken)) tt
+    Fits-under _ _ 21 (next_near (start h).pre.0.here (before_last h.loop-test.taken)) tt
 
 loop-less : tie.Need-loop-smaller invariant-loop decreases-loop
-loop-less c = let h = (read c.before).before.before in next-less _ _ h.loop-test.taken
+loop-less c = let h = (read c.before).before.before in next_less _ _ h.loop-test.taken
 
 loop-again : tie.Need-loop-preserved invariant-loop decreases-loop
 loop-again c =
     let g = c.before in let w = read g in let h = w.before.before in let B = (start h).pre.0 in
-    depth-next B h.before.loop.inv w.before.number.ensures w.wide.ensures g.match-step.ensures
-    (not-false _ c.if1.false) (next-inner B h.loop-test.taken)
+    depth_next B h.before.loop.inv w.before.number.ensures w.wide.ensures g.match-step.ensures
+    (not-false _ c.if1.false) (next_inner B h.loop-test.taken)
 
 add-number-3 : tie.Need-overflow-add-number-3 invariant-loop decreases-loop
-add-number-3 c = Fits-under _ _ 13 (counts-near (ended c).requires.0.here) tt
+add-number-3 c = Fits-under _ _ 13 (counts_near (ended c).requires.0.here) tt
 
 add-number-4 : tie.Need-overflow-add-number-4 invariant-loop decreases-loop
-add-number-4 c = Fits-under _ _ 21 (count-near (ended c).requires.0.here (last_step (ended c).requires.1)) tt
+add-number-4 c = Fits-under _ _ 21 (count_near (ended c).requires.0.here (last_step (ended c).requires.1)) tt
 
 number-requires-2 : tie.Need-number-requires-2 invariant-loop decreases-loop
 number-requires-2 c κs = search rules
@@ -105,18 +105,18 @@ wide-requires-2 c κs = search rules
 match-last-requires : tie.Need-match-last-requires invariant-loop decreases-loop
 match-last-requires c κs =
     let w = c.before in let h = w.before.before in let p = (ended h).requires in let B = p.0 in let i = h.before.loop.invariant in
-    let y = last-count B i h.loop-test.false w.before.number2.ensures in let n = w.wide2.ensures in
-    (step-here B i y n, step-there B i y n, single-back B i y n (last_inner p.1 h.loop-test.false), partners B i y n)
+    let y = last_count B i h.loop-test.false w.before.number2.ensures in let n = w.wide2.ensures in
+    (step_here B i y n, step_there B i y n, single_back B i y n (last_inner p.1 h.loop-test.false), partners B i y n)
 
 returns-2 : tie.Need-returns-2 invariant-loop decreases-loop
 returns-2 c =
     let w = c.before.before in let h = w.before.before in let B = (ended h).requires.0 in let i = h.before.loop.invariant in
-    depth-last B i (last-count B i h.loop-test.false w.before.number2.ensures) w.wide2.ensures
+    depth_last B i (last_count B i h.loop-test.false w.before.number2.ensures) w.wide2.ensures
     (at_last B i h.loop-test.false)
     c.match-last.ensures
 
-pub follow-spec : {M : Type 1} → statement M
-follow-spec =
+pub follow_spec : {M : Type 1} → statement M
+follow_spec =
     tie.close
     (tie.spec
     invariant-loop

@@ -1,7 +1,7 @@
 -- `following::match_last` meets its contract, by the law of the last step.
 use mathlib.Core.Bool.{false}
 use Rattle.twins.proofs.Marking.{small_of}
-use Rattle.following.proofs.Steps.{last-matched}
+use Rattle.following.proofs.Steps.{last_matched}
 use borrow.Author.Rules.{rules}
 use Rattle.following.proofs.match_last.Statement.{statement}
 use Rattle.following.proofs.match_last.Tie as tie
@@ -63,10 +63,10 @@ all-close-requires c κs = search rules
 returns : tie.Need-returns
 returns c =
     let e = c.before.before.before.before in let p = e.before.before.before.before.before.requires in
-    last-matched (small_of false p.0.edges.small) e.ends_of.ensures p.3 c.all-close.ensures
+    last_matched (small_of false p.0.edges.small) e.ends_of.ensures p.3 c.all-close.ensures
 
-pub match-last-spec : {M : Type 1} → statement M
-match-last-spec =
+pub match_last_spec : {M : Type 1} → statement M
+match_last_spec =
     tie.close
     (tie.spec
     mul-ends-of

@@ -1,7 +1,7 @@
 -- `following::match_step` meets its contract, by the law of one step.
 use mathlib.Core.Bool.{false}
 use Rattle.twins.proofs.Marking.{small_of}
-use Rattle.following.proofs.Steps.{step-matched}
+use Rattle.following.proofs.Steps.{step_matched}
 use borrow.Author.Rules.{rules}
 use Rattle.following.proofs.match_step.Statement.{statement}
 use Rattle.following.proofs.match_step.Tie as tie
@@ -63,10 +63,10 @@ carry-requires c κs = search rules
 returns : tie.Need-returns
 returns c =
     let e = c.before.before.before.before.before.before.before in let p = e.before.before.before.before.before.requires in
-    step-matched (small_of false p.0.edges.small) e.ends_of.ensures p.3 c.carry.ensures
+    step_matched (small_of false p.0.edges.small) e.ends_of.ensures p.3 c.carry.ensures
 
-pub match-step-spec : {M : Type 1} → statement M
-match-step-spec =
+pub match_step_spec : {M : Type 1} → statement M
+match_step_spec =
     tie.close
     (tie.spec
     mul-ends-of

@@ -2,7 +2,7 @@
 -- is what is left of them.
 use mathlib.Core.Path.{refl}
 use Prim.Native.Nat.{◌-◌}
-use Rattle.partners.proofs.Tests.{Own, own-start, own-next, own-all}
+use Rattle.partners.proofs.Tests.{Own, own_start, own_next, own_all}
 use borrow.Author.Rules.{rules}
 use Rattle.following.proofs.own_partners.Statement.{statement}
 use Rattle.following.proofs.own_partners.Tie as tie
@@ -14,7 +14,7 @@ abbrev decreases-loop : tie.decreases-loop
 decreases-loop count matched₀ v₀ matched v = count - v
 
 loop-holds : tie.Need-loop-init invariant-loop decreases-loop
-loop-holds c = own-start c.requires refl
+loop-holds c = own_start c.requires refl
 
 add-matched : tie.Need-overflow-add-matched invariant-loop decreases-loop
 add-matched c = search rules
@@ -35,13 +35,13 @@ loop-less : tie.Need-loop-smaller invariant-loop decreases-loop
 loop-less c = search rules
 
 loop-again : tie.Need-loop-preserved invariant-loop decreases-loop
-loop-again c = own-next c.before.loop.invariant c.loop-test.true
+loop-again c = own_next c.before.loop.invariant c.loop-test.true
 
 returns : tie.Need-returns invariant-loop decreases-loop
-returns c = own-all c.before.loop.invariant c.loop-test.false
+returns c = own_all c.before.loop.invariant c.loop-test.false
 
-pub own-partners-spec : {M : Type 1} → statement M
-own-partners-spec =
+pub own_partners_spec : {M : Type 1} → statement M
+own_partners_spec =
     tie.close
     (tie.spec
     invariant-loop

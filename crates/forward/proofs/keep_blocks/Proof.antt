@@ -7,13 +7,13 @@ use Prim.Native.Nat.{◌-◌, ◌<◌}
 use native.Mathlib.Omega.{arith}
 use lib.ListN.{length, get_or}
 use Rattle.paths.specs.Chain.{unreached}
-use Rattle.dearest.specs.inner.Items.{item_of}
+use Rattle.dearest.specs.Inner.Items.{item_of}
 use Rattle.frame.specs.Frame.{frame}
-use Rattle.forward.specs.inner.Blocks.{Workspace}
-use Rattle.forward.specs.inner.Fronts.{KeptAt}
-use Rattle.forward.proofs.First.{cost-low, kept-start}
-use Rattle.forward.proofs.Chained.{kept-end}
-use Rattle.forward.proofs.Held.{room-start, held_at, block-ready, block-kept}
+use Rattle.forward.specs.Inner.Blocks.{Workspace}
+use Rattle.forward.specs.Inner.Fronts.{KeptAt}
+use Rattle.forward.proofs.First.{cost_low, kept_start}
+use Rattle.forward.proofs.Chained.{kept_end}
+use Rattle.forward.proofs.Held.{room_start, held_at, block_ready, block_kept}
 use Rattle.forward.proofs.keep_blocks.Statement.{statement}
 use Rattle.forward.proofs.keep_blocks.Tie as tie
 
@@ -53,7 +53,7 @@ widened-requires-2 c κs = search rules
 ends-in-requires : tie.Need-ends-in-requires invariant-loop decreases-loop
 ends-in-requires c κs =
     let p = c.before.before.before.before.before.before.before.requires in
-    omega (arith, c.widened2.ensures.0, p.0.checks.framed.endBelow)
+    omega (arith, c.widened2.ensures.0, p.0.checks.framed.end_below)
 
 mul-item : tie.Need-overflow-mul-item invariant-loop decreases-loop
 mul-item c = search rules
@@ -62,24 +62,24 @@ shared-slice-read-item : tie.Need-shared-slice-read-item invariant-loop decrease
 shared-slice-read-item c =
     let p = (entry c.before).pre in
     let F = p.0.checks.framed in
-    omega (arith, c.before.before.before.widened.ensures.0, F.startBelow, F.some, p.1.long)
+    omega (arith, c.before.before.before.widened.ensures.0, F.start_below, F.some, p.1.long)
 
 cast-item : tie.Need-overflow-cast-item invariant-loop decreases-loop
 cast-item c =
     let p = (entry c.before).pre in
     let F = p.0.checks.framed in
-    omega (arith, cost-low p.1 F.startBelow F.some c.before.before.before.widened.ensures.0)
+    omega (arith, cost_low p.1 F.start_below F.some c.before.before.before.widened.ensures.0)
 
 coded-requires : tie.Need-coded-requires invariant-loop decreases-loop
 coded-requires c κs =
     let p = (entry c.before).pre in
-    (search rules, omega (arith, c.before.before.before.widened.ensures.0, p.0.checks.framed.startBelow))
+    (search rules, omega (arith, c.before.before.before.widened.ensures.0, p.0.checks.framed.start_below))
 
 item-requires : tie.Need-item-requires invariant-loop decreases-loop
 item-requires c κs =
     let p = (entry c.before.before).pre in
     let F = p.0.checks.framed in
-    omega (arith, cost-low p.1 F.startBelow F.some c.before.before.before.before.widened.ensures.0)
+    omega (arith, cost_low p.1 F.start_below F.some c.before.before.before.before.widened.ensures.0)
 
 element-write-slots : tie.Need-element-write-slots invariant-loop decreases-loop
 element-write-slots c = search rules
@@ -90,10 +90,10 @@ loop-holds c =
     let e = entry s in
     let p = e.pre in
     let F = p.0.checks.framed in (
-      kept-start p.1 e.args.slots.now F.startBelow F.some p.2 p.4 p.5 s.before.before.widened.ensures.0
+      kept_start p.1 e.args.slots.now F.start_below F.some p.2 p.4 p.5 s.before.before.widened.ensures.0
           (c.item.ensures ∙ ap (item_of (get_or e.args.costs.now s.before.before.widened.result 0)) c.before.coded.ensures),
       search rules,
-      room-start,
+      room_start,
     )
 
 shared-slice-read-widened : tie.Need-shared-slice-read-widened invariant-loop decreases-loop
@@ -136,13 +136,13 @@ shared-slice-read-word : tie.Need-shared-slice-read-word invariant-loop decrease
 shared-slice-read-word c =
     let t = c.before.before.before in
     let F = (entry (ended (head t))).pre.0.checks.framed in
-    omega (arith, t.before.before.loop-test.true, F.receivedLong, F.erasedLong)
+    omega (arith, t.before.before.loop-test.true, F.received_long, F.erased_long)
 
 shared-slice-read-mask : tie.Need-shared-slice-read-mask invariant-loop decreases-loop
 shared-slice-read-mask c =
     let t = c.before.before.before.before in
     let F = (entry (ended (head t))).pre.0.checks.framed in
-    omega (arith, t.before.before.loop-test.true, F.receivedLong, F.erasedLong)
+    omega (arith, t.before.before.loop-test.true, F.received_long, F.erased_long)
 
 left-behind-requires : tie.Need-left-behind-requires invariant-loop decreases-loop
 left-behind-requires c κs =
@@ -184,7 +184,7 @@ through-block-requires c κs =
     let i = t.widened3.ensures.0 in
     let A = held_at p.0 h i in
     let L = w.left_behind.ensures in
-    let B = block-ready p.0 p.1 s.ends-in.ensures s.before.widened2.ensures.0 h i L p.3 I.0 in (
+    let B = block_ready p.0 p.1 s.ends-in.ensures s.before.widened2.ensures.0 h i L p.3 I.0 in (
       A.seen,
       L.long,
       A.few,
@@ -218,13 +218,13 @@ loop-again c =
     let i = t.widened3.ensures.0 in
     let L = w.left_behind.ensures in
     let done = c.through-block.ensures in
-    (block-kept p.0 p.1 s.ends-in.ensures s.before.widened2.ensures.0 h i L p.3 I.0 done.0, done.1, done.2)
+    (block_kept p.0 p.1 s.ends-in.ensures s.before.widened2.ensures.0 h i L p.3 I.0 done.0, done.1, done.2)
 
 returns : tie.Need-returns invariant-loop decreases-loop
-returns c = kept-end c.before.loop.invariant.0 c.loop-test.false
+returns c = kept_end c.before.loop.invariant.0 c.loop-test.false
 
-pub keep-blocks-spec : {M : Type 1} → statement M
-keep-blocks-spec =
+pub keep_blocks_spec : {M : Type 1} → statement M
+keep_blocks_spec =
     tie.close
     (tie.spec
     invariant-loop

@@ -3,7 +3,7 @@
 use borrow.Author.Rules.{rules}
 use native.Mathlib.Omega.{arith}
 use Rattle.section_file.proofs.Seen.{header}
-use Rattle.forward.proofs.Passing.{outer, enterable-at, leavable-at, through-of, passed-of}
+use Rattle.forward.proofs.Passing.{outer, enterable_at, leavable_at, through_of, passed_of}
 use Rattle.forward.proofs.through_block.Statement.{statement}
 use Rattle.forward.proofs.through_block.Tie as tie
 
@@ -34,7 +34,7 @@ enter-requires : tie.Need-enter-requires
 enter-requires c κs =
     let p = (entry (priced c.before.before.before)).requires in
     let O = outer p.0 in
-    (O.inside, O.few, search rules, search rules, p.9.itemsLong, enterable-at p.0 p.10)
+    (O.inside, O.few, search rules, search rules, p.9.items_long, enterable_at p.0 p.10)
 
 keep-section-requires : tie.Need-keep-section-requires
 keep-section-requires c κs = search rules
@@ -42,38 +42,38 @@ keep-section-requires c κs = search rules
 leave-requires : tie.Need-leave-requires
 leave-requires c κs =
     let gone = c.before.before.before in
-    let in-it = entered gone in
-    let rows = swept in-it in
+    let in_it = entered gone in
+    let rows = swept in_it in
     let prices = priced rows in
     let p = (entry prices).pre in
     let G = gone.keep-section.ensures.0 in
-    let T = through-of p.0 prices.put-prices.ensures rows.put-rows.ensures.0 in-it.enter.ensures G in (
+    let T = through_of p.0 prices.put-prices.ensures rows.put-rows.ensures.0 in_it.enter.ensures G in (
       omega (arith, G.most, p.4),
       search rules,
       G.long,
       search rules,
       search rules,
-      leavable-at p.0 (p.11.leavable _ _ _ _ _ T),
+      leavable_at p.0 (p.11.leavable _ _ _ _ _ T),
     )
 
 returns : tie.Need-returns
 returns c =
     let gone = c.before.before.before.before in
-    let in-it = entered gone in
-    let rows = swept in-it in
+    let in_it = entered gone in
+    let rows = swept in_it in
     let prices = priced rows in
     let p = (entry prices).pre in
     let R = rows.put-rows.ensures in
     let P = prices.put-prices.ensures in
     let G = gone.keep-section.ensures.0 in
-    let T = through-of p.0 P R.0 in-it.enter.ensures G in (
-      passed-of p.0 T c.leave.ensures,
+    let T = through_of p.0 P R.0 in_it.enter.ensures G in (
+      passed_of p.0 T c.leave.ensures,
       gone.keep-section.ensures.1,
-      record { room = P.room; evenLong = R.1; oddLong = R.2; rowsAre = R.0.long; itemsLong = G.long },
+      record { room = P.room; even_long = R.1; odd_long = R.2; rows_are = R.0.long; items_long = G.long },
     )
 
-pub through-block-spec : {M : Type 1} → statement M
-through-block-spec =
+pub through_block_spec : {M : Type 1} → statement M
+through_block_spec =
     tie.close
     (tie.spec
     put-prices-requires

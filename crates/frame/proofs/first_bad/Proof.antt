@@ -3,7 +3,7 @@
 use borrow.Author.Rules.{rules}
 use Prim.Native.Nat.{◌-◌}
 use lib.ListN.{length}
-use Rattle.frame.proofs.Checks.{InBlocks, blocks_start, blocks-index, blocks-unfit, blocks_more, blocks-none}
+use Rattle.frame.proofs.Checks.{InBlocks, blocks_start, blocks_index, blocks_unfit, blocks_more, blocks_none}
 use Rattle.frame.proofs.first_bad.Statement.{statement}
 use Rattle.frame.proofs.first_bad.Tie as tie
 
@@ -26,7 +26,7 @@ returns : tie.Need-returns invariant-loop decreases-loop
 returns c =
     let turn = c.before.before.before in
     let head = turn.before in
-    blocks-index head.loop.invariant c.before.widened.ensures.0 turn.loop-test.true c.if1.true
+    blocks_index head.loop.invariant c.before.widened.ensures.0 turn.loop-test.true c.if1.true
 
 mul_at : tie.Need-overflow-mul-at invariant-loop decreases-loop
 mul_at c = search rules
@@ -54,7 +54,7 @@ returns-2 c =
     let widened = c.before.before.before.before.before.before in
     let turn = widened.before.before in
     let head = turn.before in
-    blocks-unfit head.loop.invariant widened.widened.ensures.0 (search rules) c.before.fits2.ensures turn.loop-test.true
+    blocks_unfit head.loop.invariant widened.widened.ensures.0 (search rules) c.before.fits2.ensures turn.loop-test.true
     c.if2.true
 
 add-b : tie.Need-overflow-add-b invariant-loop decreases-loop
@@ -72,10 +72,10 @@ loop-again c =
     c.if2.false
 
 returns-3 : tie.Need-returns-3 invariant-loop decreases-loop
-returns-3 c = blocks-none c.before.loop.invariant (search rules)
+returns-3 c = blocks_none c.before.loop.invariant (search rules)
 
-pub first-bad-spec : {M : Type 1} → statement M
-first-bad-spec =
+pub first_bad_spec : {M : Type 1} → statement M
+first_bad_spec =
     tie.close
     (tie.spec
     invariant-loop

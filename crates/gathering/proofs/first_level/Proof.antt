@@ -1,7 +1,7 @@
 -- `gathering::first_level` meets its contract. The loop's invariant: the vertices passed are put. The measure is what is left of them.
 use native.Mathlib.Omega.{arith}
 use Prim.Native.Nat.{◌-◌}
-use Rattle.gathering.proofs.Growing.{Rooted, rooted-start, rooted-next, rooted-all}
+use Rattle.gathering.proofs.Growing.{Rooted, rooted_start, rooted_next, rooted_all}
 use borrow.Author.Rules.{rules}
 use Rattle.gathering.proofs.first_level.Statement.{statement}
 use Rattle.gathering.proofs.first_level.Tie as tie
@@ -13,7 +13,7 @@ abbrev decreases-loop : tie.decreases-loop
 decreases-loop s at count codes₀ v₀ codes v = count - v
 
 loop-holds : tie.Need-loop-init invariant-loop decreases-loop
-loop-holds c = rooted-start _ _ _ c.before.requires.1
+loop-holds c = rooted_start _ _ _ c.before.requires.1
 
 add-wider : tie.Need-overflow-add-wider invariant-loop decreases-loop
 add-wider c = search rules
@@ -54,13 +54,13 @@ loop-less c = search rules
 
 loop-again : tie.Need-loop-preserved invariant-loop decreases-loop
 loop-again c = let h = c.before.before in
-    rooted-next h.before.loop.invariant h.before.before.before.requires.0 h.loop-test.true c.wider.ensures
+    rooted_next h.before.loop.invariant h.before.before.before.requires.0 h.loop-test.true c.wider.ensures
 
 returns : tie.Need-returns invariant-loop decreases-loop
-returns c = rooted-all c.before.loop.invariant (search rules)
+returns c = rooted_all c.before.loop.invariant (search rules)
 
-pub first-level-spec : {M : Type 1} → statement M
-first-level-spec =
+pub first_level_spec : {M : Type 1} → statement M
+first_level_spec =
     tie.close
     (tie.spec
     invariant-loop

@@ -3,16 +3,16 @@
 use native.Mathlib.Omega.{arith}
 use Prim.Native.Nat.{◌-◌}
 use Rattle.trellis.specs.Lists.{run}
-use Rattle.edges.specs.inner.Edges.{edgeIn}
-use Rattle.codes.specs.inner.Codes.{grownCodes}
-use Rattle.gathering.proofs.Growing.{begins-of, Growing, growing-start, growing-next, growing-over, growing-all}
+use Rattle.edges.specs.Inner.Edges.{edge_in}
+use Rattle.codes.specs.Inner.Codes.{grown_codes}
+use Rattle.gathering.proofs.Growing.{begins_of, Growing, growing_start, growing_next, growing_over, growing_all}
 use borrow.Author.Rules.{rules}
 use Rattle.gathering.proofs.grow.Statement.{statement}
 use Rattle.gathering.proofs.grow.Tie as tie
 
 abbrev invariant-loop : tie.invariant-loop
 invariant-loop pairs symbols count old have codes₀ starts made₀ i₀ codes made i =
-    Growing (grownCodes (run (edgeIn pairs symbols) 0 count)) old have codes made i
+    Growing (grown_codes (run (edge_in pairs symbols) 0 count)) old have codes made i
 
 abbrev decreases-loop : tie.decreases-loop
 decreases-loop pairs symbols count old have codes₀ starts made₀ i₀ codes made i = have - i
@@ -21,7 +21,7 @@ starts-of-requires : tie.Need-starts-of-requires invariant-loop decreases-loop
 starts-of-requires c κs = search rules
 
 loop-holds : tie.Need-loop-init invariant-loop decreases-loop
-loop-holds c = growing-start (search rules)
+loop-holds c = growing_start (search rules)
 
 mul-c : tie.Need-overflow-mul-c invariant-loop decreases-loop
 mul-c c = search rules
@@ -44,14 +44,14 @@ wide-requires c κs = search rules
 grow-one-requires : tie.Need-grow-one-requires invariant-loop decreases-loop
 grow-one-requires c κs = let w = c.before in let v = w.before in let h = v.before.before in let t = h.before.before in (
   search rules,
-  begins-of _ t.starts-of.ensures v.vertex-of.ensures w.wide.ensures,
+  begins_of _ t.starts-of.ensures v.vertex-of.ensures w.wide.ensures,
   h.before.loop.invariant.room,
   h.before.loop.invariant.long,
 )
 
 returns : tie.Need-returns invariant-loop decreases-loop
 returns c = let g = c.before in let h = g.before.before.before.before.before in
-    growing-over h.before.loop.invariant h.loop-test.true (search rules) g.grow-one.ensures c.if1.true
+    growing_over h.before.loop.invariant h.loop-test.true (search rules) g.grow-one.ensures c.if1.true
 
 add-i : tie.Need-overflow-add-i invariant-loop decreases-loop
 add-i c = search rules
@@ -61,10 +61,10 @@ loop-less c = search rules
 
 loop-again : tie.Need-loop-preserved invariant-loop decreases-loop
 loop-again c = let g = c.before in let h = g.before.before.before.before.before in
-    growing-next h.before.loop.invariant h.loop-test.true (search rules) g.grow-one.ensures c.if1.false
+    growing_next h.before.loop.invariant h.loop-test.true (search rules) g.grow-one.ensures c.if1.false
 
 returns-2 : tie.Need-returns-2 invariant-loop decreases-loop
-returns-2 c = growing-all c.before.loop.invariant (search rules)
+returns-2 c = growing_all c.before.loop.invariant (search rules)
 
 pub grow_spec : {M : Type 1} → statement M
 grow_spec =

@@ -3,18 +3,18 @@
 use mathlib.Core.Path.{sym, ap, ◌∙◌}
 use native.Mathlib.Omega.{arith}
 use Prim.Native.Nat.{◌-◌}
-use Rattle.edges.specs.inner.Edges.{edgeIn}
+use Rattle.edges.specs.Inner.Edges.{edge_in}
 use Rattle.edges.specs.declared.Edge.{Edge}
-use Rattle.codes.specs.inner.Codes.{codeVertex, furtherCode}
-use Rattle.gathering.proofs.Growing.{Putting, putting-start, putting-next, putting-over, putting-done, putting-stops}
-use Rattle.codes.proofs.Codes.{further-at}
+use Rattle.codes.specs.Inner.Codes.{code_vertex, further_code}
+use Rattle.gathering.proofs.Growing.{Putting, putting_start, putting_next, putting_over, putting_done, putting_stops}
+use Rattle.codes.proofs.Codes.{further_at}
 use borrow.Author.Rules.{rules}
 use Rattle.gathering.proofs.grow_one.Statement.{statement}
 use Rattle.gathering.proofs.grow_one.Tie as tie
 
 abbrev invariant-loop : tie.invariant-loop
 invariant-loop pairs symbols count start c made codes₀ vertex filled₀ k₀ codes filled k =
-    Putting (furtherCode c) (edgeIn pairs symbols) count (codeVertex c) codes₀ made codes filled k
+    Putting (further_code c) (edge_in pairs symbols) count (code_vertex c) codes₀ made codes filled k
 
 abbrev decreases-loop : tie.decreases-loop
 decreases-loop pairs symbols count start c made codes₀ vertex filled₀ k₀ codes filled k = count - k
@@ -23,27 +23,27 @@ vertex-of-requires : tie.Need-vertex-of-requires invariant-loop decreases-loop
 vertex-of-requires c κs = search rules
 
 loop-holds : tie.Need-loop-init invariant-loop decreases-loop
-loop-holds c = let p = c.before.before.before.requires in putting-start p.1 p.2 p.3
+loop-holds c = let p = c.before.before.before.requires in putting_start p.1 p.2 p.3
 
 edge-at-requires : tie.Need-edge-at-requires invariant-loop decreases-loop
 edge-at-requires c κs = search rules
 
 returns : tie.Need-returns invariant-loop decreases-loop
 returns c = let e = c.before.before in let h = e.before in let u = h.before.before in
-    putting-stops h.before.loop.invariant h.loop-test.true
+    putting_stops h.before.loop.invariant h.loop-test.true
     (λ q. c.if1.true (ap (λ (x : Edge). x.from) e.edge_at.ensures ∙ q ∙ sym u.vertex-of.ensures))
-    u.before.before.before.requires.0.fromsRise
+    u.before.before.before.requires.0.froms_rise
 
 returns-2 : tie.Need-returns-2 invariant-loop decreases-loop
 returns-2 c = let e1 = c.before in let e = e1.before.before in let h = e.before in let u = h.before.before in
-    putting-over h.before.loop.invariant h.loop-test.true
+    putting_over h.before.loop.invariant h.loop-test.true
     (sym (ap (λ (x : Edge). x.from) e.edge_at.ensures) ∙ e1.if1.false ∙ u.vertex-of.ensures) c.if2.true
 
 further-requires : tie.Need-further-requires invariant-loop decreases-loop
 further-requires c κs = let e = c.before.before.before in let h = e.before in
     let s = h.before.before.before.before.before.requires.0.small in (
-      omega (arith, s.symbolSmall _ h.loop-test.true, ap (λ (x : Edge). x.symbol) e.edge_at.ensures),
-      omega (arith, s.toSmall _ h.loop-test.true, ap (λ (x : Edge). x.to) e.edge_at.ensures),
+      omega (arith, s.symbol_small _ h.loop-test.true, ap (λ (x : Edge). x.symbol) e.edge_at.ensures),
+      omega (arith, s.to_small _ h.loop-test.true, ap (λ (x : Edge). x.to) e.edge_at.ensures),
     )
 
 mul-codes : tie.Need-overflow-mul-codes invariant-loop decreases-loop
@@ -64,15 +64,15 @@ loop-less c = search rules
 loop-again : tie.Need-loop-preserved invariant-loop decreases-loop
 loop-again c = let e2 = c.before in let e1 = e2.before in let e = e1.before.before in let h = e.before in let u = h.before.before in
     let s = u.before.before.before in
-    putting-next h.before.loop.invariant h.loop-test.true
+    putting_next h.before.loop.invariant h.loop-test.true
     (sym (ap (λ (x : Edge). x.from) e.edge_at.ensures) ∙ e1.if1.false ∙ u.vertex-of.ensures) e2.if2.false
-    (further-at s.args.c c.further.ensures e.edge_at.ensures) s.requires.0.fromsRise
+    (further_at s.args.c c.further.ensures e.edge_at.ensures) s.requires.0.froms_rise
 
 returns-3 : tie.Need-returns-3 invariant-loop decreases-loop
-returns-3 c = putting-done c.before.loop.invariant (search rules)
+returns-3 c = putting_done c.before.loop.invariant (search rules)
 
-pub grow-one-spec : {M : Type 1} → statement M
-grow-one-spec =
+pub grow_one_spec : {M : Type 1} → statement M
+grow_one_spec =
     tie.close
     (tie.spec
     invariant-loop

@@ -2,9 +2,9 @@
 -- at depth t apart.
 use native.Mathlib.Omega.{arith}
 use borrow.Author.Rules.{rules}
-use Rattle.depths.specs.inner.Words.{words}
-use Rattle.depths.proofs.Goals.{goal-row}
-use Rattle.inner_depths.proofs.AllDepths.{InDepths, depths-none, depths-ask, depths-more, depths-end}
+use Rattle.depths.specs.Inner.Words.{words}
+use Rattle.depths.proofs.Goals.{goal_row}
+use Rattle.inner_depths.proofs.AllDepths.{InDepths, depths_none, depths_ask, depths_more, depths_end}
 use Rattle.inner_depths.proofs.merge_inner.Statement.{statement}
 use Rattle.inner_depths.proofs.merge_inner.Tie as tie
 
@@ -21,7 +21,7 @@ put-goals-requires c κs = (search rules, search rules)
 loop-holds : tie.Need-loop-init invariant-loop decreases-loop
 loop-holds c =
     let entry = c.before.before.before.before.before.before in
-    depths-none entry.requires.held.table.some (goal-row entry.requires.held c.put_goals.ensures) entry.requires.nine
+    depths_none entry.requires.held.table.some (goal_row entry.requires.held c.put_goals.ensures) entry.requires.nine
 
 sub-t : tie.Need-overflow-sub-t invariant-loop decreases-loop
 sub-t c = search rules
@@ -30,7 +30,7 @@ merge-depth-requires : tie.Need-merge-depth-requires invariant-loop decreases-lo
 merge-depth-requires c κs =
     let turn = c.before.before.before in
     let entry = turn.before.before.before.before.before.before.before in
-    depths-ask entry.requires turn.loop.invariant (search rules)
+    depths_ask entry.requires turn.loop.invariant (search rules)
 
 vertex-count-requires : tie.Need-vertex-count-requires invariant-loop decreases-loop
 vertex-count-requires c κs = search rules
@@ -53,20 +53,20 @@ loop-less c = search rules
 loop-again : tie.Need-loop-preserved invariant-loop decreases-loop
 loop-again c =
     let at_count = c.before in
-    let at-depth = at_count.before.before.before in
-    let turn = at-depth.before.before.before.before in
+    let at_depth = at_count.before.before.before in
+    let turn = at_depth.before.before.before.before in
     let entry = turn.before.before.before.before.before.before.before in
-    depths-more turn.loop.invariant entry.requires.held.short (search rules) at-depth.merge-depth.ensures
+    depths_more turn.loop.invariant entry.requires.held.short (search rules) at_depth.merge-depth.ensures
     at_count.vertex-count.ensures c.lowest.ensures
 
 same_length : tie.Need-same-length invariant-loop decreases-loop
 same_length c = c.before.loop.invariant.len
 
 returns : tie.Need-returns invariant-loop decreases-loop
-returns c = depths-end c.before.loop.invariant (search rules)
+returns c = depths_end c.before.loop.invariant (search rules)
 
-pub merge-inner-spec : {M : Type 1} → statement M
-merge-inner-spec =
+pub merge_inner_spec : {M : Type 1} → statement M
+merge_inner_spec =
     tie.close
     (tie.spec
     invariant-loop

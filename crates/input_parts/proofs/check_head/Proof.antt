@@ -1,6 +1,6 @@
 -- `input_parts::check_head` makes the tests of the definition in their order.
 use borrow.Author.Tests.{not-true, not-false}
-use Rattle.input_parts.proofs.Head.{head-sections, head-lengths, head-index, head-fine}
+use Rattle.input_parts.proofs.Head.{head_sections, head_lengths, head_index, head_fine}
 use borrow.Author.Rules.{rules}
 use Rattle.input_parts.proofs.check_head.Statement.{statement}
 use Rattle.input_parts.proofs.check_head.Tie as tie
@@ -15,7 +15,7 @@ returns : tie.Need-returns
 returns c =
     let w = c.before.before in
     let a = w.before.before in
-    head-sections a.args.input.now a.requires w.is_Within.ensures (not-true _ c.before.if1.true) c.one_value.ensures
+    head_sections a.args.input.now a.requires w.is_Within.ensures (not-true _ c.before.if1.true) c.one_value.ensures
 
 lengths-bad-requires : tie.Need-lengths-bad-requires
 lengths-bad-requires c κs = search rules
@@ -28,7 +28,7 @@ returns-2 c =
     let l = c.before.before in
     let w = l.before.before in
     let a = w.before.before in
-    head-lengths a.args.input.now a.requires w.is_Within.ensures (not-false _ l.before.if1.false) l.lengths-bad.ensures
+    head_lengths a.args.input.now a.requires w.is_Within.ensures (not-false _ l.before.if1.false) l.lengths-bad.ensures
     c.before.if2.true c.one-value2.ensures
 
 first-index-requires : tie.Need-first-index-requires
@@ -43,7 +43,7 @@ returns-3 c =
     let l = f.before.before in
     let w = l.before.before in
     let a = w.before.before in
-    head-index a.args.input.now a.requires w.is_Within.ensures (not-false _ l.before.if1.false) l.lengths-bad.ensures
+    head_index a.args.input.now a.requires w.is_Within.ensures (not-false _ l.before.if1.false) l.lengths-bad.ensures
     f.before.if2.false f.first-index.ensures c.before.if3.true c.one-value3.ensures
 
 no-value-requires : tie.Need-no-value-requires
@@ -55,11 +55,11 @@ returns-4 c =
     let l = f.before.before in
     let w = l.before.before in
     let a = w.before.before in
-    head-fine a.args.input.now a.requires w.is_Within.ensures (not-false _ l.before.if1.false) l.lengths-bad.ensures
+    head_fine a.args.input.now a.requires w.is_Within.ensures (not-false _ l.before.if1.false) l.lengths-bad.ensures
     f.before.if2.false f.first-index.ensures c.before.if3.false c.no_value.ensures
 
-pub check-head-spec : {M : Type 1} → statement M
-check-head-spec =
+pub check_head_spec : {M : Type 1} → statement M
+check_head_spec =
     tie.close
     (tie.spec
     is-within-requires

@@ -18,5 +18,5 @@ returns-2 : tie.Need-returns-2
 returns-2 c = let a = c.before.before in
     none_left a.args.end a.args.length a.args.sections c.before.if1.false c.no_value.ensures
 
-pub left-over-spec : {M : Type 1} → statement M
-left-over-spec = tie.close (tie.spec one-value-requires returns no-value-requires returns-2)
+pub left_over_spec : {M : Type 1} → statement M
+left_over_spec = tie.close (tie.spec one-value-requires returns no-value-requires returns-2)

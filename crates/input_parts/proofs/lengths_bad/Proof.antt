@@ -1,6 +1,6 @@
 -- `input_parts::lengths_bad` tests the bounds of B first, then the length of the list.
 use borrow.Author.Tests.{not-true, not-false}
-use Rattle.input_parts.proofs.Head.{lengths-outside, lengths-inside}
+use Rattle.input_parts.proofs.Head.{lengths_outside, lengths_inside}
 use borrow.Author.Rules.{rules}
 use Rattle.input_parts.proofs.lengths_bad.Statement.{statement}
 use Rattle.input_parts.proofs.lengths_bad.Tie as tie
@@ -10,14 +10,14 @@ is-within-requires c κs = search rules
 
 returns : tie.Need-returns
 returns c = let a = c.before.before.before in
-    lengths-outside a.args.input.now a.requires.0 c.before.is_Within.ensures (not-true _ c.if1.true)
+    lengths_outside a.args.input.now a.requires.0 c.before.is_Within.ensures (not-true _ c.if1.true)
 
 add-result : tie.Need-overflow-add-result
 add-result c = search rules
 
 returns-2 : tie.Need-returns-2
 returns-2 c = let a = c.before.before.before in
-    lengths-inside a.args.input.now a.requires.0 c.before.is_Within.ensures (not-false _ c.if1.false)
+    lengths_inside a.args.input.now a.requires.0 c.before.is_Within.ensures (not-false _ c.if1.false)
 
-pub lengths-bad-spec : {M : Type 1} → statement M
-lengths-bad-spec = tie.close (tie.spec is-within-requires returns add-result returns-2)
+pub lengths_bad_spec : {M : Type 1} → statement M
+lengths_bad_spec = tie.close (tie.spec is-within-requires returns add-result returns-2)

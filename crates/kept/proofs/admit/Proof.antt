@@ -2,7 +2,7 @@
 -- all stays; or the last dearest goes out and the candidate goes behind the others. Then those from the freed place on cost less than the
 -- one that went, and none costs more, so that the next last dearest is looked for in front of that place.
 use borrow.Author.Rules.{rules}
-use Rattle.kept.proofs.Admitting.{worst-inside, put-long, admit-more, admit-skip, swap-cheaper, admit-swap}
+use Rattle.kept.proofs.Admitting.{worst_inside, put_long, admit_more, admit_skip, swap_cheaper, admit_swap}
 use Rattle.kept.proofs.admit.Statement.{statement}
 use Rattle.kept.proofs.admit.Tie as tie
 
@@ -21,13 +21,13 @@ counted-requires c κs = search rules
 returns : tie.Need-returns
 returns c =
     let put = c.before.before in
-    admit-more put.if1.true (search rules) (search rules) c.counted.ensures.0 c.counted.ensures.1
+    admit_more put.if1.true (search rules) (search rules) c.counted.ensures.0 c.counted.ensures.1
 
 mul-cost-of : tie.Need-overflow-mul-cost-of
-mul-cost-of c = let w = worst-inside c.before.requires.2 c.if1.false in search rules
+mul-cost-of c = let w = worst_inside c.before.requires.2 c.if1.false in search rules
 
 element-copy-out-cost-of : tie.Need-element-copy-out-cost-of
-element-copy-out-cost-of c = let w = worst-inside c.before.requires.2 c.if1.false in search rules
+element-copy-out-cost-of c = let w = worst_inside c.before.requires.2 c.if1.false in search rules
 
 cost-of-requires : tie.Need-cost-of-requires
 cost-of-requires c κs = search rules
@@ -40,13 +40,13 @@ returns-2 c =
     let two = c.before in
     let one = two.before in
     let full = one.before.before in
-    admit-skip full.before.requires.2 full.if1.false (search rules) one.cost-of.ensures.0 two.cost-of2.ensures.0
+    admit_skip full.before.requires.2 full.if1.false (search rules) one.cost-of.ensures.0 two.cost-of2.ensures.0
     c.if2.true
 
 close-up-requires : tie.Need-close-up-requires
 close-up-requires c κs =
     let full = c.before.before.before.before.before in
-    let w = worst-inside full.before.requires.2 full.if1.false in
+    let w = worst_inside full.before.requires.2 full.if1.false in
     search rules
 
 sub-items : tie.Need-overflow-sub-items
@@ -68,9 +68,9 @@ dearest-before-requires c κs =
     let K = full.before.requires.2 in
     let less = dear.if2.false in
     let C = out.close_up.ensures in (
-      swap-cheaper _ K full.if1.false (search rules) one.cost-of.ensures.0 two.cost-of2.ensures.0 less C,
+      swap_cheaper _ K full.if1.false (search rules) one.cost-of.ensures.0 two.cost-of2.ensures.0 less C,
       search rules,
-      put-long _ _ K C,
+      put_long _ _ K C,
     )
 
 returns-3 : tie.Need-returns-3
@@ -80,11 +80,11 @@ returns-3 c =
     let two = dear.before in
     let one = two.before in
     let full = one.before.before in
-    admit-swap _ full.before.requires.2 full.if1.false (search rules) one.cost-of.ensures.0 two.cost-of2.ensures.0
+    admit_swap _ full.before.requires.2 full.if1.false (search rules) one.cost-of.ensures.0 two.cost-of2.ensures.0
     dear.if2.false out.close_up.ensures c.dearest-before.ensures
 
-pub admit-spec : {M : Type 1} → statement M
-admit-spec =
+pub admit_spec : {M : Type 1} → statement M
+admit_spec =
     tie.close
     (tie.spec
     mul-items

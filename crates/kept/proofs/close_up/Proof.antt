@@ -2,7 +2,7 @@
 -- on stand as they did. The measure is how many are left.
 use borrow.Author.Rules.{rules}
 use Prim.Native.Nat.{◌-◌, ◌<◌}
-use Rattle.kept.proofs.Admitting.{Moved, moved-start, moved_more, moved_all}
+use Rattle.kept.proofs.Admitting.{Moved, moved_start, moved_more, moved_all}
 use Rattle.kept.proofs.close_up.Statement.{statement}
 use Rattle.kept.proofs.close_up.Tie as tie
 
@@ -13,7 +13,7 @@ abbrev decreases-loop : tie.decreases-loop
 decreases-loop items₀ at count i₀ items i = count - i
 
 loop-holds : tie.Need-loop-init invariant-loop decreases-loop
-loop-holds c = (moved-start, search rules)
+loop-holds c = (moved_start, search rules)
 
 add-loop : tie.Need-overflow-add-loop invariant-loop decreases-loop
 add-loop c = search rules
@@ -45,8 +45,8 @@ loop-again c = (moved_more c.before.before.loop.invariant.0 (search rules) (sear
 returns : tie.Need-returns invariant-loop decreases-loop
 returns c = moved_all c.before.loop.invariant.0 (search rules)
 
-pub close-up-spec : {M : Type 1} → statement M
-close-up-spec =
+pub close_up_spec : {M : Type 1} → statement M
+close_up_spec =
     tie.close
     (tie.spec
     invariant-loop

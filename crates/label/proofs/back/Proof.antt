@@ -13,5 +13,5 @@ only-last-requires c κs = search rules
 returns : tie.Need-returns
 returns c = back_by _ _ _ c.before.behind.ensures c.only-last.ensures
 
-pub back-spec : {M : Type 1} → statement M
-back-spec = tie.close (tie.spec behind-requires only-last-requires returns)
+pub back_spec : {M : Type 1} → statement M
+back_spec = tie.close (tie.spec behind-requires only-last-requires returns)

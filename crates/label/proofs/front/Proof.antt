@@ -13,5 +13,5 @@ without-last-requires c κs = search rules
 returns : tie.Need-returns
 returns c = front_by _ _ _ c.before.behind.ensures c.without-last.ensures
 
-pub front-spec : {M : Type 1} → statement M
-front-spec = tie.close (tie.spec behind-requires without-last-requires returns)
+pub front_spec : {M : Type 1} → statement M
+front_spec = tie.close (tie.spec behind-requires without-last-requires returns)

@@ -23,6 +23,6 @@ returns c = mask 16 _ _ (omega arith)
 returns-2 : tie.Need-returns-2
 returns-2 c = all_left 8 _ (omega arith) (omega arith)
 
-pub only-last-spec : {M : Type 1} → statement M
-only-last-spec =
+pub only_last_spec : {M : Type 1} → statement M
+only_last_spec =
     tie.close (tie.spec mul-result cast-result shl-result sub-result returns returns-2)

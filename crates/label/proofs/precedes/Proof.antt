@@ -6,5 +6,5 @@ use Rattle.label.proofs.precedes.Tie as tie
 returns : tie.Need-returns
 returns c = in_order _ _
 
-pub precedes-spec : {M : Type 1} → statement M
-precedes-spec = tie.close (tie.spec returns)
+pub precedes_spec : {M : Type 1} → statement M
+precedes_spec = tie.close (tie.spec returns)

@@ -1,7 +1,7 @@
 -- `label::without_last` meets its contract: below eight symbols by `shift-out`, from there on because nothing of the label is left.
 use native.Mathlib.Omega.{arith}
 use borrow.Author.Rules.{rules}
-use Rattle.label.proofs.Shifts.{shift-out, none_left}
+use Rattle.label.proofs.Shifts.{shift_out, none_left}
 use Rattle.label.proofs.without_last.Statement.{statement}
 use Rattle.label.proofs.without_last.Tie as tie
 
@@ -15,10 +15,10 @@ shr-result : tie.Need-overflow-shr-result
 shr-result c = search rules
 
 returns : tie.Need-returns
-returns c = shift-out _ _
+returns c = shift_out _ _
 
 returns-2 : tie.Need-returns-2
 returns-2 c = none_left 8 _ (omega arith) (omega arith)
 
-pub without-last-spec : {M : Type 1} → statement M
-without-last-spec = tie.close (tie.spec mul-result cast-result shr-result returns returns-2)
+pub without_last_spec : {M : Type 1} → statement M
+without_last_spec = tie.close (tie.spec mul-result cast-result shr-result returns returns-2)

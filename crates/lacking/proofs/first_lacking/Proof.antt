@@ -7,7 +7,7 @@ use borrow.Author.Rules.{rules}
 use borrow.Author.Tests.{not-true, not-false}
 use Rattle.lacking.proofs.Passing.{settled}
 use Rattle.lacking.proofs.Chains.{ahead}
-use Rattle.lacking.proofs.Lacking.{InLacking, lacking-none, lacking-more, lacking-hit, lacking-end}
+use Rattle.lacking.proofs.Lacking.{InLacking, lacking_none, lacking_more, lacking_hit, lacking_end}
 use Rattle.lacking.proofs.first_lacking.Statement.{statement}
 use Rattle.lacking.proofs.first_lacking.Tie as tie
 
@@ -38,30 +38,30 @@ wide-requires-2 c κs = search rules
 mul-in-run : tie.Need-overflow-mul-in-run invariant-loop decreases-loop
 mul-in-run c =
     let asked = c.before.before.before.before.requires in
-    omega (arith, c.wide2.ensures.0, asked.rows.few, asked.jLt, asked.rows.endings.le _ asked.jLt)
+    omega (arith, c.wide2.ensures.0, asked.rows.few, asked.j_lt, asked.rows.endings.le _ asked.j_lt)
 
 element-copy-out-in-run : tie.Need-element-copy-out-in-run invariant-loop decreases-loop
 element-copy-out-in-run c =
     let asked = c.before.before.before.before.requires in
-    omega (arith, c.wide2.ensures.0, asked.rows.few, asked.jLt, asked.rows.endings.le _ asked.jLt)
+    omega (arith, c.wide2.ensures.0, asked.rows.few, asked.j_lt, asked.rows.endings.le _ asked.j_lt)
 
 in-run-requires : tie.Need-in-run-requires invariant-loop decreases-loop
 in-run-requires c κs =
     let asked = c.before.before.before.before.before.requires in
-    omega (arith, asked.rows.few, asked.iLt)
+    omega (arith, asked.rows.few, asked.i_lt)
 
 returns : tie.Need-returns invariant-loop decreases-loop
 returns c =
-    let at-l = c.before.before.before in
-    let at-k = at-l.before.before in
-    settled at-k.before.before.requires at-k.wide.ensures.0 at-l.wide2.ensures.0
+    let at_l = c.before.before.before in
+    let at_k = at_l.before.before in
+    settled at_k.before.before.requires at_k.wide.ensures.0 at_l.wide2.ensures.0
     (sym c.before.in-run.ensures ∙ c.if1.true)
 
 loop-holds : tie.Need-loop-init invariant-loop decreases-loop
 loop-holds c =
-    let at-l = c.before.before.before in
-    let at-k = at-l.before.before in
-    lacking-none at-k.before.before.requires at-k.wide.ensures.0 at-l.wide2.ensures.0
+    let at_l = c.before.before.before in
+    let at_k = at_l.before.before in
+    lacking_none at_k.before.before.requires at_k.wide.ensures.0 at_l.wide2.ensures.0
 
 mul-a : tie.Need-overflow-mul-a invariant-loop decreases-loop
 mul-a c = search rules
@@ -79,10 +79,10 @@ in-run-requires-2 c κs = search rules
 
 returns-2 : tie.Need-returns-2 invariant-loop decreases-loop
 returns-2 c =
-    let at-reach = c.before.before in
-    let turn = at-reach.before.before in
+    let at_reach = c.before.before in
+    let turn = at_reach.before.before in
     let inv = turn.before.loop.invariant in
-    lacking-hit inv turn.loop-test.true refl (at-reach.reach.ensures _ inv.asked.chains)
+    lacking_hit inv turn.loop-test.true refl (at_reach.reach.ensures _ inv.asked.chains)
     (sym c.before.in-run2.ensures ∙ not-true _ c.if2.true)
 
 mul-wide-3 : tie.Need-overflow-mul-wide-3 invariant-loop decreases-loop
@@ -102,17 +102,17 @@ loop-less c =
 loop-again : tie.Need-loop-preserved invariant-loop decreases-loop
 loop-again c =
     let test = c.before.before in
-    let at-reach = test.before.before in
-    let turn = at-reach.before.before in
+    let at_reach = test.before.before in
+    let turn = at_reach.before.before in
     let inv = turn.before.loop.invariant in
-    lacking-more inv turn.loop-test.true refl (at-reach.reach.ensures _ inv.asked.chains)
+    lacking_more inv turn.loop-test.true refl (at_reach.reach.ensures _ inv.asked.chains)
     (sym test.before.in-run2.ensures ∙ not-false _ test.if2.false) c.wide3.ensures.0
 
 returns-3 : tie.Need-returns-3 invariant-loop decreases-loop
-returns-3 c = lacking-end c.before.loop.invariant c.loop-test.false
+returns-3 c = lacking_end c.before.loop.invariant c.loop-test.false
 
-pub first-lacking-spec : {M : Type 1} → statement M
-first-lacking-spec =
+pub first_lacking_spec : {M : Type 1} → statement M
+first_lacking_spec =
     tie.close
     (tie.spec
     invariant-loop

@@ -1,6 +1,6 @@
 -- `lacking::in_run` meets its contract, by its two ways out.
 use borrow.Author.Tests.{lt-ltb, le-ltb}
-use Rattle.lacking.specs.inner.Rows.{inRun}
+use Rattle.lacking.specs.Inner.Rows.{in_run}
 use borrow.Author.Rules.{rules}
 use Rattle.lacking.proofs.in_run.Statement.{statement}
 use Rattle.lacking.proofs.in_run.Tie as tie
@@ -12,12 +12,12 @@ element-copy-out-result : tie.Need-element-copy-out-result
 element-copy-out-result c = search rules
 
 returns : tie.Need-returns
-unfolding inRun
+unfolding in_run
 returns c = simp (lt-ltb _ _ c.before.if1.true)
 
 returns-2 : tie.Need-returns-2
-unfolding inRun
+unfolding in_run
 returns-2 c = simp (le-ltb _ _ c.if1.false)
 
-pub in-run-spec : {M : Type 1} → statement M
-in-run-spec = tie.close (tie.spec mul-result element-copy-out-result returns returns-2)
+pub in_run_spec : {M : Type 1} → statement M
+in_run_spec = tie.close (tie.spec mul-result element-copy-out-result returns returns-2)

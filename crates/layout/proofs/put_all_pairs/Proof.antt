@@ -4,14 +4,14 @@ use Prim.Native.Nat.{◌-◌, ◌*◌}
 use native.Mathlib.Omega.{arith}
 use lib.ListN.{length}
 use borrow.Author.Rules.{rules}
-use Rattle.layout.proofs.AllPieces.{InAll, all_none, row_room, row_more, all_room, pairs-more, all_end, step_words}
-use Rattle.takers.specs.inner.Pieces.{stepPairs}
+use Rattle.layout.proofs.AllPieces.{InAll, all_none, row_room, row_more, all_room, pairs_more, all_end, step_words}
+use Rattle.takers.specs.Inner.Pieces.{step_pairs}
 use Rattle.layout.proofs.put_all_pairs.Statement.{statement}
 use Rattle.layout.proofs.put_all_pairs.Tie as tie
 
 abbrev invariant-loop : tie.invariant-loop
 invariant-loop words counts n labels map section₀ at w to₀ lo₀ row₀ t₀ section to lo row t =
-    (InAll map labels n (stepPairs map labels n) 2 at section₀ section to lo t) × (row ≡ t * length labels)
+    (InAll map labels n (step_pairs map labels n) 2 at section₀ section to lo t) × (row ≡ t * length labels)
 
 abbrev decreases-loop : tie.decreases-loop
 decreases-loop words counts n labels map section₀ at w to₀ lo₀ row₀ t₀ section to lo row t = n - t
@@ -52,16 +52,16 @@ put-pairs-requires c κs =
 
 add-lo : tie.Need-overflow-add-lo invariant-loop decreases-loop
 add-lo c =
-    let at-put = c.before.before in
-    let at_wide = at-put.before.before in
+    let at_put = c.before.before in
+    let at_wide = at_put.before.before in
     let turn = at_wide.before.before.before in
     let entry = turn.before.before.before.before.before in
     omega (arith, (step_words entry.requires.1 (search rules) turn.loop.invariant.0.lo-is at_wide.wide.ensures.0).inside)
 
 add_row : tie.Need-overflow-add-row invariant-loop decreases-loop
 add_row c =
-    let at-put = c.before.before in
-    let at_wide = at-put.before.before in
+    let at_put = c.before.before in
+    let at_wide = at_put.before.before in
     let turn = at_wide.before.before.before in
     let entry = turn.before.before.before.before.before in
     omega (arith, row_room entry.requires.0 turn.loop.invariant.1 (search rules))
@@ -74,12 +74,12 @@ loop-less c = search rules
 
 loop-again : tie.Need-loop-preserved invariant-loop decreases-loop
 loop-again c =
-    let at-put = c.before.before in
-    let at_wide = at-put.before.before in
+    let at_put = c.before.before in
+    let at_wide = at_put.before.before in
     let turn = at_wide.before.before.before in
     let entry = turn.before.before.before.before.before in (
-      pairs-more entry.requires.1 turn.loop.invariant.0 (search rules) at_wide.wide.ensures.0 turn.loop.invariant.1
-          at-put.put-pairs.ensures,
+      pairs_more entry.requires.1 turn.loop.invariant.0 (search rules) at_wide.wide.ensures.0 turn.loop.invariant.1
+          at_put.put-pairs.ensures,
       row_more _ _ turn.loop.invariant.1,
     )
 
@@ -89,8 +89,8 @@ same_length c = c.before.loop.invariant.0.len
 returns : tie.Need-returns invariant-loop decreases-loop
 returns c = all_end c.before.loop.invariant.0 (search rules)
 
-pub put-all-pairs-spec : {M : Type 1} → statement M
-put-all-pairs-spec =
+pub put_all_pairs_spec : {M : Type 1} → statement M
+put_all_pairs_spec =
     tie.close
     (tie.spec
     invariant-loop

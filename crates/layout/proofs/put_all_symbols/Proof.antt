@@ -2,14 +2,14 @@
 use Prim.Native.Nat.{◌-◌}
 use native.Mathlib.Omega.{arith}
 use borrow.Author.Rules.{rules}
-use Rattle.layout.proofs.AllPieces.{InAll, all_none, all_room, symbols-more, all_end, step_words}
-use Rattle.takers.specs.inner.Pieces.{stepSymbols}
+use Rattle.layout.proofs.AllPieces.{InAll, all_none, all_room, symbols_more, all_end, step_words}
+use Rattle.takers.specs.Inner.Pieces.{step_symbols}
 use Rattle.layout.proofs.put_all_symbols.Statement.{statement}
 use Rattle.layout.proofs.put_all_symbols.Tie as tie
 
 abbrev invariant-loop : tie.invariant-loop
 invariant-loop words counts n labels map section₀ at to₀ lo₀ t₀ section to lo t =
-    InAll map labels n (stepSymbols map labels n) 1 at section₀ section to lo t
+    InAll map labels n (step_symbols map labels n) 1 at section₀ section to lo t
 
 abbrev decreases-loop : tie.decreases-loop
 decreases-loop words counts n labels map section₀ at to₀ lo₀ t₀ section to lo t = n - t
@@ -49,8 +49,8 @@ put-symbols-requires c κs =
 
 add-lo : tie.Need-overflow-add-lo invariant-loop decreases-loop
 add-lo c =
-    let at-put = c.before.before in
-    let at_wide = at-put.before.before in
+    let at_put = c.before.before in
+    let at_wide = at_put.before.before in
     let turn = at_wide.before.before.before in
     let entry = turn.before.before.before.before.before in
     omega (arith, (step_words entry.requires.1 (search rules) turn.loop.invariant.lo-is at_wide.wide.ensures.0).inside)
@@ -63,11 +63,11 @@ loop-less c = search rules
 
 loop-again : tie.Need-loop-preserved invariant-loop decreases-loop
 loop-again c =
-    let at-put = c.before.before in
-    let at_wide = at-put.before.before in
+    let at_put = c.before.before in
+    let at_wide = at_put.before.before in
     let turn = at_wide.before.before.before in
     let entry = turn.before.before.before.before.before in
-    symbols-more entry.requires.1 turn.loop.invariant (search rules) at_wide.wide.ensures.0 at-put.put-symbols.ensures
+    symbols_more entry.requires.1 turn.loop.invariant (search rules) at_wide.wide.ensures.0 at_put.put-symbols.ensures
 
 same_length : tie.Need-same-length invariant-loop decreases-loop
 same_length c = c.before.loop.invariant.len
@@ -75,8 +75,8 @@ same_length c = c.before.loop.invariant.len
 returns : tie.Need-returns invariant-loop decreases-loop
 returns c = all_end c.before.loop.invariant (search rules)
 
-pub put-all-symbols-spec : {M : Type 1} → statement M
-put-all-symbols-spec =
+pub put_all_symbols_spec : {M : Type 1} → statement M
+put_all_symbols_spec =
     tie.close
     (tie.spec
     invariant-loop

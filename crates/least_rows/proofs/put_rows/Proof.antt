@@ -1,11 +1,11 @@
 -- `least_rows::put_rows` makes the rows from the last depth to the first and saves each. The loop's invariant: the row of depth t holds the
 -- least ranks, and the depths from t on have their costs saved. The measure is t.
 use borrow.Author.Rules.{rules}
-use Rattle.section_file.proofs.Seen.{goals-at, header}
-use Rattle.sweep.proofs.Sweeping.{InSweep, sweep-start, sweep-fits, sweep-more}
+use Rattle.section_file.proofs.Seen.{goals_at, header}
+use Rattle.sweep.proofs.Sweeping.{InSweep, sweep_start, sweep_fits, sweep_more}
 use Rattle.sweep.proofs.Sweeping as sweep
-use Rattle.passes.proofs.Passing.{sweep-asked}
-use Rattle.least_rows.proofs.AllRows.{RowsFrom, save-asked, goals-count, last-asked, rows_none, rows_more, rows_end}
+use Rattle.passes.proofs.Passing.{sweep_asked}
+use Rattle.least_rows.proofs.AllRows.{RowsFrom, save_asked, goals_count, last_asked, rows_none, rows_more, rows_end}
 use Rattle.least_rows.proofs.put_rows.Statement.{statement}
 use Rattle.least_rows.proofs.put_rows.Tie as tie
 
@@ -20,13 +20,13 @@ put-goals-side-requires : tie.Need-put-goals-side-requires invariant-loop decrea
 put-goals-side-requires c κs = search rules
 
 sub-save-side : tie.Need-overflow-sub-save-side invariant-loop decreases-loop
-sub-save-side c = (goals-at c.before.before.before.before.before.before.before.before.requires.0).le
+sub-save-side c = (goals_at c.before.before.before.before.before.before.before.before.requires.0).le
 
 save-side-requires : tie.Need-save-side-requires invariant-loop decreases-loop
 save-side-requires c κs =
     let goals = c.before.before.before.before in
     let entry = goals.before.before.before.before.before in
-    last-asked _ _ entry.requires.0 goals.put-goals-side.ensures.0 entry.requires.5
+    last_asked _ _ entry.requires.0 goals.put-goals-side.ensures.0 entry.requires.5
 
 loop-holds : tie.Need-loop-init invariant-loop decreases-loop
 loop-holds c =
@@ -34,8 +34,8 @@ loop-holds c =
     let entry = goals.before.before.before.before.before in
     let S = entry.requires.0 in
     let G = goals.put-goals-side.ensures in
-    let I = sweep-start S (sweep-asked S entry.requires.1 G.0 G.1 G.2) in
-    (I, rows_more I (rows_none S entry.requires.5) c.save-side.ensures (goals-count S) (search rules))
+    let I = sweep_start S (sweep_asked S entry.requires.1 G.0 G.1 G.2) in
+    (I, rows_more I (rows_none S entry.requires.5) c.save-side.ensures (goals_count S) (search rules))
 
 sub-t : tie.Need-overflow-sub-t invariant-loop decreases-loop
 sub-t c = search rules
@@ -71,8 +71,8 @@ sub-before c =
     let entry = goals.before.before.before.before.before in
     let S = entry.requires.0 in
     let G = goals.put-goals-side.ensures in
-    let A = sweep-asked S entry.requires.1 G.0 G.1 G.2 in
-    sweep-fits S A head.loop.invariant.0 turn.loop-test.true c.wide.ensures.0
+    let A = sweep_asked S entry.requires.1 G.0 G.1 G.2 in
+    sweep_fits S A head.loop.invariant.0 turn.loop-test.true c.wide.ensures.0
 
 lower-side-requires : tie.Need-lower-side-requires invariant-loop decreases-loop
 lower-side-requires c κs =
@@ -83,9 +83,9 @@ lower-side-requires c κs =
     let entry = goals.before.before.before.before.before in
     let S = entry.requires.0 in
     let G = goals.put-goals-side.ensures in
-    let A = sweep-asked S entry.requires.1 G.0 G.1 G.2 in
+    let A = sweep_asked S entry.requires.1 G.0 G.1 G.2 in
     let I = head.loop.invariant.0 in
-    (S, sweep.sweep-asked S A I turn.loop-test.true wide.wide.ensures.0, I.evenLong, I.oddLong)
+    (S, sweep.sweep-asked S A I turn.loop-test.true wide.wide.ensures.0, I.even_long, I.odd_long)
 
 add-wide-3 : tie.Need-overflow-add-wide-3 invariant-loop decreases-loop
 add-wide-3 c =
@@ -118,11 +118,11 @@ save-side-requires-2 c κs =
     let entry = goals.before.before.before.before.before in
     let S = entry.requires.0 in
     let G = goals.put-goals-side.ensures in
-    let A = sweep-asked S entry.requires.1 G.0 G.1 G.2 in
+    let A = sweep_asked S entry.requires.1 G.0 G.1 G.2 in
     let D = lower.lower-side.ensures in
     let I = head.loop.invariant in
-    let J = sweep-more S A I.0 turn.loop-test.true wide.wide.ensures.0 D.0 D.1 D.2 in
-    save-asked S J.t-le c.before.wide2.ensures.0 D.0.long J.small I.1.long
+    let J = sweep_more S A I.0 turn.loop-test.true wide.wide.ensures.0 D.0 D.1 D.2 in
+    save_asked S J.t-le c.before.wide2.ensures.0 D.0.long J.small I.1.long
 
 loop-less : tie.Need-loop-smaller invariant-loop decreases-loop
 loop-less c = search rules
@@ -137,10 +137,10 @@ loop-again c =
     let entry = goals.before.before.before.before.before in
     let S = entry.requires.0 in
     let G = goals.put-goals-side.ensures in
-    let A = sweep-asked S entry.requires.1 G.0 G.1 G.2 in
+    let A = sweep_asked S entry.requires.1 G.0 G.1 G.2 in
     let D = lower.lower-side.ensures in
     let I = head.loop.invariant in
-    let J = sweep-more S A I.0 turn.loop-test.true wide.wide.ensures.0 D.0 D.1 D.2 in
+    let J = sweep_more S A I.0 turn.loop-test.true wide.wide.ensures.0 D.0 D.1 D.2 in
     (J, rows_more J I.1 c.save-side2.ensures c.before.before.wide2.ensures.0 (search rules))
 
 returns : tie.Need-returns invariant-loop decreases-loop
@@ -149,10 +149,10 @@ returns c =
     let goals = head.before.before.before.before.before.before in
     let entry = goals.before.before.before.before.before in
     let I = head.loop.invariant in
-    (rows_end entry.requires.0 goals.put-goals-side.ensures.0 I.1 (search rules), I.0.evenLong, I.0.oddLong)
+    (rows_end entry.requires.0 goals.put-goals-side.ensures.0 I.1 (search rules), I.0.even_long, I.0.odd_long)
 
-pub put-rows-spec : {M : Type 1} → statement M
-put-rows-spec =
+pub put_rows_spec : {M : Type 1} → statement M
+put_rows_spec =
     tie.close
     (tie.spec
     invariant-loop

@@ -2,8 +2,8 @@
 -- many are left.
 use borrow.Author.Rules.{rules}
 use Prim.Native.Nat.{◌-◌}
-use Rattle.least_rows.specs.inner.Rows.{RowSaved}
-use Rattle.least_rows.proofs.Saving.{save-start, save-more, save-end}
+use Rattle.least_rows.specs.Inner.Rows.{RowSaved}
+use Rattle.least_rows.proofs.Saving.{save_start, save_more, save_end}
 use Rattle.least_rows.proofs.save_row.Statement.{statement}
 use Rattle.least_rows.proofs.save_row.Tie as tie
 
@@ -17,7 +17,7 @@ mul-first : tie.Need-overflow-mul-first invariant-loop decreases-loop
 mul-first c = search rules
 
 loop-holds : tie.Need-loop-init invariant-loop decreases-loop
-loop-holds c = save-start c.requires
+loop-holds c = save_start c.requires
 
 mul-cost-of : tie.Need-overflow-mul-cost-of invariant-loop decreases-loop
 mul-cost-of c = search rules
@@ -50,13 +50,13 @@ loop-again : tie.Need-loop-preserved invariant-loop decreases-loop
 loop-again c =
     let turn = c.before.before in
     let head = turn.before in
-    save-more head.before.requires head.loop.invariant turn.loop-test.true c.cost-of.ensures
+    save_more head.before.requires head.loop.invariant turn.loop-test.true c.cost-of.ensures
 
 returns : tie.Need-returns invariant-loop decreases-loop
-returns c = save-end c.before.loop.invariant (search rules)
+returns c = save_end c.before.loop.invariant (search rules)
 
-pub save-row-spec : {M : Type 1} → statement M
-save-row-spec =
+pub save_row_spec : {M : Type 1} → statement M
+save_row_spec =
     tie.close
     (tie.spec
     invariant-loop

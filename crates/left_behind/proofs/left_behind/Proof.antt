@@ -3,8 +3,8 @@
 use borrow.Author.Rules.{rules}
 use Prim.Native.Nat.{◌-◌}
 use native.Mathlib.Omega.{arith}
-use Rattle.trellis.specs.Bounds.{mostStates}
-use Rattle.left_behind.proofs.Rows.{behind-last, RowTaken, taken_start, taken_more, behind-row}
+use Rattle.trellis.specs.Bounds.{most_states}
+use Rattle.left_behind.proofs.Rows.{behind_last, RowTaken, taken_start, taken_more, behind_row}
 use Rattle.left_behind.proofs.left_behind.Statement.{statement}
 use Rattle.left_behind.proofs.left_behind.Tie as tie
 
@@ -12,13 +12,13 @@ abbrev invariant-loop : tie.invariant-loop
 invariant-loop costs blocks b left₀ first s₀ left s = RowTaken costs first left s
 
 abbrev decreases-loop : tie.decreases-loop
-decreases-loop costs blocks b left₀ first s₀ left s = mostStates - s
+decreases-loop costs blocks b left₀ first s₀ left s = most_states - s
 
 add-if1 : tie.Need-overflow-add-if1 invariant-loop decreases-loop
 add-if1 c = search rules
 
 returns : tie.Need-returns invariant-loop decreases-loop
-returns c = search (rules, behind-last)
+returns c = search (rules, behind_last)
 
 add-first : tie.Need-overflow-add-first invariant-loop decreases-loop
 add-first c = search rules
@@ -54,10 +54,10 @@ loop-again : tie.Need-loop-preserved invariant-loop decreases-loop
 loop-again c = search (rules, taken_more)
 
 returns-2 : tie.Need-returns-2 invariant-loop decreases-loop
-returns-2 c = behind-row c.before.loop.invariant (search rules) (search rules) (omega arith)
+returns-2 c = behind_row c.before.loop.invariant (search rules) (search rules) (omega arith)
 
-pub left-behind-spec : {M : Type 1} → statement M
-left-behind-spec =
+pub left_behind_spec : {M : Type 1} → statement M
+left_behind_spec =
     tie.close
     (tie.spec
     invariant-loop

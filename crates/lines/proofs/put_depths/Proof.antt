@@ -1,7 +1,7 @@
 -- `lines::put_depths` puts a line for each depth. The loop's invariant: the lines of the depths passed are put. The measure is how many
 -- are left.
 use Prim.Native.Nat.{suc, ◌-◌}
-use Rattle.lines.proofs.Lines.{Depths, depths-start, depths-next, depths-all}
+use Rattle.lines.proofs.Lines.{Depths, depths_start, depths_next, depths_all}
 use borrow.Author.Rules.{rules}
 use Rattle.lines.proofs.put_depths.Statement.{statement}
 use Rattle.lines.proofs.put_depths.Tie as tie
@@ -13,7 +13,7 @@ abbrev decreases-loop : tie.decreases-loop
 decreases-loop sizes n text₀ at end₀ t₀ t8 text end t = suc n - t
 
 loop-holds : tie.Need-loop-init invariant-loop decreases-loop
-loop-holds c = depths-start
+loop-holds c = depths_start
 
 add-number : tie.Need-overflow-add-number invariant-loop decreases-loop
 add-number c = search rules
@@ -48,17 +48,17 @@ loop-again c =
     let e = p.before.before.before.before in
     let w = e.before in
     let l = w.before.before in
-    depths-next l.before.loop.invariant l.loop-test.true w.before.number.ensures w.wide.ensures.0
+    depths_next l.before.loop.invariant l.loop-test.true w.before.number.ensures w.wide.ensures.0
     e.edges-entering.ensures p.put-line.ensures
 
 same_length : tie.Need-same-length invariant-loop decreases-loop
 same_length c = c.before.loop.invariant.put.len
 
 returns : tie.Need-returns invariant-loop decreases-loop
-returns c = depths-all c.before.loop.invariant c.loop-test.false
+returns c = depths_all c.before.loop.invariant c.loop-test.false
 
-pub put-depths-spec : {M : Type 1} → statement M
-put-depths-spec =
+pub put_depths_spec : {M : Type 1} → statement M
+put_depths_spec =
     tie.close
     (tie.spec
     invariant-loop

@@ -1,5 +1,5 @@
 -- `lines::put_sizes` puts the sizes, the depths and the sums one behind another.
-use Rattle.lines.proofs.Lines.{sizes-put}
+use Rattle.lines.proofs.Lines.{sizes_put}
 use borrow.Author.Rules.{rules}
 use Rattle.lines.proofs.put_sizes.Statement.{statement}
 use Rattle.lines.proofs.put_sizes.Tie as tie
@@ -49,12 +49,12 @@ returns c =
     let y = z.before.before in
     let x = y.before.before in
     let a = x.before.before.before.before in
-    sizes-put a.args.sizes.now a.args.words y.before.number2.ensures y.wide2.ensures.0
+    sizes_put a.args.sizes.now a.args.words y.before.number2.ensures y.wide2.ensures.0
     x.before.number.ensures x.wide.ensures.0
     z.before.number3.ensures z.wide3.ensures.0 p.put-line.ensures d.put-depths.ensures s.put-sums.ensures
 
-pub put-sizes-spec : {M : Type 1} → statement M
-put-sizes-spec =
+pub put_sizes_spec : {M : Type 1} → statement M
+put_sizes_spec =
     tie.close
     (tie.spec
     number-requires

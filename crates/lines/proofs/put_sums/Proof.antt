@@ -1,5 +1,5 @@
 -- `lines::put_sums` puts the lines of both sums of the section's counts.
-use Rattle.lines.proofs.Lines.{sums-put}
+use Rattle.lines.proofs.Lines.{sums_put}
 use borrow.Author.Rules.{rules}
 use Rattle.lines.proofs.put_sums.Statement.{statement}
 use Rattle.lines.proofs.put_sums.Tie as tie
@@ -38,11 +38,11 @@ returns c =
     let p = s.before.before.before in
     let e = p.before.before.before.before in
     let a = e.before.before.before in
-    sums-put a.args.sizes.now e.additions-of.ensures.0 s.selections-of.ensures.0 p.put-line.ensures
+    sums_put a.args.sizes.now e.additions-of.ensures.0 s.selections-of.ensures.0 p.put-line.ensures
     q.put-line2.ensures
 
-pub put-sums-spec : {M : Type 1} → statement M
-put-sums-spec =
+pub put_sums_spec : {M : Type 1} → statement M
+put_sums_spec =
     tie.close
     (tie.spec
     additions-of-requires

@@ -1,6 +1,6 @@
 -- `listing::listing` makes the text in a buffer of its own, which has room for every text, and copies it from there.
 use native.Mathlib.Omega.{arith}
-use Rattle.listing.proofs.Outcomes.{end-inside, end-taken, listed}
+use Rattle.listing.proofs.Outcomes.{end_inside, end_taken, listed}
 use borrow.Author.Rules.{rules}
 use Rattle.listing.proofs.listing.Statement.{statement}
 use Rattle.listing.proofs.listing.Tie as tie
@@ -13,11 +13,11 @@ put-text-requires c κs = search rules
 
 array-share-prefix-made : tie.Need-array-share-prefix-made
 array-share-prefix-made c = let m = c.before.put-text.ensures in
-    end-inside m.put (omega (arith, m.short))
+    end_inside m.put (omega (arith, m.short))
 
 slice-aggregate-put-whole : tie.Need-slice-aggregate-put-whole
 slice-aggregate-put-whole c = let m = c.before.before.put-text.ensures in
-    end-taken m.put (omega (arith, m.short))
+    end_taken m.put (omega (arith, m.short))
 
 put-whole-requires : tie.Need-put-whole-requires
 put-whole-requires c κs = search rules
@@ -32,8 +32,8 @@ returns c =
     let a = m.before.before.before.before in
     listed a.args.file.now a.args.text.now m.put-text.ensures (search rules) w.put_whole.ensures
 
-pub listing-spec : {M : Type 1} → statement M
-listing-spec =
+pub listing_spec : {M : Type 1} → statement M
+listing_spec =
     tie.close
     (tie.spec
     slice-aggregate-put-text

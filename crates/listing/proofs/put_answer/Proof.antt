@@ -1,5 +1,5 @@
 -- `listing::put_answer` puts the sizes where the answer's number is 7, and else the line of the refusal.
-use Rattle.listing.proofs.Answering.{sizes-answered, refusal-answered}
+use Rattle.listing.proofs.Answering.{sizes_answered, refusal_answered}
 use borrow.Author.Rules.{rules}
 use Rattle.listing.proofs.put_answer.Statement.{statement}
 use Rattle.listing.proofs.put_answer.Tie as tie
@@ -19,7 +19,7 @@ returns c =
     let t = p.before.before in
     let o = t.before.before in
     let a = o.before.before.before in
-    sizes-answered o.outcome.ensures a.args.words a.args.sizes.now t.if1.true p.put-sizes.ensures
+    sizes_answered o.outcome.ensures a.args.words a.args.sizes.now t.if1.true p.put-sizes.ensures
 
 put-refusal-requires : tie.Need-put-refusal-requires
 put-refusal-requires c κs = search rules
@@ -33,11 +33,11 @@ returns-2 c =
     let t = p.before.before in
     let o = t.before.before in
     let a = o.before.before.before in
-    refusal-answered o.outcome.ensures a.args.words a.args.sizes.now t.if1.false
+    refusal_answered o.outcome.ensures a.args.words a.args.sizes.now t.if1.false
     (p.put-refusal.ensures _ o.outcome.ensures)
 
-pub put-answer-spec : {M : Type 1} → statement M
-put-answer-spec =
+pub put_answer_spec : {M : Type 1} → statement M
+put_answer_spec =
     tie.close
     (tie.spec
     outcome-requires

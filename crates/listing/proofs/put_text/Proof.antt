@@ -1,5 +1,5 @@
 -- `listing::put_text` puts the refusal of a file that is too long, or what the answer of measuring comes to.
-use Rattle.listing.proofs.Outcomes.{made-long, made-measured}
+use Rattle.listing.proofs.Outcomes.{made_long, made_measured}
 use borrow.Author.Rules.{rules}
 use Rattle.listing.proofs.put_text.Statement.{statement}
 use Rattle.listing.proofs.put_text.Tie as tie
@@ -18,7 +18,7 @@ returns c =
     let p = c.before.before in
     let o = p.before in
     let t = o.before.before in
-    made-long t.before.before.before.args.file.now t.if1.true (p.put-refusal.ensures _ o.outcome.ensures)
+    made_long t.before.before.before.args.file.now t.if1.true (p.put-refusal.ensures _ o.outcome.ensures)
 
 slice-aggregate-measure : tie.Need-slice-aggregate-measure
 slice-aggregate-measure c = search rules
@@ -49,11 +49,11 @@ returns-2 c = let p = c.before.before in
     let w = p.before.before.before in
     let m = w.before.before.before.before in
     let t = m.before.before.before in
-    made-measured t.before.before.before.args.file.now t.if1.false m.measure.ensures
+    made_measured t.before.before.before.args.file.now t.if1.false m.measure.ensures
     w.before.word_count.ensures w.wide.ensures.0 p.put-answer.ensures
 
-pub put-text-spec : {M : Type 1} → statement M
-put-text-spec =
+pub put_text_spec : {M : Type 1} → statement M
+put_text_spec =
     tie.close
     (tie.spec
     outcome-requires

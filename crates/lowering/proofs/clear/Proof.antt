@@ -2,21 +2,21 @@
 -- are left.
 use borrow.Author.Rules.{rules}
 use Prim.Native.Nat.{◌-◌}
-use Rattle.trellis.specs.Bounds.{mostWords}
-use Rattle.paths.specs.inner.Ranked.{topRank}
-use Rattle.lowering.specs.inner.Loops.{Cleared}
-use Rattle.lowering.proofs.Lowered.{clear-start, clear-more, clear-end}
+use Rattle.trellis.specs.Bounds.{most_words}
+use Rattle.paths.specs.Inner.Ranked.{top_rank}
+use Rattle.lowering.specs.Inner.Loops.{Cleared}
+use Rattle.lowering.proofs.Lowered.{clear_start, clear_more, clear_end}
 use Rattle.lowering.proofs.clear.Statement.{statement}
 use Rattle.lowering.proofs.clear.Tie as tie
 
 abbrev invariant-loop : tie.invariant-loop
-invariant-loop count row₀ v₀ row v = Cleared mostWords topRank row v
+invariant-loop count row₀ v₀ row v = Cleared most_words top_rank row v
 
 abbrev decreases-loop : tie.decreases-loop
 decreases-loop count row₀ v₀ row v = count - v
 
 loop-holds : tie.Need-loop-init invariant-loop decreases-loop
-loop-holds c = clear-start (search rules)
+loop-holds c = clear_start (search rules)
 
 mul-row : tie.Need-overflow-mul-row invariant-loop decreases-loop
 mul-row c = search rules
@@ -31,10 +31,10 @@ loop-less : tie.Need-loop-smaller invariant-loop decreases-loop
 loop-less c = search rules
 
 loop-again : tie.Need-loop-preserved invariant-loop decreases-loop
-loop-again c = clear-more c.before.loop.invariant (search rules)
+loop-again c = clear_more c.before.loop.invariant (search rules)
 
 returns : tie.Need-returns invariant-loop decreases-loop
-returns c = clear-end c.before.loop.invariant (search rules)
+returns c = clear_end c.before.loop.invariant (search rules)
 
 pub clear_spec : {M : Type 1} → statement M
 clear_spec =

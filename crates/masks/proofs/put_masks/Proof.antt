@@ -3,8 +3,8 @@
 use Prim.Native.Nat.{◌-◌, ◌≤◌}
 use lib.ListN.{length}
 use borrow.Author.Rules.{rules}
-use Rattle.masks.specs.inner.Masks.{MasksPut}
-use Rattle.masks.proofs.Masks.{masks-start, masks-more, masks-end}
+use Rattle.masks.specs.Inner.Masks.{MasksPut}
+use Rattle.masks.proofs.Masks.{masks_start, masks_more, masks_end}
 use Rattle.masks.proofs.put_masks.Statement.{statement}
 use Rattle.masks.proofs.put_masks.Tie as tie
 
@@ -15,7 +15,7 @@ abbrev decreases-loop : tie.decreases-loop
 decreases-loop received erased labels masks₀ b₀ masks b = length received - b
 
 loop-holds : tie.Need-loop-init invariant-loop decreases-loop
-loop-holds c = (masks-start, search rules)
+loop-holds c = (masks_start, search rules)
 
 mul-compare : tie.Need-overflow-mul-compare invariant-loop decreases-loop
 mul-compare c = search rules
@@ -49,7 +49,7 @@ loop-again c =
     let turn = c.before.before.before.before in
     let entry = turn.before.before.before.before.before.before in
     let r = c.compare.result in (
-      masks-more {mask = r.mask} {distance = r.distance} entry.requires turn.before.loop.invariant.0 turn.loop-test.true
+      masks_more {mask = r.mask} {distance = r.distance} entry.requires turn.before.loop.invariant.0 turn.loop-test.true
           c.compare.ensures,
       search rules,
     )
@@ -58,10 +58,10 @@ same_length : tie.Need-same-length invariant-loop decreases-loop
 same_length c = c.before.loop.invariant.0.long
 
 returns : tie.Need-returns invariant-loop decreases-loop
-returns c = masks-end c.before.loop.invariant.0 c.before.loop.invariant.1 (search rules)
+returns c = masks_end c.before.loop.invariant.0 c.before.loop.invariant.1 (search rules)
 
-pub put-masks-spec : {M : Type 1} → statement M
-put-masks-spec =
+pub put_masks_spec : {M : Type 1} → statement M
+put_masks_spec =
     tie.close
     (tie.spec
     invariant-loop

@@ -1,7 +1,7 @@
 -- `numbers::total` meets its contract. The loop's invariant: the sum is that of the numbers passed. The measure is what is left of them.
 use Prim.Native.Nat.{◌+◌, ◌-◌}
 use lib.ListN.{get_or}
-use Rattle.numbers.proofs.Sums.{Summed, summed-start, summed-next, summed-all}
+use Rattle.numbers.proofs.Sums.{Summed, summed_start, summed_next, summed_all}
 use borrow.Author.Rules.{rules}
 use Rattle.numbers.proofs.total.Statement.{statement}
 use Rattle.numbers.proofs.total.Tie as tie
@@ -13,7 +13,7 @@ abbrev decreases-loop : tie.decreases-loop
 decreases-loop l at count sum₀ t₀ sum t = count - t
 
 loop-holds : tie.Need-loop-init invariant-loop decreases-loop
-loop-holds c = summed-start _ _
+loop-holds c = summed_start _ _
 
 add-number : tie.Need-overflow-add-number invariant-loop decreases-loop
 add-number c = search rules
@@ -34,13 +34,13 @@ loop-less : tie.Need-loop-smaller invariant-loop decreases-loop
 loop-less c = search rules
 
 loop-again : tie.Need-loop-preserved invariant-loop decreases-loop
-loop-again c = search (rules, summed-next)
+loop-again c = search (rules, summed_next)
 
 returns : tie.Need-returns invariant-loop decreases-loop
-returns c = summed-all c.before.loop.invariant (search rules)
+returns c = summed_all c.before.loop.invariant (search rules)
 
-pub total-spec : {M : Type 1} → statement M
-total-spec =
+pub total_spec : {M : Type 1} → statement M
+total_spec =
     tie.close
     (tie.spec
     invariant-loop

@@ -1,6 +1,6 @@
 -- `one_step::further_code` meets its contract: the parts of the code fill places of their own.
-use Rattle.edges.specs.inner.Edges.{meantEdge}
-use Rattle.one_step.proofs.Limits.{further-is}
+use Rattle.edges.specs.Inner.Edges.{meant_edge}
+use Rattle.one_step.proofs.Limits.{further_is}
 use borrow.Author.Rules.{rules}
 use Rattle.one_step.proofs.further_code.Statement.{statement}
 use Rattle.one_step.proofs.further_code.Tie as tie
@@ -30,10 +30,10 @@ add-result-3 : tie.Need-overflow-add-result-3
 add-result-3 c = search rules
 
 returns : tie.Need-returns
-returns c = let s = c.before.before in further-is s.args.code (meantEdge s.args.e) s.requires.0
+returns c = let s = c.before.before in further_is s.args.code (meant_edge s.args.e) s.requires.0
 
-pub further-code-spec : {M : Type 1} → statement M
-further-code-spec =
+pub further_code_spec : {M : Type 1} → statement M
+further_code_spec =
     tie.close
     (tie.spec
     mul-result

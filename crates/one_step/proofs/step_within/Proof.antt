@@ -5,18 +5,18 @@ use native.Mathlib.Omega.{arith}
 use Prim.Native.Nat.{◌-◌}
 use lib.ListN.{take}
 use Rattle.trellis.specs.Lists.{run}
-use Rattle.edges.specs.inner.Edges.{edgeIn}
-use Rattle.one_step.specs.inner.Steps.{candidates}
-use Rattle.one_step.specs.inner.Loops.{limited}
-use Rattle.one_step.proofs.Limits.{limited-items, stepped_same}
-use Rattle.one_step.proofs.Streaming.{Stepping, stepping-start, stepping-next, stepping-all}
+use Rattle.edges.specs.Inner.Edges.{edge_in}
+use Rattle.one_step.specs.Inner.Steps.{candidates}
+use Rattle.one_step.specs.Inner.Loops.{limited}
+use Rattle.one_step.proofs.Limits.{limited_items, stepped_same}
+use Rattle.one_step.proofs.Streaming.{Stepping, stepping_start, stepping_next, stepping_all}
 use borrow.Author.Rules.{rules}
 use Rattle.one_step.proofs.step_within.Statement.{statement}
 use Rattle.one_step.proofs.step_within.Tie as tie
 
 abbrev invariant-loop : tie.invariant-loop
 invariant-loop pairs symbols edges each rows prices t old have limit k items₀ held₀ i₀ items held i =
-    Stepping (λ x. limited limit (candidates rows prices t (run (edgeIn pairs symbols) 0 edges) x)) k old have items
+    Stepping (λ x. limited limit (candidates rows prices t (run (edge_in pairs symbols) 0 edges) x)) k old have items
     held.count held.worst i
 
 abbrev decreases-loop : tie.decreases-loop
@@ -26,7 +26,7 @@ abbrev start : tie.In-loop invariant-loop decreases-loop → tie.Start invariant
 start h = h.before.before.before.before.before
 
 loop-holds : tie.Need-loop-init invariant-loop decreases-loop
-loop-holds c = let p = c.before.before.before.requires in stepping-start p.1.some p.4
+loop-holds c = let p = c.before.before.before.requires in stepping_start p.1.some p.4
 
 mul-keep-item : tie.Need-overflow-mul-keep-item invariant-loop decreases-loop
 mul-keep-item c = search rules
@@ -45,17 +45,17 @@ loop-less c = search rules
 
 loop-again : tie.Need-loop-preserved invariant-loop decreases-loop
 loop-again c = let h = c.before.before.before in let p = (start h).requires in
-    stepping-next h.before.loop.invariant h.loop-test.true (omega (arith, p.1.few, p.2, p.3)) c.keep-item.ensures
+    stepping_next h.before.loop.invariant h.loop-test.true (omega (arith, p.1.few, p.2, p.3)) c.keep-item.ensures
 
 returns : tie.Need-returns invariant-loop decreases-loop
 returns c = let a = c.before.before.before.before.before.args in
     stepped_same
-    (sym (limited-items a.rows.now a.prices.now a.t a.limit (run (edgeIn a.pairs.now a.symbols.now) 0 a.edges)
+    (sym (limited_items a.rows.now a.prices.now a.t a.limit (run (edge_in a.pairs.now a.symbols.now) 0 a.edges)
     (take a.have a.old.now)))
-    (stepping-all c.before.loop.invariant c.loop-test.false)
+    (stepping_all c.before.loop.invariant c.loop-test.false)
 
-pub step-within-spec : {M : Type 1} → statement M
-step-within-spec =
+pub step_within_spec : {M : Type 1} → statement M
+step_within_spec =
     tie.close
     (tie.spec
     invariant-loop

@@ -20,11 +20,11 @@ same_length c = search rules
 returns : tie.Need-returns
 returns c =
     let at_row = c.before.before in
-    let at-number = at_row.before.before.before.before in
-    let at_mark = at-number.before.before in
+    let at_number = at_row.before.before.before.before in
+    let at_mark = at_number.before.before in
     let entry = at_mark.before.before.before in
-    row_put entry.requires.0 at_mark.mark.ensures at-number.number.ensures at_row.put-row.ensures
+    row_put entry.requires.0 at_mark.mark.ensures at_number.number.ensures at_row.put-row.ensures
 
-pub put-depth-spec : {M : Type 1} → statement M
-put-depth-spec =
+pub put_depth_spec : {M : Type 1} → statement M
+put_depth_spec =
     tie.close (tie.spec mark-requires number-requires put-row-requires same_length returns)

@@ -1,12 +1,12 @@
 -- `outer_depths::put_outer` writes the row of depth 0 and the row of depth n, which lie apart, and sets their two counts.
 use native.Mathlib.Omega.{arith}
-use Rattle.outer_depths.proofs.OuterRows.{first-room, last_fits, last-room, put}
+use Rattle.outer_depths.proofs.OuterRows.{first_room, last_fits, last_room, put}
 use borrow.Author.Rules.{rules}
 use Rattle.outer_depths.proofs.put_outer.Statement.{statement}
 use Rattle.outer_depths.proofs.put_outer.Tie as tie
 
 put-depth-requires : tie.Need-put-depth-requires
-put-depth-requires c κs = let entry = c.before.before.before.before in (entry.requires.fewRoots, first-room entry.requires)
+put-depth-requires c κs = let entry = c.before.before.before.before in (entry.requires.few_roots, first_room entry.requires)
 
 mul-put-depth : tie.Need-overflow-mul-put-depth
 mul-put-depth c = let entry = c.before.before.before.before.before.before.before.before in omega (arith, last_fits entry.requires)
@@ -15,7 +15,7 @@ put-depth-requires-2 : tie.Need-put-depth-requires-2
 put-depth-requires-2 c κs =
     let at_first = c.before.before.before in
     let entry = at_first.before.before.before.before.before in
-    (entry.requires.fewGoals, last-room entry.requires at_first.put-depth.ensures)
+    (entry.requires.few_goals, last_room entry.requires at_first.put-depth.ensures)
 
 array-write-counts : tie.Need-array-write-counts
 array-write-counts c = search rules
@@ -36,8 +36,8 @@ returns c =
     let entry = at_first.before.before.before.before.before in
     put entry.requires at_first.put-depth.ensures at_last.put-depth2.ensures
 
-pub put-outer-spec : {M : Type 1} → statement M
-put-outer-spec =
+pub put_outer_spec : {M : Type 1} → statement M
+put_outer_spec =
     tie.close
     (tie.spec
     put-depth-requires

@@ -1,8 +1,8 @@
 -- `parity::add_row` clears one column after another: the loop keeps which are done, and that the others are as before.
 use Prim.Native.Nat.{◌-◌, ◌≤◌}
 use borrow.Author.Rules.{rules}
-use Rattle.rows.specs.inner.Reduced.{cleared}
-use Rattle.parity.proofs.Columns.{Mapped, mapped-none, mapped_next, mapped-all}
+use Rattle.rows.specs.Inner.Reduced.{cleared}
+use Rattle.parity.proofs.Columns.{Mapped, mapped_none, mapped_next, mapped_all}
 use Rattle.parity.proofs.add_row.Statement.{statement}
 use Rattle.parity.proofs.add_row.Tie as tie
 
@@ -13,7 +13,7 @@ abbrev decreases-loop : tie.decreases-loop
 decreases-loop columns₀ p z m₀ columns m = 16 - m
 
 loop-holds : tie.Need-loop-init invariant-loop decreases-loop
-loop-holds c = (mapped-none _ _, search rules)
+loop-holds c = (mapped_none _ _, search rules)
 
 mul-column-cleared : tie.Need-overflow-mul-column-cleared invariant-loop decreases-loop
 mul-column-cleared c = search rules
@@ -40,10 +40,10 @@ loop-again : tie.Need-loop-preserved invariant-loop decreases-loop
 loop-again c = (mapped_next c.before.before.before.loop.invariant.0 (search rules) c.column-cleared.ensures, search rules)
 
 returns : tie.Need-returns invariant-loop decreases-loop
-returns c = mapped-all _ _ c.before.loop.invariant.0 (search rules)
+returns c = mapped_all _ _ c.before.loop.invariant.0 (search rules)
 
-pub add-row-spec : {M : Type 1} → statement M
-add-row-spec =
+pub add_row_spec : {M : Type 1} → statement M
+add_row_spec =
     tie.close
     (tie.spec
     invariant-loop

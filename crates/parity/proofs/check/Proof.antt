@@ -3,8 +3,8 @@
 use Prim.Native.Nat.{◌-◌, ◌≤◌}
 use lib.ListN.{length}
 use borrow.Author.Rules.{rules}
-use Rattle.rows.specs.inner.Growing.{Grown}
-use Rattle.parity.proofs.Checking.{check-start, check-turn, check-stop, check-end}
+use Rattle.rows.specs.Inner.Growing.{Grown}
+use Rattle.parity.proofs.Checking.{check_start, check_turn, check_stop, check_end}
 use Rattle.parity.proofs.check.Statement.{statement}
 use Rattle.parity.proofs.check.Tie as tie
 
@@ -15,7 +15,7 @@ abbrev decreases-loop : tie.decreases-loop
 decreases-loop rows columns₀ j₀ columns j = length rows - j
 
 loop-holds : tie.Need-loop-init invariant-loop decreases-loop
-loop-holds c = (check-start _, search rules)
+loop-holds c = (check_start _, search rules)
 
 mul-syndrome : tie.Need-overflow-mul-syndrome invariant-loop decreases-loop
 mul-syndrome c = search rules
@@ -28,10 +28,10 @@ syndrome-requires c κs = c.before.before.before.loop.invariant.0.spans.checks.w
 
 returns : tie.Need-returns invariant-loop decreases-loop
 returns c =
-    let at-syndrome = c.before in
-    let turn = at-syndrome.before.before.before.before in
+    let at_syndrome = c.before in
+    let turn = at_syndrome.before.before.before.before in
     let narrow = turn.before.before.requires in
-    check-stop turn.loop.invariant.0 narrow (search rules) at-syndrome.syndrome.ensures c.if1.true
+    check_stop turn.loop.invariant.0 narrow (search rules) at_syndrome.syndrome.ensures c.if1.true
 
 take-up-requires : tie.Need-take-up-requires invariant-loop decreases-loop
 take-up-requires c κs = c.before.before.before.before.before.before.loop.invariant.0.spans.checks.wide
@@ -45,18 +45,18 @@ loop-less c = search rules
 loop-again : tie.Need-loop-preserved invariant-loop decreases-loop
 loop-again c =
     let at_test = c.before.before in
-    let at-syndrome = at_test.before in
-    let turn = at-syndrome.before.before.before.before in
+    let at_syndrome = at_test.before in
+    let turn = at_syndrome.before.before.before.before in
     let narrow = turn.before.before.requires in (
-      check-turn turn.loop.invariant.0 narrow (search rules) at-syndrome.syndrome.ensures at_test.if1.false c.take-up.ensures,
+      check_turn turn.loop.invariant.0 narrow (search rules) at_syndrome.syndrome.ensures at_test.if1.false c.take-up.ensures,
       search rules,
     )
 
 returns-2 : tie.Need-returns-2 invariant-loop decreases-loop
-returns-2 c = check-end c.before.loop.invariant.0 (search rules) (search rules)
+returns-2 c = check_end c.before.loop.invariant.0 (search rules) (search rules)
 
-pub check-spec : {M : Type 1} → statement M
-check-spec =
+pub check_spec : {M : Type 1} → statement M
+check_spec =
     tie.close
     (tie.spec
     invariant-loop

@@ -2,7 +2,7 @@
 use Prim.Native.Nat.{◌-◌}
 use lib.ListN.{length}
 use borrow.Author.Rules.{rules}
-use Rattle.parity.proofs.Checking.{Taken, taken_none, taken_next, taken-all}
+use Rattle.parity.proofs.Checking.{Taken, taken_none, taken_next, taken_all}
 use Rattle.parity.proofs.check_all.Statement.{statement}
 use Rattle.parity.proofs.check_all.Tie as tie
 
@@ -35,16 +35,16 @@ loop-less c = search rules
 
 loop-again : tie.Need-loop-preserved invariant-loop decreases-loop
 loop-again c =
-    let at-syndrome = c.before.before in
-    let turn = at-syndrome.before.before.before.before in
+    let at_syndrome = c.before.before in
+    let turn = at_syndrome.before.before.before.before in
     let narrow = turn.before.before.requires in
-    taken_next turn.loop.invariant narrow (search rules) at-syndrome.syndrome.ensures c.take-up.ensures
+    taken_next turn.loop.invariant narrow (search rules) at_syndrome.syndrome.ensures c.take-up.ensures
 
 returns : tie.Need-returns invariant-loop decreases-loop
-returns c = taken-all c.before.loop.invariant (search rules)
+returns c = taken_all c.before.loop.invariant (search rules)
 
-pub check-all-spec : {M : Type 1} → statement M
-check-all-spec =
+pub check_all_spec : {M : Type 1} → statement M
+check_all_spec =
     tie.close
     (tie.spec
     invariant-loop

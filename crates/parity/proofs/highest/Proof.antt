@@ -25,5 +25,5 @@ loop-again c = shifted_next c.before.loop.invariant (search rules)
 returns : tie.Need-returns invariant-loop decreases-loop
 returns c = shifted_end c.before.loop.invariant (search rules) (search rules)
 
-pub highest-spec : {M : Type 1} → statement M
-highest-spec = tie.close (tie.spec invariant-loop decreases-loop loop-holds add-p loop-less loop-again returns)
+pub highest_spec : {M : Type 1} → statement M
+highest_spec = tie.close (tie.spec invariant-loop decreases-loop loop-holds add-p loop-less loop-again returns)

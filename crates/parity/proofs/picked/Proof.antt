@@ -9,5 +9,5 @@ returns c = picked_none _ _ c.if1.true
 returns-2 : tie.Need-returns-2
 returns-2 c = picked_all _ _ c.if1.false
 
-pub picked-spec : {M : Type 1} → statement M
-picked-spec = tie.close (tie.spec returns returns-2)
+pub picked_spec : {M : Type 1} → statement M
+picked_spec = tie.close (tie.spec returns returns-2)

@@ -1,7 +1,7 @@
 -- `parity::syndrome` adds up one column after another: the loop keeps that what is summed up and what is left make the whole sum.
 use Prim.Native.Nat.{◌-◌, ◌≤◌}
 use borrow.Author.Rules.{rules}
-use Rattle.parity.proofs.Columns.{Summed, summed-none, summed-next, summed-all}
+use Rattle.parity.proofs.Columns.{Summed, summed_none, summed_next, summed_all}
 use Rattle.parity.proofs.syndrome.Statement.{statement}
 use Rattle.parity.proofs.syndrome.Tie as tie
 
@@ -12,7 +12,7 @@ abbrev decreases-loop : tie.decreases-loop
 decreases-loop columns x sum₀ rest₀ m₀ sum rest m = 16 - m
 
 loop-holds : tie.Need-loop-init invariant-loop decreases-loop
-loop-holds c = (summed-none _ _, search rules)
+loop-holds c = (summed_none _ _, search rules)
 
 mul-picked : tie.Need-overflow-mul-picked invariant-loop decreases-loop
 mul-picked c = search rules
@@ -30,13 +30,13 @@ loop-less : tie.Need-loop-smaller invariant-loop decreases-loop
 loop-less c = search rules
 
 loop-again : tie.Need-loop-preserved invariant-loop decreases-loop
-loop-again c = (summed-next c.before.before.before.loop.invariant.0 (search rules) c.picked.ensures, search rules)
+loop-again c = (summed_next c.before.before.before.loop.invariant.0 (search rules) c.picked.ensures, search rules)
 
 returns : tie.Need-returns invariant-loop decreases-loop
-returns c = summed-all c.before.loop.invariant.0 (search rules) (search rules) (search rules)
+returns c = summed_all c.before.loop.invariant.0 (search rules) (search rules) (search rules)
 
-pub syndrome-spec : {M : Type 1} → statement M
-syndrome-spec =
+pub syndrome_spec : {M : Type 1} → statement M
+syndrome_spec =
     tie.close
     (tie.spec
     invariant-loop

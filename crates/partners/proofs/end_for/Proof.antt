@@ -35,8 +35,8 @@ returns c =
     let a = w.before.before.args in
     end_read a.ends.now a.matched.now a.e.from a.e.symbol w.wide.ensures.0 refl
 
-pub end-for-spec : {M : Type 1} → statement M
-end-for-spec =
+pub end_for_spec : {M : Type 1} → statement M
+end_for_spec =
     tie.close
     (tie.spec
     mul_wide

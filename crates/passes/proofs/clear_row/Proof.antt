@@ -3,21 +3,21 @@
 use borrow.Author.Rules.{rules}
 use mathlib.Core.Path.{sym, ◌∙◌}
 use Prim.Native.Nat.{◌-◌}
-use Rattle.trellis.specs.Bounds.{mostStates}
+use Rattle.trellis.specs.Bounds.{most_states}
 use Rattle.paths.specs.Chain.{unreached}
-use Rattle.lowering.specs.inner.Loops.{Cleared}
-use Rattle.lowering.proofs.Lowered.{clear-start, clear-more, clear-end}
+use Rattle.lowering.specs.Inner.Loops.{Cleared}
+use Rattle.lowering.proofs.Lowered.{clear_start, clear_more, clear_end}
 use Rattle.passes.proofs.clear_row.Statement.{statement}
 use Rattle.passes.proofs.clear_row.Tie as tie
 
 abbrev invariant-loop : tie.invariant-loop
-invariant-loop notes₀ s₀ notes s = Cleared mostStates unreached notes s
+invariant-loop notes₀ s₀ notes s = Cleared most_states unreached notes s
 
 abbrev decreases-loop : tie.decreases-loop
-decreases-loop notes₀ s₀ notes s = mostStates - s
+decreases-loop notes₀ s₀ notes s = most_states - s
 
 loop-holds : tie.Need-loop-init invariant-loop decreases-loop
-loop-holds c = clear-start (search rules)
+loop-holds c = clear_start (search rules)
 
 mul-notes : tie.Need-overflow-mul-notes invariant-loop decreases-loop
 mul-notes c = search rules
@@ -32,16 +32,16 @@ loop-less : tie.Need-loop-smaller invariant-loop decreases-loop
 loop-less c = search rules
 
 loop-again : tie.Need-loop-preserved invariant-loop decreases-loop
-loop-again c = clear-more c.before.loop.invariant (search rules)
+loop-again c = clear_more c.before.loop.invariant (search rules)
 
 same_length : tie.Need-same-length invariant-loop decreases-loop
 same_length c = c.before.loop.invariant.long ∙ sym (search rules)
 
 returns : tie.Need-returns invariant-loop decreases-loop
-returns c = clear-end c.before.loop.invariant (search rules)
+returns c = clear_end c.before.loop.invariant (search rules)
 
-pub clear-row-spec : {M : Type 1} → statement M
-clear-row-spec =
+pub clear_row_spec : {M : Type 1} → statement M
+clear_row_spec =
     tie.close
     (tie.spec
     invariant-loop

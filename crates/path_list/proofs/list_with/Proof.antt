@@ -1,7 +1,7 @@
 -- `path_list::list_with` fills the cost table; where the start state has a path, the paths are listed, and elsewhere the table is all.
 use borrow.Author.Rules.{rules}
 use Rattle.decoding.proofs.Ends.{ready}
-use Rattle.path_list.proofs.Held.{with-notes, with_none, with-table, with-paths}
+use Rattle.path_list.proofs.Held.{with_notes, with_none, with_table, with_paths}
 use Rattle.path_list.proofs.list_with.Statement.{statement}
 use Rattle.path_list.proofs.list_with.Tie as tie
 
@@ -27,14 +27,14 @@ ends-in-requires c κs = search rules
 fill-requires : tie.Need-fill-requires
 fill-requires c κs =
     let pre = (entry c.before.before).requires in
-    (ready pre.0.checks, c.before.ends-in.ensures.long, pre.2.forCosts)
+    (ready pre.0.checks, c.before.ends-in.ensures.long, pre.2.for_costs)
 
 settle-requires : tie.Need-settle-requires
 settle-requires c κs =
     let f = c.before.before.before in
     let w = widened f in
     let pre = (entry w).pre in
-    with-notes pre.0 w.widened.ensures.0 f.before.before.ends-in.ensures pre.1 pre.2 f.fill.ensures
+    with_notes pre.0 w.widened.ensures.0 f.before.before.ends-in.ensures pre.1 pre.2 f.fill.ensures
 
 widened-requires-2 : tie.Need-widened-requires-2
 widened-requires-2 c κs = search rules
@@ -43,7 +43,7 @@ mul-if1 : tie.Need-overflow-mul-if1
 mul-if1 c = search rules
 
 array-read-if1 : tie.Need-array-read-if1
-array-read-if1 c = let below = (entry (widened (fill (settle c)))).requires.0.checks.framed.startBelow in search rules
+array-read-if1 c = let below = (entry (widened (fill (settle c)))).requires.0.checks.framed.start_below in search rules
 
 same_length : tie.Need-same-length
 same_length c = search rules
@@ -64,9 +64,9 @@ list-paths-requires c κs =
     let f = fill s in
     let w = widened f in
     let pre = (entry w).pre in
-    let T = with-table pre.0 w.widened.ensures.0 f.before.before.ends-in.ensures pre.1 pre.2 f.fill.ensures
+    let T = with_table pre.0 w.widened.ensures.0 f.before.before.ends-in.ensures pre.1 pre.2 f.fill.ensures
     else1.before.widened2.ensures.0 s.settle.ensures else1.if1.false in
-    (pre.0, T, pre.1, pre.2.forDistances, pre.2.forLabels, pre.2.forGoals)
+    (pre.0, T, pre.1, pre.2.for_distances, pre.2.for_labels, pre.2.for_goals)
 
 same-length-2 : tie.Need-same-length-2
 same-length-2 c = search rules
@@ -82,17 +82,17 @@ same-length-5 c = search rules
 
 returns-2 : tie.Need-returns-2
 returns-2 c =
-    let list-paths = c.before.before.before.before.before.before in
-    let else1 = list-paths.before.before.before.before.before in
+    let list_paths = c.before.before.before.before.before.before in
+    let else1 = list_paths.before.before.before.before.before in
     let s = settle else1.before in
     let f = fill s in
     let w = widened f in
     let pre = (entry w).pre in
-    with-paths pre.0 w.widened.ensures.0 f.before.before.ends-in.ensures pre.1 pre.2 f.fill.ensures
-    else1.before.widened2.ensures.0 s.settle.ensures else1.if1.false list-paths.list-paths.ensures
+    with_paths pre.0 w.widened.ensures.0 f.before.before.ends-in.ensures pre.1 pre.2 f.fill.ensures
+    else1.before.widened2.ensures.0 s.settle.ensures else1.if1.false list_paths.list-paths.ensures
 
-pub list-with-spec : {M : Type 1} → statement M
-list-with-spec =
+pub list_with_spec : {M : Type 1} → statement M
+list_with_spec =
     tie.close
     (tie.spec
     widened-requires

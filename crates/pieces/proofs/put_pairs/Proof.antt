@@ -4,19 +4,19 @@ use Prim.Native.Nat.{◌-◌}
 use native.Mathlib.Omega.{arith}
 use lib.ListN.{length-set}
 use borrow.Author.Rules.{rules}
-use Rattle.takers.specs.inner.Pieces.{pairsOf}
-use Rattle.pieces.proofs.Pieces.{InPiece, piece-none, pairs-piece, pair-more, piece-end, word_below}
+use Rattle.takers.specs.Inner.Pieces.{pairs_of}
+use Rattle.pieces.proofs.Pieces.{InPiece, piece_none, pairs_piece, pair_more, piece_end, word_below}
 use Rattle.pieces.proofs.put_pairs.Statement.{statement}
 use Rattle.pieces.proofs.put_pairs.Tie as tie
 
 abbrev invariant-loop : tie.invariant-loop
-invariant-loop words lo hi map row w section₀ at to₀ k₀ section to k = InPiece (pairsOf map w row) 2 words lo hi section₀ at section to k
+invariant-loop words lo hi map row w section₀ at to₀ k₀ section to k = InPiece (pairs_of map w row) 2 words lo hi section₀ at section to k
 
 abbrev decreases-loop : tie.decreases-loop
 decreases-loop words lo hi map row w section₀ at to₀ k₀ section to k = hi - k
 
 loop-holds : tie.Need-loop-init invariant-loop decreases-loop
-loop-holds c = piece-none 2 (pairs-piece _ _ _) _ _ _ _ _ (search rules)
+loop-holds c = piece_none 2 (pairs_piece _ _ _) _ _ _ _ _ (search rules)
 
 mul_wide : tie.Need-overflow-mul-wide invariant-loop decreases-loop
 mul_wide c = search rules
@@ -106,16 +106,16 @@ loop-less c = search rules
 
 loop-again : tie.Need-loop-preserved invariant-loop decreases-loop
 loop-again c = let at_wide = c.before.before in
-    pair-more _ _ _ at_wide.before.before.before.loop.invariant at_wide.wide.ensures.0 refl refl (search rules)
+    pair_more _ _ _ at_wide.before.before.before.loop.invariant at_wide.wide.ensures.0 refl refl (search rules)
 
 same_length : tie.Need-same-length invariant-loop decreases-loop
 same_length c = c.before.loop.invariant.len
 
 returns : tie.Need-returns invariant-loop decreases-loop
-returns c = piece-end c.before.loop.invariant (search rules)
+returns c = piece_end c.before.loop.invariant (search rules)
 
-pub put-pairs-spec : {M : Type 1} → statement M
-put-pairs-spec =
+pub put_pairs_spec : {M : Type 1} → statement M
+put_pairs_spec =
     tie.close
     (tie.spec
     invariant-loop

@@ -2,19 +2,19 @@
 use Prim.Native.Nat.{◌-◌}
 use native.Mathlib.Omega.{arith}
 use borrow.Author.Rules.{rules}
-use Rattle.takers.specs.inner.Pieces.{symbolsOf}
-use Rattle.pieces.proofs.Pieces.{InPiece, piece-none, symbols-piece, symbol-more, piece-end, word_below}
+use Rattle.takers.specs.Inner.Pieces.{symbols_of}
+use Rattle.pieces.proofs.Pieces.{InPiece, piece_none, symbols_piece, symbol_more, piece_end, word_below}
 use Rattle.pieces.proofs.put_symbols.Statement.{statement}
 use Rattle.pieces.proofs.put_symbols.Tie as tie
 
 abbrev invariant-loop : tie.invariant-loop
-invariant-loop words lo hi labels n t section₀ at to₀ k₀ section to k = InPiece (symbolsOf labels n t) 1 words lo hi section₀ at section to k
+invariant-loop words lo hi labels n t section₀ at to₀ k₀ section to k = InPiece (symbols_of labels n t) 1 words lo hi section₀ at section to k
 
 abbrev decreases-loop : tie.decreases-loop
 decreases-loop words lo hi labels n t section₀ at to₀ k₀ section to k = hi - k
 
 loop-holds : tie.Need-loop-init invariant-loop decreases-loop
-loop-holds c = piece-none 1 (symbols-piece _ _ _) _ _ _ _ _ (search rules)
+loop-holds c = piece_none 1 (symbols_piece _ _ _) _ _ _ _ _ (search rules)
 
 mul_wide : tie.Need-overflow-mul-wide invariant-loop decreases-loop
 mul_wide c = search rules
@@ -60,16 +60,16 @@ loop-less c = search rules
 
 loop-again : tie.Need-loop-preserved invariant-loop decreases-loop
 loop-again c = let at_wide = c.before.before in
-    symbol-more _ _ _ at_wide.before.before.before.loop.invariant at_wide.wide.ensures.0 c.symbol.ensures (search rules)
+    symbol_more _ _ _ at_wide.before.before.before.loop.invariant at_wide.wide.ensures.0 c.symbol.ensures (search rules)
 
 same_length : tie.Need-same-length invariant-loop decreases-loop
 same_length c = c.before.loop.invariant.len
 
 returns : tie.Need-returns invariant-loop decreases-loop
-returns c = piece-end c.before.loop.invariant (search rules)
+returns c = piece_end c.before.loop.invariant (search rules)
 
-pub put-symbols-spec : {M : Type 1} → statement M
-put-symbols-spec =
+pub put_symbols_spec : {M : Type 1} → statement M
+put_symbols_spec =
     tie.close
     (tie.spec
     invariant-loop

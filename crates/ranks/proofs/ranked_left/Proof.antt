@@ -13,5 +13,5 @@ add-result c = search rules
 returns : tie.Need-returns
 returns c = (left_is _ _, search rules)
 
-pub ranked-left-spec : {M : Type 1} → statement M
-ranked-left-spec = tie.close (tie.spec mul-result add-result returns)
+pub ranked_left_spec : {M : Type 1} → statement M
+ranked_left_spec = tie.close (tie.spec mul-result add-result returns)

@@ -2,7 +2,7 @@
 -- tests before it leave.
 use native.Mathlib.Omega.{arith}
 use Rattle.gathering.proofs.Depths.{near}
-use Rattle.read_back.proofs.Outcomes.{ends-many, ends-short, ends-file}
+use Rattle.read_back.proofs.Outcomes.{ends_many, ends_short, ends_file}
 use borrow.Author.Rules.{rules}
 use Rattle.read_back.proofs.put_words.Statement.{statement}
 use Rattle.read_back.proofs.put_words.Tie as tie
@@ -12,7 +12,7 @@ gather-requires c κs = search rules
 
 returns : tie.Need-returns
 returns c = let G = c.before in let s = G.before.before.before.before in
-    ends-many s.args.section.now s.args.file.now s.requires G.gather.ensures c.if1.true
+    ends_many s.args.section.now s.args.file.now s.requires G.gather.ensures c.if1.true
 
 mul-needed : tie.Need-overflow-mul-needed
 mul-needed c = search rules
@@ -22,7 +22,7 @@ add-needed c = search rules
 
 returns-2 : tie.Need-returns-2
 returns-2 c = let e1 = c.before in let G = e1.before in let s = G.before.before.before.before in
-    ends-short s.args.section.now s.args.file.now s.requires G.gather.ensures e1.if1.false c.if2.true
+    ends_short s.args.section.now s.args.file.now s.requires G.gather.ensures e1.if1.false c.if2.true
 
 mul-put-file : tie.Need-overflow-mul-put-file
 mul-put-file c = let N = near c.before.before.before.before.before.before.requires.0 in record { fits = omega arith }
@@ -49,11 +49,11 @@ returns-3 c =
     let e1 = e2.before in
     let G = e1.before in
     let s = G.before.before.before.before in
-    ends-file s.args.section.now s.args.file.now s.requires G.gather.ensures e1.if1.false e2.if2.false
+    ends_file s.args.section.now s.args.file.now s.requires G.gather.ensures e1.if1.false e2.if2.false
     f.put-file.ensures
 
-pub put-words-spec : {M : Type 1} → statement M
-put-words-spec =
+pub put_words_spec : {M : Type 1} → statement M
+put_words_spec =
     tie.close
     (tie.spec
     gather-requires

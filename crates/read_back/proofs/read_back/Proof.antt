@@ -1,7 +1,7 @@
 -- `read_back::read_back` meets its contract: where the slice is no section nothing is written, and else its words are.
 use mathlib.Core.Path.{sym, ◌∙◌}
-use Rattle.whole_section.proofs.Sections.{whole-filled}
-use Rattle.read_back.proofs.Outcomes.{ends-unusable}
+use Rattle.whole_section.proofs.Sections.{whole_filled}
+use Rattle.read_back.proofs.Outcomes.{ends_unusable}
 use borrow.Author.Rules.{rules}
 use Rattle.read_back.proofs.read_back.Statement.{statement}
 use Rattle.read_back.proofs.read_back.Tie as tie
@@ -14,7 +14,7 @@ enum-known-part c = search rules
 
 put-words-requires : tie.Need-put-words-requires
 put-words-requires c κs = let p = c.before.before in let u = p.before.before in
-    let F = whole-filled u.before.before.before.args.section.now (sym p.part.given.1 ∙ u.section-of.ensures) in
+    let F = whole_filled u.before.before.before.args.section.now (sym p.part.given.1 ∙ u.section-of.ensures) in
     (F.seen, F.is-section)
 
 enum_told : tie.Need-enum-told
@@ -28,10 +28,10 @@ returns c = search rules
 
 returns-2 : tie.Need-returns-2
 returns-2 c = let u = c.before.before in let a = u.before.before.before.args in
-    ends-unusable a.section.now a.file.now (sym c.enum_told.given.1 ∙ u.section-of.ensures)
+    ends_unusable a.section.now a.file.now (sym c.enum_told.given.1 ∙ u.section-of.ensures)
 
-pub read-back-spec : {M : Type 1} → statement M
-read-back-spec =
+pub read_back_spec : {M : Type 1} → statement M
+read_back_spec =
     tie.close
     (tie.spec
     section-of-requires

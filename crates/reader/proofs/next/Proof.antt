@@ -49,8 +49,8 @@ use denote.Triple.Entry.{Vals, on_entry}
 use denote.Triple.Spec.{Meets, triple_of}
 use denote.Triple.Table.{entered, cited}
 use denote.Triple.Walked.{says, Stays, stay_ref, walk_of, Goes-ref, Walks, ends_at, walked, walk_Meets}
-use Rattle.fields.specs.inner.Answer.{foundAt}
-use Rattle.fields.specs.inner.ReadOn.{placeAfter}
+use Rattle.fields.specs.Inner.Answer.{found_at}
+use Rattle.fields.specs.Inner.ReadOn.{place_after}
 use Rattle.reader.specs.declared.Reader.{Reader}
 use Rattle.fields.specs.declared.Found.{Found}
 use Rattle.reader.specs.contracts.Reader as T
@@ -114,10 +114,10 @@ module _ {M : Type 1} {𝓤 : Ura M} (𝓛 : Logic 𝓤) (at_mem : Memory → SP
   v = slice_val h.file.ref_ptr (length h.file.now)
 
   abbrev found : Found
-  found = foundAt h.file.now h.at
+  found = found_at h.file.now h.at
 
   abbrev after : ℕ
-  after = placeAfter h.file.now h.at
+  after = place_after h.file.now h.at
 
   abbrev Post : Val → SProp 𝓤
   Post = (walk_of 𝓛 next.ended stayed (next.clauses 𝓛 at_mem run)).post (((κ, (κ', tt)), (q, (q', tt)), bounds, x, at), tt)
@@ -142,11 +142,11 @@ module _ {M : Type 1} {𝓤 : Ura M} (𝓛 : Logic 𝓤) (at_mem : Memory → SP
   abbrev passed : Vals found_at.signature (κ', tt)
   passed = (v ∷ [], (vint w16 h.at ∷ [], tt))
 
-  abbrev to-found : (FoundAt 𝓛 at_mem run).Ghost
-  to-found = (((κ', tt), (q', tt), tt, (h.file, (h.at, tt)), passed), tt)
+  abbrev to_found : (FoundAt 𝓛 at_mem run).Ghost
+  to_found = (((κ', tt), (q', tt), tt, (h.file, (h.at, tt)), passed), tt)
 
-  abbrev to-place : (PlaceAfter 𝓛 at_mem run).Ghost
-  to-place = (((κ', tt), (q', tt), tt, (h.file, (h.at, tt)), passed), tt)
+  abbrev to_place : (PlaceAfter 𝓛 at_mem run).Ghost
+  to_place = (((κ', tt), (q', tt), tt, (h.file, (h.at, tt)), passed), tt)
 
   -- what the reader owns gives what a callee asks, and is kept
   apart : h.at < 2 ^ 16
@@ -163,25 +163,25 @@ module _ {M : Type 1} {𝓤 : Ura M} (𝓛 : Logic 𝓤) (at_mem : Memory → SP
       move ! (1 ∷ 0 ∷ []) $ fjoin ! $
       move ! (2 ∷ 0 ∷ []) $ join ! $ frame ! $ done !)
 
-  asked-found : ent 𝓤 (on_entry 𝓛 found_at.signature (κ', tt) (q', tt) (h.file, (h.at, tt)) passed)
-      ((FoundAt 𝓛 at_mem run).pre to-found)
-  asked-found = qed 𝓛 ((‵ (flft κ' q') ⊛ ‵ ftrue) ∷ ‵
+  asked_found : ent 𝓤 (on_entry 𝓛 found_at.signature (κ', tt) (q', tt) (h.file, (h.at, tt)) passed)
+      ((FoundAt 𝓛 at_mem run).pre to_found)
+  asked_found = qed 𝓛 ((‵ (flft κ' q') ⊛ ‵ ftrue) ∷ ‵
       (owns (ShrSlice (named 0) κ' u8 ∷ u16 ∷ []) (h.file, (h.at, tt)) passed) ∷ []) ∵ join ! $ frame ! $ done !
 
-  asked-place : ent 𝓤 (on_entry 𝓛 found_at.signature (κ', tt) (q', tt) (h.file, (h.at, tt)) passed)
-      ((PlaceAfter 𝓛 at_mem run).pre to-place)
-  asked-place = qed 𝓛 ((‵ (flft κ' q') ⊛ ‵ ftrue) ∷ ‵
+  asked_place : ent 𝓤 (on_entry 𝓛 found_at.signature (κ', tt) (q', tt) (h.file, (h.at, tt)) passed)
+      ((PlaceAfter 𝓛 at_mem run).pre to_place)
+  asked_place = qed 𝓛 ((‵ (flft κ' q') ⊛ ‵ ftrue) ∷ ‵
       (owns (ShrSlice (named 0) κ' u8 ∷ u16 ∷ []) (h.file, (h.at, tt)) passed) ∷ []) ∵ join ! $ frame ! $ done !
 
   -- of each callee's `ensured`, the clause alone: neither has a `&mut`, so what is said of last values is dropped
-  said-found : (f : Found)
+  said_found : (f : Found)
       → ent 𝓤 (ensured 𝓛 found_at.ended (found_at.clauses 𝓛 at_mem run) (κ', tt) (h.file, (h.at, tt)) tt f) (fact 𝓤 (f ≡ found))
-  said-found f = ex_e 𝓤 _ (λ ws. snd∗ 𝓤 (sem 𝓛 (lasts found_at.ended (κ', tt) (h.file, (h.at, tt)) ws)) (fact 𝓤 (f ≡ found)))
+  said_found f = ex_e 𝓤 _ (λ ws. snd∗ 𝓤 (sem 𝓛 (lasts found_at.ended (κ', tt) (h.file, (h.at, tt)) ws)) (fact 𝓤 (f ≡ found)))
 
-  said-place : (m : ℕ)
+  said_place : (m : ℕ)
       → ent 𝓤 (ensured 𝓛 place_after.ended (place_after.clauses 𝓛 at_mem run) (κ', tt) (h.file, (h.at, tt)) tt m)
       (fact 𝓤 (m ≡ after))
-  said-place m = ex_e 𝓤 _ (λ ws. snd∗ 𝓤 (sem 𝓛 (lasts place_after.ended (κ', tt) (h.file, (h.at, tt)) ws)) (fact 𝓤 (m ≡ after)))
+  said_place m = ex_e 𝓤 _ (λ ws. snd∗ 𝓤 (sem 𝓛 (lasts place_after.ended (κ', tt) (h.file, (h.at, tt)) ws)) (fact 𝓤 (m ≡ after)))
 
   -- what file owns is kept, and at's facts are made anew
   again : (m : ℕ) → m < 2 ^ 16 → ent 𝓤 (sem 𝓛 Own) (sem 𝓛 ((B κ').own (to m) (T'.lowered (to m) ∷ [])))
@@ -200,8 +200,8 @@ module _ {M : Type 1} {𝓤 : Ura M} (𝓛 : Logic 𝓤) (at_mem : Memory → SP
       frame ! $ feq_i ! (List Val) (vptr b o ∷ []) (vptr b o ∷ []) refl $ fjoin3 ! $ nothing ! $ move ! (1 ∷ 0 ∷ []) $ fjoin ! $ done !
 
   module _ (C : Calls 𝓤 H) (Λ : Loops 𝓤 H) (fm : FmC 𝓤 H 𝓛.laws C)
-      (known-found : Triple 𝓤 (C #reader·found-at) (FoundAt 𝓛 at_mem run))
-      (known-place : Triple 𝓤 (C #reader·place-after) (PlaceAfter 𝓛 at_mem run)) where
+      (known_found : Triple 𝓤 (C #reader·found-at) (FoundAt 𝓛 at_mem run))
+      (known_place : Triple 𝓤 (C #reader·place-after) (PlaceAfter 𝓛 at_mem run)) where
     walk : ent 𝓤 (on_entry 𝓛 next.signature (κ, (κ', tt)) (q, (q', tt)) x at) (WpFn 𝓤 H C Λ code.function (vptr b o ∷ []) Post)
     walk =
         qed 𝓛 ((‵ (flft κ q) ⊛ ‵ (flft κ' q') ⊛ ‵ ftrue) ∷ ‵ (owns (MutRef (named 0) κ (B κ') ∷ []) x at) ∷ []) ∵ enter ! C Λ code.function
@@ -224,14 +224,14 @@ module _ {M : Type 1} {𝓤 : Ura M} (𝓛 : Logic 𝓤) (at_mem : Memory → SP
         move ! (1 ∷ 5 ∷ []) $
         use2 𝓛 (raw (on_entry 𝓛 found_at.signature (κ', tt) (q', tt) (h.file, (h.at, tt)) passed) ⊛ ‵ Own)
         (apart (typed was).1.1.0.fits) $ split ! $
-        use1 𝓛 (raw ((FoundAt 𝓛 at_mem run).pre to-found)) asked-found $
-        calls_at ! fm (FoundAt 𝓛 at_mem run) known-found to-found
+        use1 𝓛 (raw ((FoundAt 𝓛 at_mem run).pre to_found)) asked_found $
+        calls_at ! fm (FoundAt 𝓛 at_mem run) known_found to_found
         (and_then ! (load ! (from ! (stop !)) (look ! 12 refl)) (and_then ! (load ! (from ! (stop !)) (look ! 10 refl)) (no_more !)))
         (λ u.
         use1 𝓛 (later (some (λ (f : Found). ((‵ (flft κ' q') ⊛ ‵ ftrue) ⊛ ‵ ((S.the_row).own_val f (u ∷ []))) ⊛ raw
         (ensured 𝓛 found_at.ended (found_at.clauses 𝓛 at_mem run) (κ', tt) (h.file, (h.at, tt)) tt f)))) (id⊢ 𝓤 _) $
         await ! tt $ pick ! (λ f.
-        split ! $ move ! (1 ∷ []) $ use1 𝓛 (raw (fact 𝓤 (f ≡ found))) (said-found f) $ heard ! (f ≡ found) (λ e. split ! $ move ! (1 ∷ []) $
+        split ! $ move ! (1 ∷ []) $ use1 𝓛 (raw (fact 𝓤 (f ≡ found))) (said_found f) $ heard ! (f ≡ found) (λ e. split ! $ move ! (1 ∷ []) $
         -- [the word found; the token; what the reader owns; its cell; the open borrow; obs; auth; room for _5; …; _4; …; _3; …; _2; …; _1;
         -- …; _0; …]
         peeks ! S.the_row (Is S.the_row) (shows 𝓛 S.the_row) f (u ∷ []) (λ is.
@@ -240,14 +240,14 @@ module _ {M : Type 1} {𝓤 : Ura M} (𝓛 : Logic 𝓤) (at_mem : Memory → SP
         move ! (2 ∷ 1 ∷ []) $
         use2 𝓛 (raw (on_entry 𝓛 found_at.signature (κ', tt) (q', tt) (h.file, (h.at, tt)) passed) ⊛ ‵ Own)
         (apart (typed was).1.1.0.fits) $ split ! $
-        use1 𝓛 (raw ((PlaceAfter 𝓛 at_mem run).pre to-place)) asked-place $
-        calls_at ! fm (PlaceAfter 𝓛 at_mem run) known-place to-place
+        use1 𝓛 (raw ((PlaceAfter 𝓛 at_mem run).pre to_place)) asked_place $
+        calls_at ! fm (PlaceAfter 𝓛 at_mem run) known_place to_place
         (and_then ! (load ! (from ! (stop !)) (look ! 13 refl)) (and_then ! (load ! (from ! (stop !)) (look ! 11 refl)) (no_more !)))
         (λ w.
         use1 𝓛 (later (some (λ (m : ℕ). ((‵ (flft κ' q') ⊛ ‵ ftrue) ⊛ ‵ (u16.own_val m (w ∷ []))) ⊛ raw
         (ensured 𝓛 place_after.ended (place_after.clauses 𝓛 at_mem run) (κ', tt) (h.file, (h.at, tt)) tt m)))) (id⊢ 𝓤 _) $
         await ! tt $ pick ! (λ m.
-        split ! $ move ! (1 ∷ []) $ use1 𝓛 (raw (fact 𝓤 (m ≡ after))) (said-place m) $
+        split ! $ move ! (1 ∷ []) $ use1 𝓛 (raw (fact 𝓤 (m ≡ after))) (said_place m) $
         heard ! (m ≡ after) (λ e'. split ! $ move ! (1 ∷ []) $
         -- [the index; the token; what the reader owns; the word found; the cell; the open borrow; obs; auth; room for _5; …; _4; …; _3; …;
         -- _2; …; _1; …; _0; …]
@@ -272,31 +272,31 @@ module _ {M : Type 1} {𝓤 : Ura M} (𝓛 : Logic 𝓤) (at_mem : Memory → SP
 module _ {M : Type 1} {𝓤 : Ura M} (𝓛 : Logic 𝓤) (mem : Memory → SProp 𝓤) (run : Routine → Fun 𝓤) where
   open 𝓛 use {H}
 
-  next-walks : (C : Calls 𝓤 H) (Λ : Loops 𝓤 H) → FmC 𝓤 H 𝓛.laws C → Triple 𝓤 (C #reader·found-at) (FoundAt 𝓛 mem run)
+  next_walks : (C : Calls 𝓤 H) (Λ : Loops 𝓤 H) → FmC 𝓤 H 𝓛.laws C → Triple 𝓤 (C #reader·found-at) (FoundAt 𝓛 mem run)
       → Triple 𝓤 (C #reader·place-after) (PlaceAfter 𝓛 mem run)
       → Walks 𝓛 next.ended stayed (WpFn 𝓤 H C Λ code.function) (next.clauses 𝓛 mem run)
-  next-walks C Λ fm known-found known-place =
+  next_walks C Λ fm known_found known_place =
       walked 𝓛 next.ended stayed (next.clauses 𝓛 mem run) (WpFn 𝓤 H C Λ code.function) (λ κs. (mut_vals, tt))
       (λ κs. (mut_Tells (named 0) κs.0 (B κs.1.0), tt))
       (λ κs qs bounds a g are. via 𝓤 _ (fst∗ 𝓤 _ (emp 𝓤))
       (walk 𝓛 mem run κs.0 κs.1.0 qs.0 qs.1.0 bounds a.0.ptr.0 a.0.ptr.1 a.0.name
-      a.0.now C Λ fm known-found known-place))
+      a.0.now C Λ fm known_found known_place))
 
-next-meets : {M : Type 1} {𝓤 : Ura M} (𝓛 : Logic 𝓤) (mem : Memory → SProp 𝓤) (run : Routine → Fun 𝓤)
+next_meets : {M : Type 1} {𝓤 : Ura M} (𝓛 : Logic 𝓤) (mem : Memory → SProp 𝓤) (run : Routine → Fun 𝓤)
     (𝓣 : Tables 𝓤 𝓛.H)
     → Triple 𝓤 (𝓣.C #reader·found-at) (FoundAt 𝓛 mem run) → Triple 𝓤 (𝓣.C #reader·place-after) (PlaceAfter 𝓛 mem run)
     → Meets 𝓛 next.signature (WpFn 𝓤 𝓛.H 𝓣.C 𝓣.Λ code.function) (next.spec 𝓛 mem run)
-next-meets {𝓤 = 𝓤} 𝓛 mem run 𝓣 known-found known-place =
+next_meets {𝓤 = 𝓤} 𝓛 mem run 𝓣 known_found known_place =
     walk_Meets 𝓛 next.ended stayed (Goes-ref 𝓛 2 0 tt behind, tt) (next.clauses 𝓛 mem run)
     (WpFn 𝓤 𝓛.H 𝓣.C 𝓣.Λ code.function) (WpFn-mono 𝓤 𝓛.H 𝓛.laws 𝓣 code.function)
-    (next-walks 𝓛 mem run 𝓣.C 𝓣.Λ (fm_of 𝓤 𝓛.H 𝓛.laws 𝓣) known-found known-place)
+    (next_walks 𝓛 mem run 𝓣.C 𝓣.Λ (fm_of 𝓤 𝓛.H 𝓛.laws 𝓣) known_found known_place)
 
-pub next-spec : {M : Type 1} → stated.statement M
+pub next_spec : {M : Type 1} → stated.statement M
 unfolding code.routine tables_of
-next-spec 𝓤 𝓛 𝓜 𝓡 =
+next_spec 𝓤 𝓛 𝓜 𝓡 =
     entered 𝓤 𝓛.H (triple_of 𝓛 next.signature (next.spec 𝓛 𝓜.mem 𝓡.run))
     (tables 𝓤 𝓛.H 𝓜 𝓡 code.env).C (tables 𝓤 𝓛.H 𝓜 𝓡 code.env).Λ #reader·next code.function (code.unfolded 𝓤 𝓛.H 𝓜 𝓡)
-    (next-meets 𝓛 𝓜.mem 𝓡.run (tables_of 𝓤 𝓛.H 𝓜 (tables 𝓤 𝓛.H 𝓜 𝓡 code.env))
+    (next_meets 𝓛 𝓜.mem 𝓡.run (tables_of 𝓤 𝓛.H 𝓜 (tables 𝓤 𝓛.H 𝓜 𝓡 code.env))
     (cited 𝓤 𝓛.H (FoundAt 𝓛 𝓜.mem
     𝓡.run) 𝓜 𝓡 code.env #reader·found-at found-at-def.routine code.calls-file-words::found-at (found-at-thm.met 𝓤 𝓛 𝓜 𝓡))
     (cited 𝓤 𝓛.H (PlaceAfter 𝓛 𝓜.mem

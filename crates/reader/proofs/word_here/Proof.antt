@@ -44,8 +44,8 @@ use denote.Triple.Table.{entered, cited}
 use denote.Triple.Walked.{says, Stays, stay_none, walk_of, Goes-none, Walks, ends_at, walked, walk_Meets}
 use denote.Exit.{yes}
 use denote.Triple.Clauses.{ensured, lasts}
-use Rattle.fields.specs.Fields.{fileWord}
-use Rattle.fields.specs.inner.Answer.{heldWord}
+use Rattle.fields.specs.Fields.{file_word}
+use Rattle.fields.specs.Inner.Answer.{held_word}
 use Rattle.reader.specs.declared.Reader.{Reader}
 use Rattle.fields.specs.declared.Word.{Word}
 use Rattle.reader.specs.contracts.Reader as T
@@ -85,7 +85,7 @@ module _ {M : Type 1} {𝓤 : Ura M} (𝓛 : Logic 𝓤) (mem : Memory → SProp
   v = slice_val d.file.ref_ptr (length d.file.now)
 
   abbrev found : Word
-  found = heldWord (fileWord d.file.now d.at)
+  found = held_word (file_word d.file.now d.at)
 
   abbrev Post : Val → SProp 𝓤
   Post = (walk_of 𝓛 word-here.ended stayed (word-here.clauses 𝓛 mem run)).post (((κ, tt), (q, tt), tt, (d, tt), (mach ∷ [], tt)), tt)
@@ -172,9 +172,9 @@ module _ {M : Type 1} {𝓤 : Ura M} (𝓛 : Logic 𝓤) (mem : Memory → SProp
 module _ {M : Type 1} {𝓤 : Ura M} (𝓛 : Logic 𝓤) (mem : Memory → SProp 𝓤) (run : Routine → Fun 𝓤) where
   open 𝓛 use {H}
 
-  word-here-walks : (C : Calls 𝓤 H) (Λ : Loops 𝓤 H) → FmC 𝓤 H 𝓛.laws C → Triple 𝓤 (C #reader·word-of) (WordOf 𝓛 mem run)
+  word_here_walks : (C : Calls 𝓤 H) (Λ : Loops 𝓤 H) → FmC 𝓤 H 𝓛.laws C → Triple 𝓤 (C #reader·word-of) (WordOf 𝓛 mem run)
       → Walks 𝓛 word-here.ended stayed (WpFn 𝓤 H C Λ code.function) (word-here.clauses 𝓛 mem run)
-  word-here-walks C Λ fm known =
+  word_here_walks C Λ fm known =
       walked 𝓛 word-here.ended stayed (word-here.clauses 𝓛 mem run) (WpFn 𝓤 H C Λ code.function)
       (λ κs. (LL.vals (T.the_type (named_lft 1 0 tt κs)) (T'.the_laws (named_lft 1 0 tt κs)), tt))
       (λ κs. (LL.tells (T.the_type (named_lft 1 0 tt κs)) (T'.the_laws (named_lft 1 0 tt κs)), tt))
@@ -182,20 +182,20 @@ module _ {M : Type 1} {𝓤 : Ura M} (𝓛 : Logic 𝓤) (mem : Memory → SProp
       (walk 𝓛 mem run κs.0 qs.0 a.0 C Λ fm known
       ((LL.lawful (T.the_type (named_lft 1 0 tt κs)) (T'.the_laws (named_lft 1 0 tt κs)) 𝓛).typed a.0 _ are.0).0))
 
-word-here-meets : {M : Type 1} {𝓤 : Ura M} (𝓛 : Logic 𝓤) (mem : Memory → SProp 𝓤) (run : Routine → Fun 𝓤)
+word_here_meets : {M : Type 1} {𝓤 : Ura M} (𝓛 : Logic 𝓤) (mem : Memory → SProp 𝓤) (run : Routine → Fun 𝓤)
     (𝓣 : Tables 𝓤 𝓛.H)
     → Triple 𝓤 (𝓣.C #reader·word-of) (WordOf 𝓛 mem run)
     → Meets 𝓛 word-here.signature (WpFn 𝓤 𝓛.H 𝓣.C 𝓣.Λ code.function) (word-here.spec 𝓛 mem run)
-word-here-meets {𝓤 = 𝓤} 𝓛 mem run 𝓣 known =
+word_here_meets {𝓤 = 𝓤} 𝓛 mem run 𝓣 known =
     walk_Meets 𝓛 word-here.ended stayed (Goes-none 𝓛 1 B yes (λ κs x f. refl), tt) (word-here.clauses 𝓛 mem run)
     (WpFn 𝓤 𝓛.H 𝓣.C 𝓣.Λ code.function) (WpFn-mono 𝓤 𝓛.H 𝓛.laws 𝓣 code.function)
-    (word-here-walks 𝓛 mem run 𝓣.C 𝓣.Λ (fm_of 𝓤 𝓛.H 𝓛.laws 𝓣) known)
+    (word_here_walks 𝓛 mem run 𝓣.C 𝓣.Λ (fm_of 𝓤 𝓛.H 𝓛.laws 𝓣) known)
 
-pub word-here-spec : {M : Type 1} → stated.statement M
+pub word_here_spec : {M : Type 1} → stated.statement M
 unfolding code.routine tables_of
-word-here-spec 𝓤 𝓛 𝓜 𝓡 =
+word_here_spec 𝓤 𝓛 𝓜 𝓡 =
     entered 𝓤 𝓛.H (triple_of 𝓛 word-here.signature (word-here.spec 𝓛 𝓜.mem 𝓡.run))
     (tables 𝓤 𝓛.H 𝓜 𝓡 code.env).C (tables 𝓤 𝓛.H 𝓜 𝓡 code.env).Λ #reader·word-here code.function (code.unfolded 𝓤 𝓛.H 𝓜 𝓡)
-    (word-here-meets 𝓛 𝓜.mem 𝓡.run (tables_of 𝓤 𝓛.H 𝓜 (tables 𝓤 𝓛.H 𝓜 𝓡 code.env))
+    (word_here_meets 𝓛 𝓜.mem 𝓡.run (tables_of 𝓤 𝓛.H 𝓜 (tables 𝓤 𝓛.H 𝓜 𝓡 code.env))
     (cited 𝓤 𝓛.H (WordOf 𝓛 𝓜.mem 𝓡.run) 𝓜 𝓡 code.env #reader·word-of word-of-def.routine code.calls-file-words::word-of
     (word-of-thm.met 𝓤 𝓛 𝓜 𝓡)))

@@ -3,8 +3,8 @@ use borrow.Author.Rules.{rules}
 use mathlib.Core.Path.{refl}
 use native.Mathlib.Omega.{arith}
 use Prim.Native.Nat.{◌+◌, ◌-◌, ◌*◌}
-use Rattle.trellis.specs.Bounds.{mostPaths}
-use Rattle.readout.proofs.Backward.{Backward, backward-start, backward-more, backward-all}
+use Rattle.trellis.specs.Bounds.{most_paths}
+use Rattle.readout.proofs.Backward.{Backward, backward_start, backward_more, backward_all}
 use Rattle.readout.proofs.read_path.Statement.{statement}
 use Rattle.readout.proofs.read_path.Tie as tie
 
@@ -17,7 +17,7 @@ decreases-loop back blocks slot at labels₀ goals₀ j₀ b₀ labels goals j b
 
 -- src/lib.rt:32:5
 loop-holds : tie.Need-loop-init invariant-loop decreases-loop
-loop-holds c = backward-start (search rules)
+loop-holds c = backward_start (search rules)
 
 -- src/lib.rt:33:9
 sub-b : tie.Need-overflow-sub-b invariant-loop decreases-loop
@@ -64,7 +64,7 @@ cast-goals : tie.Need-overflow-cast-goals invariant-loop decreases-loop
 cast-goals c =
     let turn = c.before.before.before in
     let p = turn.before.before.before.before.requires in
-    omega (arith, p.5.small (mostPaths * (turn.before.loop.b - 1) + turn.before.loop.j), c.vertex-of.ensures)
+    omega (arith, p.5.small (most_paths * (turn.before.loop.b - 1) + turn.before.loop.j), c.vertex-of.ensures)
 
 -- src/lib.rt:36:15
 add_goals : tie.Need-overflow-add-goals invariant-loop decreases-loop
@@ -89,23 +89,23 @@ loop-again c =
     let l = v.before in
     let turn = l.before.before in
     let p = turn.before.before.before.before.requires in
-    backward-more turn.before.loop.invariant turn.loop-test.true p.5 (search rules) (search rules) refl
+    backward_more turn.before.loop.invariant turn.loop-test.true p.5 (search rules) (search rules) refl
     l.label_of.ensures v.vertex-of.ensures refl c.root-of.ensures
 
 -- src/lib.rt:17:1
 same_length : tie.Need-same-length invariant-loop decreases-loop
-same_length c = c.before.loop.invariant.longLabels
+same_length c = c.before.loop.invariant.long_labels
 
 -- src/lib.rt:17:1
 same-length-2 : tie.Need-same-length-2 invariant-loop decreases-loop
-same-length-2 c = c.before.loop.invariant.longGoals
+same-length-2 c = c.before.loop.invariant.long_goals
 
 -- src/lib.rt:17:1
 returns : tie.Need-returns invariant-loop decreases-loop
-returns c = backward-all c.before.loop.invariant (search rules)
+returns c = backward_all c.before.loop.invariant (search rules)
 
-pub read-path-spec : {M : Type 1} → statement M
-read-path-spec =
+pub read_path_spec : {M : Type 1} → statement M
+read_path_spec =
     tie.close
     (tie.spec
     invariant-loop

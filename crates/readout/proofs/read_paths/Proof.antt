@@ -4,8 +4,8 @@ use borrow.Author.Rules.{rules}
 use mathlib.Core.Path.{refl, ◌∙◌, ap}
 use native.Mathlib.Omega.{arith}
 use Prim.Native.Nat.{◌-◌}
-use Rattle.codes.specs.inner.Codes.{codeRoot}
-use Rattle.readout.proofs.Paths.{InPaths, paths-start, paths-room, paths-near, paths-more, paths-all}
+use Rattle.codes.specs.Inner.Codes.{code_root}
+use Rattle.readout.proofs.Paths.{InPaths, paths_start, paths_room, paths_near, paths_more, paths_all}
 use Rattle.readout.proofs.read_paths.Statement.{statement}
 use Rattle.readout.proofs.read_paths.Tie as tie
 
@@ -18,7 +18,7 @@ decreases-loop slots count back blocks distances₀ labels₀ goals₀ at₀ r�
 
 -- src/lib.rt:65:5
 loop-holds : tie.Need-loop-init invariant-loop decreases-loop
-loop-holds c = paths-start
+loop-holds c = paths_start
 
 -- src/lib.rt:66:17
 mul-x : tie.Need-overflow-mul-x invariant-loop decreases-loop
@@ -41,7 +41,7 @@ slice-write-distances : tie.Need-slice-write-distances invariant-loop decreases-
 slice-write-distances c =
     let turn = c.before.before in
     let p = turn.before.before.before.before.before.requires in
-    omega (arith, turn.before.loop.invariant.so_far.longDistances, p.2, turn.loop-test.true)
+    omega (arith, turn.before.loop.invariant.so_far.long_distances, p.2, turn.loop-test.true)
 
 -- src/lib.rt:68:41
 code-of-requires : tie.Need-code-of-requires invariant-loop decreases-loop
@@ -61,10 +61,10 @@ read-path-requires c κs =
     let I = turn.before.loop.invariant in
     let h = turn.loop-test.true in (
       p.1,
-      omega (arith, p.5.at turn.before.loop.r h, root.root-of.ensures ∙ ap codeRoot code.code_of.ensures),
-      paths-near I h p.0 p.1,
-      omega (arith, paths-room I h p.3, I.so_far.longLabels),
-      omega (arith, paths-room I h p.4, I.so_far.longGoals),
+      omega (arith, p.5.at turn.before.loop.r h, root.root-of.ensures ∙ ap code_root code.code_of.ensures),
+      paths_near I h p.0 p.1,
+      omega (arith, paths_room I h p.3, I.so_far.long_labels),
+      omega (arith, paths_room I h p.4, I.so_far.long_goals),
       p.6,
     )
 
@@ -74,7 +74,7 @@ add_at c =
     let done = c.before.before.before.before in
     let turn = done.before.before.before.before.before.before.before in
     let p = turn.before.before.before.before.before.requires in
-    omega (arith, paths-near turn.before.loop.invariant turn.loop-test.true p.0 p.1, p.1)
+    omega (arith, paths_near turn.before.loop.invariant turn.loop-test.true p.0 p.1, p.1)
 
 -- src/lib.rt:70:9
 add_r : tie.Need-overflow-add-r invariant-loop decreases-loop
@@ -93,27 +93,27 @@ loop-again c =
     let distance = code.before in
     let turn = distance.before.before in
     let p = turn.before.before.before.before.before.requires in
-    paths-more turn.before.loop.invariant turn.loop-test.true p.2 refl distance.distance-of.ensures
+    paths_more turn.before.loop.invariant turn.loop-test.true p.2 refl distance.distance-of.ensures
     code.code_of.ensures root.root-of.ensures done.read-path.ensures
 
 -- src/lib.rt:49:1
 same_length : tie.Need-same-length invariant-loop decreases-loop
-same_length c = c.before.loop.invariant.so_far.longDistances
+same_length c = c.before.loop.invariant.so_far.long_distances
 
 -- src/lib.rt:49:1
 same-length-2 : tie.Need-same-length-2 invariant-loop decreases-loop
-same-length-2 c = c.before.loop.invariant.so_far.longLabels
+same-length-2 c = c.before.loop.invariant.so_far.long_labels
 
 -- src/lib.rt:49:1
 same-length-3 : tie.Need-same-length-3 invariant-loop decreases-loop
-same-length-3 c = c.before.loop.invariant.so_far.longGoals
+same-length-3 c = c.before.loop.invariant.so_far.long_goals
 
 -- src/lib.rt:49:1
 returns : tie.Need-returns invariant-loop decreases-loop
-returns c = paths-all c.before.loop.invariant (search rules)
+returns c = paths_all c.before.loop.invariant (search rules)
 
-pub read-paths-spec : {M : Type 1} → statement M
-read-paths-spec =
+pub read_paths_spec : {M : Type 1} → statement M
+read_paths_spec =
     tie.close
     (tie.spec
     invariant-loop

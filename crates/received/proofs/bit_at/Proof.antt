@@ -4,8 +4,8 @@ use native.Mathlib.Nat.{lt_of_le_of_lt}
 use lib.Bits.{and_le_r}
 use lib.Dec.{lit<}
 use borrow.Author.Rules.{rules}
-use Rattle.trellis.specs.Comparing.{markedAt}
-use Rattle.trellis.proofs.Bools.{one-if-le}
+use Rattle.trellis.specs.Comparing.{marked_at}
+use Rattle.trellis.proofs.Bools.{one_if_le}
 use Rattle.received.proofs.Fitting.{bit_at}
 use Rattle.received.proofs.bit_at.Statement.{statement}
 use Rattle.received.proofs.bit_at.Tie as tie
@@ -31,8 +31,8 @@ returns : tie.Need-returns
 returns c =
     let a = c.args in
     let e = bit_at a.n a.t a.mask in
-    (e, rw e (one-if-le (markedAt a.n a.t a.mask)))
+    (e, rw e (one_if_le (marked_at a.n a.t a.mask)))
 
-pub bit-at-spec : {M : Type 1} → statement M
-bit-at-spec =
+pub bit_at_spec : {M : Type 1} → statement M
+bit_at_spec =
     tie.close (tie.spec sub-result sub-result-2 cast-result shr-result cast-result-2 returns)

@@ -1,5 +1,5 @@
 -- `received::fits` makes the tests of the definition one after the other.
-use Rattle.received.proofs.Fitting.{fits-label, fits_mask, fits_all}
+use Rattle.received.proofs.Fitting.{fits_label, fits_mask, fits_all}
 use borrow.Author.Rules.{rules}
 use Rattle.received.proofs.fits.Statement.{statement}
 use Rattle.received.proofs.fits.Tie as tie
@@ -11,7 +11,7 @@ returns : tie.Need-returns
 returns c =
     let asked = c.before in
     let a = asked.before.args in
-    fits-label a.q a.n a.received a.erased asked.is-label.ensures c.if1.true
+    fits_label a.q a.n a.received a.erased asked.is-label.ensures c.if1.true
 
 mask-fits-requires : tie.Need-mask-fits-requires
 mask-fits-requires c κs = search rules
@@ -39,7 +39,7 @@ returns-3 c =
     mask.if2.false
     c.is-clear.ensures
 
-pub fits-spec : {M : Type 1} → statement M
-fits-spec =
+pub fits_spec : {M : Type 1} → statement M
+fits_spec =
     tie.close
     (tie.spec is-label-requires returns mask-fits-requires returns-2 is-clear-requires returns-3)

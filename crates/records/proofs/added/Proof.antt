@@ -19,5 +19,5 @@ add-t6 c = search rules
 returns : tie.Need-returns
 returns c = (refl, refl)
 
-pub added-spec : {M : Type 1} → statement M
-added-spec = tie.close (tie.spec cast-t3 add-t4 cast-t5 add-t6 returns)
+pub added_spec : {M : Type 1} → statement M
+added_spec = tie.close (tie.spec cast-t3 add-t4 cast-t5 add-t6 returns)

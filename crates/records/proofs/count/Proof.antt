@@ -43,8 +43,8 @@ use denote.Triple.Table.{entered, cited}
 use denote.Triple.Walked.{says, Stays, stay_none_slice, walk_of, Goes-none_slice, Walks, ends_at, walked, walk_Meets}
 use denote.Exit.{yes}
 use denote.Triple.Clauses.{ensured, lasts}
-use Rattle.trellis.specs.Bounds.{mostBlocks}
-use Rattle.records.specs.Records.{countedOutcome, counting}
+use Rattle.trellis.specs.Bounds.{most_blocks}
+use Rattle.records.specs.Records.{counted_outcome, counting}
 use Rattle.records.specs.declared.BlockRecord.{BlockRecord}
 use Rattle.records.specs.declared.Sums.{Sums}
 use Rattle.records.specs.declared.Counted.{Counted}
@@ -54,7 +54,7 @@ use Rattle.records.specs.contracts.Sums as S
 use Rattle.records.proofs.Sums.TheLaws as S'
 use Rattle.records.specs.contracts.Counted as E
 use Rattle.records.proofs.Counted.TheLaws as E'
-use Rattle.records.proofs.Summing.{SumsOf, counted-few, counted-many}
+use Rattle.records.proofs.Summing.{SumsOf, counted_few, counted_many}
 use Rattle.records.specs.contracts.too_many as too_many
 use Rattle.records.proofs.too_many.Symbol as too-many-def
 use Rattle.records.proofs.too_many.Symbol.{name as #records·too-many}
@@ -110,7 +110,7 @@ module _ {M : Type 1} {𝓤 : Ura M} (𝓛 : Logic 𝓤) (mem : Memory → SProp
   abbrev Own : Fml
   Own = (ShrSlice (named 0) κ T.the_row).own_val x (s ∷ [])
 
-  exits : (r : Counted) (u : Val) → countedOutcome r ≡ counting ys
+  exits : (r : Counted) (u : Val) → counted_outcome r ≡ counting ys
       → ent 𝓤 (⋆ 𝓛 (‵ ((E.the_row).own_val r (u ∷ [])) ∷ (‵ (flft κ q) ⊛ ‵ ftrue) ∷ ‵ Own ∷ [])) (Post u)
   exits r u e =
       qed 𝓛 (‵ ((E.the_row).own_val r (u ∷ [])) ∷ (‵ (flft κ q) ⊛ ‵ ftrue) ∷ ‵ Own ∷ []) ∵
@@ -119,43 +119,43 @@ module _ {M : Type 1} {𝓤 : Ura M} (𝓛 : Logic 𝓤) (mem : Memory → SProp
       move ! (1 ∷ []) $ frame ! $ nothing ! $ move ! (2 ∷ 0 ∷ []) $ fjoin ! $ frame ! $ done !
 
   -- the call of `too_many`, on the length
-  abbrev to-many : (Many 𝓛 mem run).Ghost
-  to-many = ((tt, tt, tt, (length ys, tt), (vint w64 (length ys) ∷ [], tt)), tt)
+  abbrev to_many : (Many 𝓛 mem run).Ghost
+  to_many = ((tt, tt, tt, (length ys, tt), (vint w64 (length ys) ∷ [], tt)), tt)
 
-  goes-many : ent 𝓤 (emp 𝓤) ((Many 𝓛 mem run).pre to-many)
-  goes-many = qed 𝓛 [] ∵ nothing ! $ owned ! usize (Is usize) (uint_Makes 𝓛 w64) (length ys) _ (refl, gn.0) $ fjoin ! $
+  goes_many : ent 𝓤 (emp 𝓤) ((Many 𝓛 mem run).pre to_many)
+  goes_many = qed 𝓛 [] ∵ nothing ! $ owned ! usize (Is usize) (uint_Makes 𝓛 w64) (length ys) _ (refl, gn.0) $ fjoin ! $
       nothing ! $ join ! $ frame ! $ done !
 
-  many-said : (r : Counted)
+  many_said : (r : Counted)
       → ent 𝓤 (ensured 𝓛 too_many.ended (too_many.clauses 𝓛 mem run) tt (length ys, tt) tt r) (fact 𝓤 (r ≡ TooMany (length ys)))
-  many-said r = ex_e 𝓤 _ (λ ws. snd∗ 𝓤 (sem 𝓛 (lasts too_many.ended tt (length ys, tt) ws)) (fact 𝓤 (r ≡ TooMany (length ys))))
+  many_said r = ex_e 𝓤 _ (λ ws. snd∗ 𝓤 (sem 𝓛 (lasts too_many.ended tt (length ys, tt) ws)) (fact 𝓤 (r ≡ TooMany (length ys))))
 
   -- the call of `sum`
-  abbrev to-sum : (Sum 𝓛 mem run).Ghost
-  to-sum = (((κ, tt), (q, tt), tt, (x, tt), (s ∷ [], tt)), tt)
+  abbrev to_sum : (Sum 𝓛 mem run).Ghost
+  to_sum = (((κ, tt), (q, tt), tt, (x, tt), (s ∷ [], tt)), tt)
 
-  goes-sum : length ys ≤ mostBlocks
-      → ent 𝓤 (sep 𝓤 (sep 𝓤 (A.lft κ q) (sem 𝓛 ftrue)) (sem 𝓛 Own)) ((Sum 𝓛 mem run).pre to-sum)
-  goes-sum few = qed 𝓛 ((‵ (flft κ q) ⊛ ‵ ftrue) ∷ ‵ Own ∷ []) ∵ says ! few $ frame ! $ nothing ! $ move ! (1 ∷ 0 ∷ []) $ fjoin ! $ done !
+  goes_sum : length ys ≤ most_blocks
+      → ent 𝓤 (sep 𝓤 (sep 𝓤 (A.lft κ q) (sem 𝓛 ftrue)) (sem 𝓛 Own)) ((Sum 𝓛 mem run).pre to_sum)
+  goes_sum few = qed 𝓛 ((‵ (flft κ q) ⊛ ‵ ftrue) ∷ ‵ Own ∷ []) ∵ says ! few $ frame ! $ nothing ! $ move ! (1 ∷ 0 ∷ []) $ fjoin ! $ done !
 
   sum_said : (r : Sums)
       → ent 𝓤 (ensured 𝓛 sum.ended (sum.clauses 𝓛 mem run) (κ, tt) (x, tt) tt r) (fact 𝓤 (SumsOf ys r))
   sum_said r = ex_e 𝓤 _ (λ ws. snd∗ 𝓤 (sem 𝓛 (lasts sum.ended (κ, tt) (x, tt) ws)) (fact 𝓤 (SumsOf ys r)))
 
   -- the call of `totals`, on the sums r with the machine value u
-  abbrev to-totals : Sums → Val → (Total 𝓛 mem run).Ghost
-  to-totals r u = ((tt, tt, tt, (r, tt), (u ∷ [], tt)), tt)
+  abbrev to_totals : Sums → Val → (Total 𝓛 mem run).Ghost
+  to_totals r u = ((tt, tt, tt, (r, tt), (u ∷ [], tt)), tt)
 
-  goes-totals : (r : Sums) (u : Val) → ent 𝓤 (sem 𝓛 ((S.the_row).own_val r (u ∷ []))) ((Total 𝓛 mem run).pre (to-totals r u))
-  goes-totals r u = qed 𝓛 (‵ ((S.the_row).own_val r (u ∷ [])) ∷ []) ∵ nothing ! $ move ! (1 ∷ 0 ∷ []) $ fjoin ! $
+  goes_totals : (r : Sums) (u : Val) → ent 𝓤 (sem 𝓛 ((S.the_row).own_val r (u ∷ []))) ((Total 𝓛 mem run).pre (to_totals r u))
+  goes_totals r u = qed 𝓛 (‵ ((S.the_row).own_val r (u ∷ [])) ∷ []) ∵ nothing ! $ move ! (1 ∷ 0 ∷ []) $ fjoin ! $
       nothing ! $ join ! $ frame ! $ done !
 
-  totals-said : (r : Sums) (c : Counted)
+  totals_said : (r : Sums) (c : Counted)
       → ent 𝓤 (ensured 𝓛 totals.ended (totals.clauses 𝓛 mem run) tt (r, tt) tt c) (fact 𝓤 (c ≡ Totals r))
-  totals-said r c = ex_e 𝓤 _ (λ ws. snd∗ 𝓤 (sem 𝓛 (lasts totals.ended tt (r, tt) ws)) (fact 𝓤 (c ≡ Totals r)))
+  totals_said r c = ex_e 𝓤 _ (λ ws. snd∗ 𝓤 (sem 𝓛 (lasts totals.ended tt (r, tt) ws)) (fact 𝓤 (c ≡ Totals r)))
 
   module _ (C : Calls 𝓤 H) (Λ : Loops 𝓤 H) (fm : FmC 𝓤 H 𝓛.laws C) (known_many : Triple 𝓤 (C #records·too-many) (Many 𝓛 mem run))
-      (known-sum : Triple 𝓤 (C #records·sum) (Sum 𝓛 mem run)) (known-totals : Triple 𝓤 (C #records·totals) (Total 𝓛 mem run)) where
+      (known_sum : Triple 𝓤 (C #records·sum) (Sum 𝓛 mem run)) (known_totals : Triple 𝓤 (C #records·totals) (Total 𝓛 mem run)) where
     module _ (l₀ l₁ l₂ l₃ l₄ l₅ : ℕ) where
       abbrev En : Env 𝓤 H
       En = (E'.mir, l₀) ∷ (sl, l₁) ∷ (word, l₂) ∷ (ty_bool, l₃) ∷ (word, l₄) ∷ (S'.mir, l₅) ∷ []
@@ -175,11 +175,11 @@ module _ {M : Type 1} {𝓤 : Ura M} (𝓛 : Logic 𝓤) (mem : Memory → SProp
           (λ many.
           assigns ! (of_opd ! (load ! (from ! (fld ! refl (stop !))) (look_in ! 8 (sub ! 1 refl (whole !))))) (from ! (stop !))
           (init ! 2 refl (tt, record { fits = gn.0 })) $
-          use0 𝓛 (raw ((Many 𝓛 mem run).pre to-many)) goes-many $
-          calls_at ! fm (Many 𝓛 mem run) known_many to-many (and_then ! (load ! (from ! (stop !)) (look ! 3 refl)) (no_more !)) (λ u.
+          use0 𝓛 (raw ((Many 𝓛 mem run).pre to_many)) goes_many $
+          calls_at ! fm (Many 𝓛 mem run) known_many to_many (and_then ! (load ! (from ! (stop !)) (look ! 3 refl)) (no_more !)) (λ u.
           use1 𝓛 (later (some (λ (r : Counted). (‵ ftrue ⊛ ‵ ((E.the_row).own_val r (u ∷ []))) ⊛ raw
           (ensured 𝓛 too_many.ended (too_many.clauses 𝓛 mem run) tt (length ys, tt) tt r)))) (id⊢ 𝓤 _) $ await ! tt $
-          pick ! (λ r. split ! $ move ! (1 ∷ []) $ use1 𝓛 (raw (fact 𝓤 (r ≡ TooMany (length ys)))) (many-said r) $
+          pick ! (λ r. split ! $ move ! (1 ∷ []) $ use1 𝓛 (raw (fact 𝓤 (r ≡ TooMany (length ys)))) (many_said r) $
           heard ! (r ≡ TooMany (length ys)) (λ e. split ! $ drop ! $
           peeks ! E.the_row (Is E.the_row) (shows 𝓛 E.the_row) r (u ∷ []) (λ is.
           -- [the result; the locals; the token; what records owns]
@@ -188,11 +188,11 @@ module _ {M : Type 1} {𝓤 : Ura M} (𝓛 : Logic 𝓤) (mem : Memory → SProp
           forget ! 11 refl $
           move ! (11 ∷ 12 ∷ []) $ free1 ! $ move ! (9 ∷ 10 ∷ []) $ free1 ! $ move ! (7 ∷ 8 ∷ []) $ free1 ! $ move ! (5 ∷ 6 ∷ []) $ free1 ! $
           move ! (3 ∷ 4 ∷ []) $ free1 ! $ move ! (1 ∷ 2 ∷ []) $ free1 ! $ free0 ! $
-          by ! (exits r u (counted-many ys (ltb→lt mostBlocks (length ys) many) e)))))))
-          (λ short. let few = nltb→le mostBlocks (length ys) short in skips ! $ exec ! C Λ En piece.t-4 (at_ret En Post) $
+          by ! (exits r u (counted_many ys (ltb→lt most_blocks (length ys) many) e)))))))
+          (λ short. let few = nltb→le most_blocks (length ys) short in skips ! $ exec ! C Λ En piece.t-4 (at_ret En Post) $
           move ! (13 ∷ []) $ use1 𝓛 (‵ Own ⊛ ‵ Own) ((shr_slice_copy 𝓛 (named 0) κ T.the_row).twice x (s ∷ [])) $ split ! $
-          move ! (14 ∷ 0 ∷ []) $ use2 𝓛 (raw ((Sum 𝓛 mem run).pre to-sum)) (goes-sum few) $
-          calls_at ! fm (Sum 𝓛 mem run) known-sum to-sum (and_then ! (load ! (from ! (stop !)) (look ! 10 refl)) (no_more !)) (λ u.
+          move ! (14 ∷ 0 ∷ []) $ use2 𝓛 (raw ((Sum 𝓛 mem run).pre to_sum)) (goes_sum few) $
+          calls_at ! fm (Sum 𝓛 mem run) known_sum to_sum (and_then ! (load ! (from ! (stop !)) (look ! 10 refl)) (no_more !)) (λ u.
           use1 𝓛 (later (some (λ (r : Sums). ((‵ (flft κ q) ⊛ ‵ ftrue) ⊛ ‵ ((S.the_row).own_val r (u ∷ []))) ⊛ raw
           (ensured 𝓛 sum.ended (sum.clauses 𝓛 mem run) (κ, tt) (x, tt) tt r)))) (id⊢ 𝓤 _) $ await ! tt $
           pick ! (λ r. split ! $ move ! (1 ∷ []) $ use1 𝓛 (raw (fact 𝓤 (SumsOf ys r))) (sum_said r) $
@@ -200,12 +200,12 @@ module _ {M : Type 1} {𝓤 : Ura M} (𝓛 : Logic 𝓤) (mem : Memory → SProp
           peeks ! S.the_row (Is S.the_row) (shows 𝓛 S.the_row) r (u ∷ []) (λ is.
           -- [what the sums own; the token; what records owns; the locals]
           land ! (from ! (stop !)) (init ! 3 refl ((LL.lawful S.the_type S'.the_laws 𝓛).typed r _ is).0) $
-          use1 𝓛 (raw ((Total 𝓛 mem run).pre (to-totals r u))) (goes-totals r u) $
-          calls_at ! fm (Total 𝓛 mem run) known-totals (to-totals r u)
+          use1 𝓛 (raw ((Total 𝓛 mem run).pre (to_totals r u))) (goes_totals r u) $
+          calls_at ! fm (Total 𝓛 mem run) known_totals (to_totals r u)
           (and_then ! (load ! (from ! (stop !)) (look ! 3 refl)) (no_more !)) (λ v.
           use1 𝓛 (later (some (λ (c : Counted). (‵ ftrue ⊛ ‵ ((E.the_row).own_val c (v ∷ []))) ⊛ raw
           (ensured 𝓛 totals.ended (totals.clauses 𝓛 mem run) tt (r, tt) tt c)))) (id⊢ 𝓤 _) $ await ! tt $
-          pick ! (λ c. split ! $ move ! (1 ∷ []) $ use1 𝓛 (raw (fact 𝓤 (c ≡ Totals r))) (totals-said r c) $
+          pick ! (λ c. split ! $ move ! (1 ∷ []) $ use1 𝓛 (raw (fact 𝓤 (c ≡ Totals r))) (totals_said r c) $
           heard ! (c ≡ Totals r) (λ e. split ! $ drop ! $
           peeks ! E.the_row (Is E.the_row) (shows 𝓛 E.the_row) c (v ∷ []) (λ is'.
           -- [the result; the token; what records owns; the locals]
@@ -213,7 +213,7 @@ module _ {M : Type 1} {𝓤 : Ura M} (𝓛 : Logic 𝓤) (mem : Memory → SProp
           returns ! (look ! 13 refl) $ forget ! 3 refl $ forget ! 7 refl $ forget ! 9 refl $ forget ! 11 refl $ forget ! 13 refl $
           move ! (13 ∷ 14 ∷ []) $ free1 ! $ move ! (11 ∷ 12 ∷ []) $ free1 ! $ move ! (9 ∷ 10 ∷ []) $ free1 ! $
           move ! (7 ∷ 8 ∷ []) $ free1 ! $ move ! (5 ∷ 6 ∷ []) $ free1 ! $ move ! (3 ∷ 4 ∷ []) $ free1 ! $ free0 ! $
-          by ! (exits c v (counted-few ys few are e)))))))))))
+          by ! (exits c v (counted_few ys few are e)))))))))))
 
     walk : ent 𝓤 (on_entry 𝓛 count.signature (κ, tt) (q, tt) (x, tt) (s ∷ [], tt)) (WpFn 𝓤 H C Λ code.function (s ∷ []) Post)
     walk =
@@ -230,21 +230,21 @@ module _ {M : Type 1} {𝓤 : Ura M} (𝓛 : Logic 𝓤) (mem : Memory → SProp
   count_walks : (C : Calls 𝓤 H) (Λ : Loops 𝓤 H) → FmC 𝓤 H 𝓛.laws C → Triple 𝓤 (C #records·too-many) (Many 𝓛 mem run)
       → Triple 𝓤 (C #records·sum) (Sum 𝓛 mem run) → Triple 𝓤 (C #records·totals) (Total 𝓛 mem run)
       → Walks 𝓛 count.ended stayed (WpFn 𝓤 H C Λ code.function) (count.clauses 𝓛 mem run)
-  count_walks C Λ fm known_many known-sum known-totals =
+  count_walks C Λ fm known_many known_sum known_totals =
       walked 𝓛 count.ended stayed (count.clauses 𝓛 mem run) (WpFn 𝓤 H C Λ code.function)
       (λ κs. (shr_slice_vals, tt)) (λ κs. (shr_slice_Tells (named 0) κs.0 T.the_row, tt))
       (λ κs qs bounds a g are. via 𝓤 _ (fst∗ 𝓤 _ (emp 𝓤))
-      (walk 𝓛 mem run κs.0 qs.0 a.0 are.0.0.1 C Λ fm known_many known-sum known-totals))
+      (walk 𝓛 mem run κs.0 qs.0 a.0 are.0.0.1 C Λ fm known_many known_sum known_totals))
 
 count_meets : {M : Type 1} {𝓤 : Ura M} (𝓛 : Logic 𝓤) →
     (mem : Memory → SProp 𝓤) (run : Routine → Fun 𝓤) (𝓣 : Tables 𝓤 𝓛.H)
     → Triple 𝓤 (𝓣.C #records·too-many) (Many 𝓛 mem run) → Triple 𝓤 (𝓣.C #records·sum) (Sum 𝓛 mem run)
     → Triple 𝓤 (𝓣.C #records·totals) (Total 𝓛 mem run)
     → Meets 𝓛 count.signature (WpFn 𝓤 𝓛.H 𝓣.C 𝓣.Λ code.function) (count.spec 𝓛 mem run)
-count_meets {𝓤 = 𝓤} 𝓛 mem run 𝓣 known_many known-sum known-totals =
+count_meets {𝓤 = 𝓤} 𝓛 mem run 𝓣 known_many known_sum known_totals =
     walk_Meets 𝓛 count.ended stayed (Goes-none_slice 𝓛 1 (0 ∷ []) tt (plain (λ _. T.the_row)) yes, tt)
     (count.clauses 𝓛 mem run) (WpFn 𝓤 𝓛.H 𝓣.C 𝓣.Λ code.function) (WpFn-mono 𝓤 𝓛.H 𝓛.laws 𝓣 code.function)
-    (count_walks 𝓛 mem run 𝓣.C 𝓣.Λ (fm_of 𝓤 𝓛.H 𝓛.laws 𝓣) known_many known-sum known-totals)
+    (count_walks 𝓛 mem run 𝓣.C 𝓣.Λ (fm_of 𝓤 𝓛.H 𝓛.laws 𝓣) known_many known_sum known_totals)
 
 pub count_spec : {M : Type 1} → stated.statement M
 unfolding code.routine tables_of

@@ -47,15 +47,15 @@ use denote.Triple.Table.{entered, cited}
 use denote.Triple.Walked.{says, needs, Stays, stay_none, walk_of, Goes-none, Walks, ends_at, walked, walk_Meets}
 use denote.Exit.{yes}
 use denote.Triple.Clauses.{ensured, lasts}
-use Rattle.trellis.specs.Bounds.{mostBlocks}
-use Rattle.records.specs.Records.{countedOutcome, counting}
+use Rattle.trellis.specs.Bounds.{most_blocks}
+use Rattle.records.specs.Records.{counted_outcome, counting}
 use Rattle.records.specs.declared.BlockRecord.{BlockRecord}
 use Rattle.records.specs.declared.Counted.{Counted}
 use Rattle.records.specs.contracts.BlockRecord as T
 use Rattle.records.proofs.BlockRecord.TheLaws as T'
 use Rattle.records.specs.contracts.Counted as E
 use Rattle.records.proofs.Counted.TheLaws as E'
-use Rattle.records.proofs.Front.{All, First, Behind, front_cut, front-join}
+use Rattle.records.proofs.Front.{All, First, Behind, front_cut, front_join}
 use Rattle.records.specs.contracts.count as count
 use Rattle.records.proofs.count.Symbol as count-def
 use Rattle.records.proofs.count.Symbol.{name as #records·count}
@@ -66,10 +66,10 @@ use Rattle.records.proofs.count_first.Statement as stated
 use Rattle.records.proofs.count_first.Code as code
 
 abbrev R : RattleType
-R = Array T.the_row mostBlocks
+R = Array T.the_row most_blocks
 
-abbrev arrTy : Ty
-arrTy = lone R.mir
+abbrev arr_ty : Ty
+arr_ty = lone R.mir
 
 abbrev sl : Ty
 sl = slice_ty (ty_ref erased imm (pointee (T.the_row).written))
@@ -83,11 +83,11 @@ Count 𝓛 mem run = triple_of 𝓛 count.signature (count.spec 𝓛 mem run)
 abbrev vals : List BlockRecord → List Val
 vals = array_vals (LL.vals T.the_type T'.the_laws)
 
-room : (k n m : ℕ) → k ≤ n → n ≡ mostBlocks → m ≡ k → Room T.the_row m
+room : (k n m : ℕ) → k ≤ n → n ≡ most_blocks → m ≡ k → Room T.the_row m
 room k n m l e is = (omega arith, omega arith)
 
 module _ {M : Type 1} {𝓤 : Ura M} (𝓛 : Logic 𝓤) (mem : Memory → SProp 𝓤) (run : Routine → Fun 𝓤)
-    (ys : List BlockRecord) (len : length ys ≡ mostBlocks) (k : ℕ) where
+    (ys : List BlockRecord) (len : length ys ≡ most_blocks) (k : ℕ) where
   -- the records that are counted
   open 𝓛 use {H, A}
 
@@ -111,7 +111,7 @@ module _ {M : Type 1} {𝓤 : Ura M} (𝓛 : Logic 𝓤) (mem : Memory → SProp
 
   -- the array's records as they lie in memory from l on, one behind another, the first of them, and the others
   abbrev Apart : ℕ → Fml
-  Apart l = All T.the_row full_share mostBlocks ys l 0
+  Apart l = All T.the_row full_share most_blocks ys l 0
 
   abbrev Front : ℕ → Fml
   Front l = First T.the_row full_share k ys l 0
@@ -121,23 +121,23 @@ module _ {M : Type 1} {𝓤 : Ura M} (𝓛 : Logic 𝓤) (mem : Memory → SProp
 
   -- the array in a local's memory, and back
   lies : (l : ℕ)
-      → ent 𝓤 (sep 𝓤 (sem 𝓛 (fat full_share arrTy l 0 mach)) (sem 𝓛 Own)) (sem 𝓛 (part_at R full_share ys l 0))
+      → ent 𝓤 (sep 𝓤 (sem 𝓛 (fat full_share arr_ty l 0 mach)) (sem 𝓛 Own)) (sem 𝓛 (part_at R full_share ys l 0))
   unfolding part_of
   lies l =
-      qed 𝓛 (‵ (fat full_share arrTy l 0 mach) ∷ ‵ Own ∷ []) ∵
-      use1 𝓛 (‵ (cell_at full_share R.mir (mach ∷ []) l 0)) (𝓛.laws.at_raw full_share arrTy l 0 mach) $
+      qed 𝓛 (‵ (fat full_share arr_ty l 0 mach) ∷ ‵ Own ∷ []) ∵
+      use1 𝓛 (‵ (cell_at full_share R.mir (mach ∷ []) l 0)) (𝓛.laws.at_raw full_share arr_ty l 0 mach) $
       fjoin ! $ fpack ! (List Val) (λ vs. fsep (cell_at full_share R.mir vs l 0) (R.own ys vs)) (mach ∷ []) $ done !
 
-  stands : (l : ℕ) → ent 𝓤 (sem 𝓛 (part_at R full_share ys l 0)) (sem 𝓛 (fat full_share arrTy l 0 mach))
+  stands : (l : ℕ) → ent 𝓤 (sem 𝓛 (part_at R full_share ys l 0)) (sem 𝓛 (fat full_share arr_ty l 0 mach))
   unfolding part_of
   stands l =
       qed 𝓛 (‵ (part_at R full_share ys l 0) ∷ []) ∵
       fpick ! (λ vs. fsplit ! $ move ! (1 ∷ []) $ peeks ! R (Is R) (shows 𝓛 R) ys vs (λ p. drop ! $
       rewrite ! 0 (λ (ws : List Val). ‵ (cell_at full_share R.mir ws l 0))
-      (Array-Tells T.the_row (LL.vals T.the_type T'.the_laws) (LL.tells T.the_type T'.the_laws) mostBlocks ys vs p) refl $
-      use1 𝓛 (‵ (fat full_share arrTy l 0 mach)) (𝓛.laws.raw_at full_share arrTy l 0 mach) $ done !))
+      (Array-Tells T.the_row (LL.vals T.the_type T'.the_laws) (LL.tells T.the_type T'.the_laws) most_blocks ys vs p) refl $
+      use1 𝓛 (‵ (fat full_share arr_ty l 0 mach)) (𝓛.laws.raw_at full_share arr_ty l 0 mach) $ done !))
 
-  exits : (r : Counted) (u : Val) → countedOutcome r ≡ counting zs
+  exits : (r : Counted) (u : Val) → counted_outcome r ≡ counting zs
       → ent 𝓤 (⋆ 𝓛 (‵ ((E.the_row).own_val r (u ∷ [])) ∷ ‵ Own ∷ ‵ Rest ∷ [])) (Post u)
   exits r u e =
       qed 𝓛 (‵ ((E.the_row).own_val r (u ∷ [])) ∷ ‵ Own ∷ ‵ Rest ∷ []) ∵
@@ -165,16 +165,16 @@ module _ {M : Type 1} {𝓤 : Ura M} (𝓛 : Logic 𝓤) (mem : Memory → SProp
         nothing ! $ move ! (2 ∷ 0 ∷ []) $ fjoin ! $ nothing ! $ move ! (2 ∷ 0 ∷ []) $ join ! $ join ! $ frame ! $ done !
 
     said : (r : Counted) → ent 𝓤 (ensured 𝓛 count.ended (count.clauses 𝓛 mem run) (α ∷ [], tt) (x, tt) tt r)
-        (fact 𝓤 (countedOutcome r ≡ counting zs))
+        (fact 𝓤 (counted_outcome r ≡ counting zs))
     said r = ex_e 𝓤 _
-        (λ ws. snd∗ 𝓤 (sem 𝓛 (lasts count.ended (α ∷ [], tt) (x, tt) ws)) (fact 𝓤 (countedOutcome r ≡ counting zs)))
+        (λ ws. snd∗ 𝓤 (sem 𝓛 (lasts count.ended (α ∷ [], tt) (x, tt) ws)) (fact 𝓤 (counted_outcome r ≡ counting zs)))
 
   module _ (C : Calls 𝓤 H) (Λ : Loops 𝓤 H) (fm : FmC 𝓤 H 𝓛.laws C) (known : Triple 𝓤 (C #records·count) (Count 𝓛 mem run)) where
     walk : Is R ys (mach ∷ []) → k < 2 ^ 64 → k ≤ length ys
         → ent 𝓤 (on_entry 𝓛 count-first.signature tt tt (ys, (k, tt)) (mach ∷ [], (vint w64 k ∷ [], tt)))
         (WpFn 𝓤 H C Λ code.function (mach ∷ vint w64 k ∷ []) Post)
     walk p gk few =
-        let typed = ((Array-Lawful 𝓛 T.the_row (LL.lawful T.the_type T'.the_laws 𝓛) mostBlocks).typed ys (mach ∷ []) p).0 in
+        let typed = ((Array-Lawful 𝓛 T.the_row (LL.lawful T.the_type T'.the_laws 𝓛) most_blocks).typed ys (mach ∷ []) p).0 in
         let long = length-take-le k ys few in
         qed 𝓛 (‵ ftrue ∷ ‵ (owns (R ∷ usize ∷ []) (ys, (k, tt)) (mach ∷ [], (vint w64 k ∷ [], tt))) ∷ []) ∵
         enter ! C Λ code.function (mach ∷ vint w64 k ∷ []) _ $
@@ -187,12 +187,12 @@ module _ {M : Type 1} {𝓤 : Ura M} (𝓛 : Logic 𝓤) (mem : Memory → SProp
         (init ! 0 refl (tt, (tt, (record { fits = gk }, tt)))) $
         rewrite ! 0 (λ (n : ℕ). ‵ (fat full_share sl l₅ 0 (slice_val (l₃, 0) n))) (sym long) refl $
         move ! (13 ∷ []) $ fsplit ! $
-        use1 𝓛 (‵ Own ⊛ ‵ Own) ((array_copy 𝓛 T.the_row (LL.copy T.the_type T'.the_copy 𝓛) mostBlocks).twice ys (mach ∷ [])) $
+        use1 𝓛 (‵ Own ⊛ ‵ Own) ((array_copy 𝓛 T.the_row (LL.copy T.the_type T'.the_copy 𝓛) most_blocks).twice ys (mach ∷ [])) $
         split ! $
         -- [what records owns, twice; what blocks owns; _5; …; _4; …; _3; …; _2; …; _1; …; room for _0; …; true]
         move ! (7 ∷ 0 ∷ []) $ use2 𝓛 (‵ (part_at R full_share ys l₃ 0)) (lies l₃) $
-        use1 𝓛 (‵ (Apart l₃)) (Array-apart 𝓛 T.the_row full_share tt mostBlocks ys l₃ 0) $
-        use1 𝓛 (‵ (Front l₃) ⊛ ‵ (Others l₃)) (front_cut 𝓛 T.the_row full_share k ys l₃ 0 mostBlocks) $ split ! $
+        use1 𝓛 (‵ (Apart l₃)) (Array-apart 𝓛 T.the_row full_share tt most_blocks ys l₃ 0) $
+        use1 𝓛 (‵ (Front l₃) ⊛ ‵ (Others l₃)) (front_cut 𝓛 T.the_row full_share k ys l₃ 0 most_blocks) $ split ! $
         lft_new ! tt (λ α. move ! (1 ∷ []) $
         use1 𝓛 (later (some (λ (γ : GName). ‵ (Lent α l₃ γ) ⊛ ‵ (flent (α ∷ []) (Front l₃)))))
         (lends_shr_slice 𝓛 T.the_row (named 0) (α ∷ []) full_share zs l₃ 0 (room k (length ys) (length zs) few len long)) $
@@ -203,15 +203,15 @@ module _ {M : Type 1} {𝓤 : Ura M} (𝓛 : Logic 𝓤) (mem : Memory → SProp
         calls_at ! fm (Count 𝓛 mem run) known (to α l₃ γ) (and_then ! (load ! (from ! (stop !)) (look ! 5 refl)) (no_more !)) (λ u.
         use1 𝓛 (later (some (λ (r : Counted). ((‵ (flft (α ∷ []) full_share) ⊛ ‵ ftrue) ⊛ ‵ ((E.the_row).own_val r (u ∷ []))) ⊛ raw
         (ensured 𝓛 count.ended (count.clauses 𝓛 mem run) (α ∷ [], tt) (x α l₃ γ, tt) tt r)))) (id⊢ 𝓤 _) $ await ! tt $ pick ! (λ r.
-        split ! $ move ! (1 ∷ []) $ use1 𝓛 (raw (fact 𝓤 (countedOutcome r ≡ counting zs))) (said α l₃ γ r) $
-        heard ! (countedOutcome r ≡ counting zs) (λ e. split ! $ move ! (1 ∷ []) $
+        split ! $ move ! (1 ∷ []) $ use1 𝓛 (raw (fact 𝓤 (counted_outcome r ≡ counting zs))) (said α l₃ γ r) $
+        heard ! (counted_outcome r ≡ counting zs) (λ e. split ! $ move ! (1 ∷ []) $
         -- [the result; the token; what is lent; the others; what records owns; what blocks owns; _5; …]
         peeks ! E.the_row (Is E.the_row) (shows 𝓛 E.the_row) r (u ∷ []) (λ is.
         land ! (from ! (stop !)) (init ! 15 refl ((EL.lawful E.the_type E'.the_laws 𝓛 tt).typed r _ is).0) $
         move ! (1 ∷ []) $ split ! $ lft_end ! tt $ move ! (0 ∷ 3 ∷ []) $ lent_back ! tt $
-        move ! (0 ∷ 3 ∷ []) $ use2 𝓛 (‵ (Apart l₃)) (front-join 𝓛 T.the_row full_share k ys l₃ 0 mostBlocks len) $
-        use1 𝓛 (‵ (part_at R full_share ys l₃ 0)) (Array-whole 𝓛 T.the_row full_share mostBlocks ys l₃ 0) $
-        use1 𝓛 (‵ (fat full_share arrTy l₃ 0 mach)) (stands l₃) $
+        move ! (0 ∷ 3 ∷ []) $ use2 𝓛 (‵ (Apart l₃)) (front_join 𝓛 T.the_row full_share k ys l₃ 0 most_blocks len) $
+        use1 𝓛 (‵ (part_at R full_share ys l₃ 0)) (Array-whole 𝓛 T.the_row full_share most_blocks ys l₃ 0) $
+        use1 𝓛 (‵ (fat full_share arr_ty l₃ 0 mach)) (stands l₃) $
         -- [_3; true; the result; what records owns; what blocks owns; _5; …; _4; …; _3's death; _2; …; _1; …; _0; …; true]
         returns ! (look ! 14 refl) $ forget ! 0 refl $ forget ! 5 refl $ forget ! 7 refl $ forget ! 10 refl $ forget ! 12 refl $
         forget ! 14 refl $
@@ -222,29 +222,29 @@ module _ {M : Type 1} {𝓤 : Ura M} (𝓛 : Logic 𝓤) (mem : Memory → SProp
 module _ {M : Type 1} {𝓤 : Ura M} (𝓛 : Logic 𝓤) (mem : Memory → SProp 𝓤) (run : Routine → Fun 𝓤) where
   open 𝓛 use {H}
 
-  count-first-walks : (C : Calls 𝓤 H) (Λ : Loops 𝓤 H) → FmC 𝓤 H 𝓛.laws C → Triple 𝓤 (C #records·count) (Count 𝓛 mem run)
+  count_first_walks : (C : Calls 𝓤 H) (Λ : Loops 𝓤 H) → FmC 𝓤 H 𝓛.laws C → Triple 𝓤 (C #records·count) (Count 𝓛 mem run)
       → Walks 𝓛 count-first.ended stayed (WpFn 𝓤 H C Λ code.function) (count-first.clauses 𝓛 mem run)
-  count-first-walks C Λ fm known =
+  count_first_walks C Λ fm known =
       walked 𝓛 count-first.ended stayed (count-first.clauses 𝓛 mem run) (WpFn 𝓤 H C Λ code.function)
       (λ κs. (vals, (uint_vals w64, tt)))
-      (λ κs. (Array-Tells T.the_row (LL.vals T.the_type T'.the_laws) (LL.tells T.the_type T'.the_laws) mostBlocks, (uint_Tells w64, tt)))
+      (λ κs. (Array-Tells T.the_row (LL.vals T.the_type T'.the_laws) (LL.tells T.the_type T'.the_laws) most_blocks, (uint_Tells w64, tt)))
       (λ κs qs bounds a g are. needs 𝓤 _ _
       (walk 𝓛 mem run a.0 are.0.1.0.1 a.1.0 C Λ fm known are.0 are.1.0.1))
 
-count-first-meets : {M : Type 1} {𝓤 : Ura M} (𝓛 : Logic 𝓤) →
+count_first_meets : {M : Type 1} {𝓤 : Ura M} (𝓛 : Logic 𝓤) →
     (mem : Memory → SProp 𝓤) (run : Routine → Fun 𝓤) (𝓣 : Tables 𝓤 𝓛.H) → Triple 𝓤 (𝓣.C #records·count) (Count 𝓛 mem run)
     → Meets 𝓛 count-first.signature (WpFn 𝓤 𝓛.H 𝓣.C 𝓣.Λ code.function) (count-first.spec 𝓛 mem run)
-count-first-meets {𝓤 = 𝓤} 𝓛 mem run 𝓣 known =
+count_first_meets {𝓤 = 𝓤} 𝓛 mem run 𝓣 known =
     walk_Meets 𝓛 count-first.ended stayed
     (Goes-none 𝓛 0 (λ _. R) yes (λ κs x f. refl), (Goes-none 𝓛 0 (λ _. usize) yes (λ κs x f. refl), tt))
     (count-first.clauses 𝓛 mem run) (WpFn 𝓤 𝓛.H 𝓣.C 𝓣.Λ code.function) (WpFn-mono 𝓤 𝓛.H 𝓛.laws 𝓣 code.function)
-    (count-first-walks 𝓛 mem run 𝓣.C 𝓣.Λ (fm_of 𝓤 𝓛.H 𝓛.laws 𝓣) known)
+    (count_first_walks 𝓛 mem run 𝓣.C 𝓣.Λ (fm_of 𝓤 𝓛.H 𝓛.laws 𝓣) known)
 
-pub count-first-spec : {M : Type 1} → stated.statement M
+pub count_first_spec : {M : Type 1} → stated.statement M
 unfolding code.routine tables_of
-count-first-spec 𝓤 𝓛 𝓜 𝓡 =
+count_first_spec 𝓤 𝓛 𝓜 𝓡 =
     entered 𝓤 𝓛.H (triple_of 𝓛 count-first.signature (count-first.spec 𝓛 𝓜.mem 𝓡.run))
     (tables 𝓤 𝓛.H 𝓜 𝓡 code.env).C (tables 𝓤 𝓛.H 𝓜 𝓡 code.env).Λ #records·count-first code.function (code.unfolded 𝓤 𝓛.H 𝓜 𝓡)
-    (count-first-meets 𝓛 𝓜.mem 𝓡.run (tables_of 𝓤 𝓛.H 𝓜 (tables 𝓤 𝓛.H 𝓜 𝓡 code.env))
+    (count_first_meets 𝓛 𝓜.mem 𝓡.run (tables_of 𝓤 𝓛.H 𝓜 (tables 𝓤 𝓛.H 𝓜 𝓡 code.env))
     (cited 𝓤 𝓛.H (Count 𝓛 𝓜.mem 𝓡.run) 𝓜 𝓡 code.env #records·count count-def.routine code.calls-records::count
     (count-thm.met 𝓤 𝓛 𝓜 𝓡)))

@@ -40,7 +40,7 @@ use denote.Triple.Table.{entered}
 use denote.Steps.{nothing, owned}
 use denote.Triple.Walked.{says, needs, Stays, stay_none_slice, stay_none, walk_of, Walks, ends_at, walked, Goes-none_slice, Goes-none}
 use denote.Triple.Walked.{walk_Meets}
-use Rattle.records.specs.inner.Blank.{blank}
+use Rattle.records.specs.Inner.Blank.{blank}
 use Rattle.records.specs.declared.BlockRecord.{BlockRecord}
 use Rattle.records.specs.contracts.BlockRecord as T
 use Rattle.records.proofs.BlockRecord.TheLaws as T'
@@ -124,26 +124,26 @@ module _ {M : Type 1} {𝓤 : Ura M} (𝓛 : Logic 𝓤) (mem : Memory → SProp
 module _ {M : Type 1} {𝓤 : Ura M} (𝓛 : Logic 𝓤) (mem : Memory → SProp 𝓤) (run : Routine → Fun 𝓤) where
   open 𝓛 use {H}
 
-  record-at-walks : (C : Calls 𝓤 H) (Λ : Loops 𝓤 H)
+  record_at_walks : (C : Calls 𝓤 H) (Λ : Loops 𝓤 H)
       → Walks 𝓛 record-at.ended stayed (WpFn 𝓤 H C Λ code.function) (record-at.clauses 𝓛 mem run)
-  record-at-walks C Λ = walked 𝓛 record-at.ended stayed (record-at.clauses 𝓛 mem run) (WpFn 𝓤 H C Λ code.function)
+  record_at_walks C Λ = walked 𝓛 record-at.ended stayed (record-at.clauses 𝓛 mem run) (WpFn 𝓤 H C Λ code.function)
       (λ κs. (shr_slice_vals, (uint_vals w64, tt))) (λ κs. (shr_slice_Tells (named 0) κs.0 T.the_row, (uint_Tells w64, tt)))
       (λ κs qs bounds a g are. needs 𝓤 _ _
       (walk 𝓛 mem run κs.0 qs.0 a.0.ref_ptr.0 a.0.ref_ptr.1 0 a.0.now a.1.0 C Λ are.0.0.1
       are.1.0.1))
 
-record-at-meets : {M : Type 1} {𝓤 : Ura M} (𝓛 : Logic 𝓤) →
+record_at_meets : {M : Type 1} {𝓤 : Ura M} (𝓛 : Logic 𝓤) →
     (mem : Memory → SProp 𝓤) (run : Routine → Fun 𝓤) (𝓣 : Tables 𝓤 𝓛.H)
     → Meets 𝓛 record-at.signature (WpFn 𝓤 𝓛.H 𝓣.C 𝓣.Λ code.function) (record-at.spec 𝓛 mem run)
-record-at-meets {𝓤 = 𝓤} 𝓛 mem run 𝓣 =
+record_at_meets {𝓤 = 𝓤} 𝓛 mem run 𝓣 =
     walk_Meets 𝓛 record-at.ended stayed
     (Goes-none_slice 𝓛 1 (0 ∷ []) tt (plain (λ _. T.the_row)) yes, (Goes-none 𝓛 1 (λ _. usize) yes (λ κs x f. refl), tt))
     (record-at.clauses 𝓛 mem run) (WpFn 𝓤 𝓛.H 𝓣.C 𝓣.Λ code.function) (WpFn-mono 𝓤 𝓛.H 𝓛.laws 𝓣 code.function)
-    (record-at-walks 𝓛 mem run 𝓣.C 𝓣.Λ)
+    (record_at_walks 𝓛 mem run 𝓣.C 𝓣.Λ)
 
-pub record-at-spec : {M : Type 1} → stated.statement M
+pub record_at_spec : {M : Type 1} → stated.statement M
 unfolding code.routine tables_of
-record-at-spec 𝓤 𝓛 𝓜 𝓡 =
+record_at_spec 𝓤 𝓛 𝓜 𝓡 =
     entered 𝓤 𝓛.H (triple_of 𝓛 record-at.signature (record-at.spec 𝓛 𝓜.mem 𝓡.run))
     (tables 𝓤 𝓛.H 𝓜 𝓡 code.env).C (tables 𝓤 𝓛.H 𝓜 𝓡 code.env).Λ #records·record-at code.function (code.unfolded 𝓤 𝓛.H 𝓜 𝓡)
-    (record-at-meets 𝓛 𝓜.mem 𝓡.run (tables_of 𝓤 𝓛.H 𝓜 (tables 𝓤 𝓛.H 𝓜 𝓡 code.env)))
+    (record_at_meets 𝓛 𝓜.mem 𝓡.run (tables_of 𝓤 𝓛.H 𝓜 (tables 𝓤 𝓛.H 𝓜 𝓡 code.env)))

@@ -49,15 +49,15 @@ use denote.Triple.Table.{entered, cited}
 use denote.Triple.Walked.{says, needs, Stays, stay_none_slice, walk_of, Goes-none_slice, Walks, ends_at, walked, walk_Meets}
 use denote.Exit.{yes}
 use denote.Triple.Clauses.{ensured, lasts}
-use Rattle.trellis.specs.Bounds.{mostBlocks}
-use Rattle.records.specs.inner.Blank.{blank}
+use Rattle.trellis.specs.Bounds.{most_blocks}
+use Rattle.records.specs.Inner.Blank.{blank}
 use Rattle.records.specs.declared.BlockRecord.{BlockRecord}
 use Rattle.records.specs.declared.Sums.{Sums}
 use Rattle.records.specs.contracts.BlockRecord as T
 use Rattle.records.proofs.BlockRecord.TheLaws as T'
 use Rattle.records.specs.contracts.Sums as S
 use Rattle.records.proofs.Sums.TheLaws as S'
-use Rattle.records.proofs.Summing.{SumsOf, Summed, Held, Added, summed-none, summed-next, summed-fits, summed-all}
+use Rattle.records.proofs.Summing.{SumsOf, Summed, Held, Added, summed_none, summed_next, summed_fits, summed_all}
 use Rattle.records.specs.contracts.record_at as record-at
 use Rattle.records.proofs.record_at.Symbol as record-at-def
 use Rattle.records.proofs.record_at.Symbol.{name as #records·record-at}
@@ -91,14 +91,14 @@ abbrev none : Sums
 none = record { additions = 0; selections = 0 }
 
 -- the machine value of the sums before the first turn
-abbrev none-mach : Val
-none-mach = LL.val S.the_type S'.the_laws none
+abbrev none_mach : Val
+none_mach = LL.val S.the_type S'.the_laws none
 
-none_is : Is S.the_row none (none-mach ∷ [])
+none_is : Is S.the_row none (none_mach ∷ [])
 none_is = LL.owes S.the_type S'.the_laws none ((refl, lit< tt), ((refl, lit< tt), tt))
 
 held : (b : BlockRecord) (v : Val) → Is T.the_row b (v ∷ []) → Held b
-held b v is = record { additionsFit = is.1.1.1.1.0.1; selectionsFit = is.1.1.1.1.1.0.1 }
+held b v is = record { additions_fit = is.1.1.1.1.0.1; selections_fit = is.1.1.1.1.1.0.1 }
 
 module _ {M : Type 1} {𝓤 : Ura M} (𝓛 : Logic 𝓤) (mem : Memory → SProp 𝓤) (run : Routine → Fun 𝓤) where
   -- the contracts that the proof cites
@@ -109,7 +109,7 @@ module _ {M : Type 1} {𝓤 : Ura M} (𝓛 : Logic 𝓤) (mem : Memory → SProp
   Add = triple_of 𝓛 added.signature (added.spec 𝓛 mem run)
 
 module _ {M : Type 1} {𝓤 : Ura M} (𝓛 : Logic 𝓤) (mem : Memory → SProp 𝓤) (run : Routine → Fun 𝓤) (κ : Lft)
-    (q : Share) (x : Bor (List BlockRecord)) (gn : Room T.the_row (length x.now)) (few : length x.now ≤ mostBlocks) where
+    (q : Share) (x : Bor (List BlockRecord)) (gn : Room T.the_row (length x.now)) (few : length x.now ≤ most_blocks) where
   open 𝓛 use {H, A}
 
   abbrev ys : List BlockRecord
@@ -134,35 +134,35 @@ module _ {M : Type 1} {𝓤 : Ura M} (𝓛 : Logic 𝓤) (mem : Memory → SProp
       move ! (1 ∷ []) $ frame ! $ nothing ! $ move ! (2 ∷ 0 ∷ []) $ fjoin ! $ frame ! $ done !
 
   -- the call of `record_at` at i
-  abbrev to-record : ℕ → (RecordAt 𝓛 mem run).Ghost
-  to-record i = (((κ, tt), (q, tt), tt, (x, (i, tt)), (s ∷ [], (vint w64 i ∷ [], tt))), tt)
+  abbrev to_record : ℕ → (RecordAt 𝓛 mem run).Ghost
+  to_record i = (((κ, tt), (q, tt), tt, (x, (i, tt)), (s ∷ [], (vint w64 i ∷ [], tt))), tt)
 
-  goes-record : (i : ℕ) → i < length ys → i < 2 ^ 64
-      → ent 𝓤 (sep 𝓤 (sep 𝓤 (A.lft κ q) (sem 𝓛 ftrue)) (sem 𝓛 Own)) ((RecordAt 𝓛 mem run).pre (to-record i))
-  goes-record i within fits =
+  goes_record : (i : ℕ) → i < length ys → i < 2 ^ 64
+      → ent 𝓤 (sep 𝓤 (sep 𝓤 (A.lft κ q) (sem 𝓛 ftrue)) (sem 𝓛 Own)) ((RecordAt 𝓛 mem run).pre (to_record i))
+  goes_record i within fits =
       qed 𝓛 ((‵ (flft κ q) ⊛ ‵ ftrue) ∷ ‵ Own ∷ []) ∵ says ! within $ frame ! $
       nothing ! $ owned ! usize (Is usize) (uint_Makes 𝓛 w64) i _ (refl, fits) $ fjoin ! $ move ! (1 ∷ 0 ∷ []) $ fjoin ! $ done !
 
-  record-said : (i : ℕ) (r : BlockRecord)
+  record_said : (i : ℕ) (r : BlockRecord)
       → ent 𝓤 (ensured 𝓛 record-at.ended (record-at.clauses 𝓛 mem run) (κ, tt) (x, (i, tt)) tt r) (fact 𝓤 (r ≡ get_or ys i blank))
-  record-said i r = ex_e 𝓤 _
+  record_said i r = ex_e 𝓤 _
       (λ ws. snd∗ 𝓤 (sem 𝓛 (lasts record-at.ended (κ, tt) (x, (i, tt)) ws)) (fact 𝓤 (r ≡ get_or ys i blank)))
 
   -- the call of `added`
-  abbrev to-added : Sums → Val → BlockRecord → Val → (Add 𝓛 mem run).Ghost
-  to-added r u b v = ((tt, tt, tt, (r, (b, tt)), (u ∷ [], (v ∷ [], tt))), tt)
+  abbrev to_added : Sums → Val → BlockRecord → Val → (Add 𝓛 mem run).Ghost
+  to_added r u b v = ((tt, tt, tt, (r, (b, tt)), (u ∷ [], (v ∷ [], tt))), tt)
 
-  goes-added : (r : Sums) (u : Val) (b : BlockRecord) (v : Val)
+  goes_added : (r : Sums) (u : Val) (b : BlockRecord) (v : Val)
       → (r.additions + b.additions < 2 ^ 64) × (r.selections + b.selections < 2 ^ 64)
       → ent 𝓤 (sep 𝓤 (sem 𝓛 ((S.the_row).own_val r (u ∷ []))) (sem 𝓛 ((T.the_row).own_val b (v ∷ []))))
-      ((Add 𝓛 mem run).pre (to-added r u b v))
-  goes-added r u b v fits =
+      ((Add 𝓛 mem run).pre (to_added r u b v))
+  goes_added r u b v fits =
       qed 𝓛 (‵ ((S.the_row).own_val r (u ∷ [])) ∷ ‵ ((T.the_row).own_val b (v ∷ [])) ∷ []) ∵ says ! fits $
       nothing ! $ move ! (2 ∷ 0 ∷ []) $ fjoin ! $ move ! (1 ∷ 0 ∷ []) $ fjoin ! $ nothing ! $ done !
 
-  added-said : (r : Sums) (b : BlockRecord) (r' : Sums)
+  added_said : (r : Sums) (b : BlockRecord) (r' : Sums)
       → ent 𝓤 (ensured 𝓛 added.ended (added.clauses 𝓛 mem run) tt (r, (b, tt)) tt r') (fact 𝓤 (Added r b r'))
-  added-said r b r' = ex_e 𝓤 _ (λ ws. snd∗ 𝓤 (sem 𝓛 (lasts added.ended tt (r, (b, tt)) ws)) (fact 𝓤 (Added r b r')))
+  added_said r b r' = ex_e 𝓤 _ (λ ws. snd∗ 𝓤 (sem 𝓛 (lasts added.ended tt (r, (b, tt)) ws)) (fact 𝓤 (Added r b r')))
 
   -- the variant: i, the sums over the first i records, and their machine value
   record Upto : Type 0 where
@@ -172,22 +172,22 @@ module _ {M : Type 1} {𝓤 : Ura M} (𝓛 : Logic 𝓤) (mem : Memory → SProp
     so : Summed ys i sums
 
   abbrev start : Upto
-  start = record { i = 0; sums = none; mach = none-mach; so = summed-none ys }
+  start = record { i = 0; sums = none; mach = none_mach; so = summed_none ys }
 
   abbrev Nearer : Upto → Upto → Type 0
   Nearer t' t = length ys - t'.i < length ys - t.i
 
-  Nearer-wf : WellFounded Nearer
-  Nearer-wf = InvImage.wf (λ (t : Upto). length ys - t.i) lt-wf_rel.wf
+  Nearer_wf : WellFounded Nearer
+  Nearer_wf = InvImage.wf (λ (t : Upto). length ys - t.i) lt-wf_rel.wf
 
-  i-fits : (i : ℕ) → i ≤ length ys → i < 2 ^ 64
-  i-fits i h = omega arith
+  i_fits : (i : ℕ) → i ≤ length ys → i < 2 ^ 64
+  i_fits i h = omega arith
 
   next_fits : (i : ℕ) → i ≤ length ys → i + 1 < 2 ^ 64
   next_fits i h = omega arith
 
-  module _ (𝓣 : Tables 𝓤 H) (known-record : Triple 𝓤 (𝓣.C #records·record-at) (RecordAt 𝓛 mem run))
-      (known-added : Triple 𝓤 (𝓣.C #records·added) (Add 𝓛 mem run)) (l₀ l₁ l₂ l₃ l₄ l₅ l₆ : ℕ) where
+  module _ (𝓣 : Tables 𝓤 H) (known_record : Triple 𝓤 (𝓣.C #records·record-at) (RecordAt 𝓛 mem run))
+      (known_added : Triple 𝓤 (𝓣.C #records·added) (Add 𝓛 mem run)) (l₀ l₁ l₂ l₃ l₄ l₅ l₆ : ℕ) where
     abbrev C : Calls 𝓤 H
     C = 𝓣.C
 
@@ -220,26 +220,26 @@ module _ {M : Type 1} {𝓤 : Ura M} (𝓛 : Logic 𝓤) (mem : Memory → SProp
         -- [the locals; what the sums own; the token; what records owns]: the last is had twice, and one goes to the callee
         move ! (16 ∷ []) $ use1 𝓛 (‵ Own ⊛ ‵ Own) ((shr_slice_copy 𝓛 (named 0) κ T.the_row).twice x (s ∷ [])) $ split ! $
         move ! (17 ∷ 0 ∷ []) $
-        use2 𝓛 (raw ((RecordAt 𝓛 mem run).pre (to-record t.i))) (goes-record t.i l (i-fits t.i t.so.within)) $
-        calls_at ! (fm_of 𝓤 H 𝓛.laws 𝓣) (RecordAt 𝓛 mem run) known-record (to-record t.i)
+        use2 𝓛 (raw ((RecordAt 𝓛 mem run).pre (to_record t.i))) (goes_record t.i l (i_fits t.i t.so.within)) $
+        calls_at ! (fm_of 𝓤 H 𝓛.laws 𝓣) (RecordAt 𝓛 mem run) known_record (to_record t.i)
         (and_then ! (load ! (from ! (stop !)) (look ! 12 refl)) (and_then ! (load ! (from ! (stop !)) (look ! 8 refl)) (no_more !)))
         (λ v.
         use1 𝓛 (later (some (λ (b : BlockRecord). ((‵ (flft κ q) ⊛ ‵ ftrue) ⊛ ‵ ((T.the_row).own_val b (v ∷ []))) ⊛ raw
         (ensured 𝓛 record-at.ended (record-at.clauses 𝓛 mem run) (κ, tt) (x, (t.i, tt)) tt b)))) (id⊢ 𝓤 _) $ await ! tt $
-        pick ! (λ b. split ! $ move ! (1 ∷ []) $ use1 𝓛 (raw (fact 𝓤 (b ≡ get_or ys t.i blank))) (record-said t.i b) $
+        pick ! (λ b. split ! $ move ! (1 ∷ []) $ use1 𝓛 (raw (fact 𝓤 (b ≡ get_or ys t.i blank))) (record_said t.i b) $
         heard ! (b ≡ get_or ys t.i blank) (λ e. split ! $ move ! (1 ∷ []) $
         peeks ! T.the_row (Is T.the_row) (shows 𝓛 T.the_row) b (v ∷ []) (λ is.
         -- [what the record owns; the token; what records owns; the locals; what the sums own]
         land ! (from ! (stop !)) (init ! 7 refl ((LL.lawful T.the_type T'.the_laws 𝓛).typed b _ is).0) $
         move ! (17 ∷ 0 ∷ []) $
-        use2 𝓛 (raw ((Add 𝓛 mem run).pre (to-added t.sums t.mach b v)))
-        (goes-added t.sums t.mach b v (summed-fits t.so few l (held b v is))) $
-        calls_at ! (fm_of 𝓤 H 𝓛.laws 𝓣) (Add 𝓛 mem run) known-added (to-added t.sums t.mach b v)
+        use2 𝓛 (raw ((Add 𝓛 mem run).pre (to_added t.sums t.mach b v)))
+        (goes_added t.sums t.mach b v (summed_fits t.so few l (held b v is))) $
+        calls_at ! (fm_of 𝓤 H 𝓛.laws 𝓣) (Add 𝓛 mem run) known_added (to_added t.sums t.mach b v)
         (and_then ! (load ! (from ! (stop !)) (look ! 11 refl)) (and_then ! (load ! (from ! (stop !)) (look ! 7 refl)) (no_more !)))
         (λ u.
         use1 𝓛 (later (some (λ (r : Sums). (‵ ftrue ⊛ ‵ ((S.the_row).own_val r (u ∷ []))) ⊛ raw
         (ensured 𝓛 added.ended (added.clauses 𝓛 mem run) tt (t.sums, (b, tt)) tt r)))) (id⊢ 𝓤 _) $ await ! tt $
-        pick ! (λ r. split ! $ move ! (1 ∷ []) $ use1 𝓛 (raw (fact 𝓤 (Added t.sums b r))) (added-said t.sums b r) $
+        pick ! (λ r. split ! $ move ! (1 ∷ []) $ use1 𝓛 (raw (fact 𝓤 (Added t.sums b r))) (added_said t.sums b r) $
         heard ! (Added t.sums b r) (λ more-is. split ! $ drop ! $
         peeks ! S.the_row (Is S.the_row) (shows 𝓛 S.the_row) r (u ∷ []) (λ is'.
         -- [what the sums own; the token; what records owns; the locals]
@@ -248,7 +248,7 @@ module _ {M : Type 1} {𝓤 : Ura M} (𝓛 : Logic 𝓤) (mem : Memory → SProp
         (from ! (stop !)) (store ! 9 refl (tt, record { fits = next_fits t.i t.so.within })) $
         forget ! 3 refl $ forget ! 5 refl $ forget ! 7 refl $
         keep ! (3 ∷ 4 ∷ 5 ∷ 6 ∷ 7 ∷ 8 ∷ 9 ∷ 10 ∷ 11 ∷ 12 ∷ 13 ∷ 14 ∷ 15 ∷ 16 ∷ 0 ∷ 1 ∷ 2 ∷ []) $
-        again ! Nearer At t (record { i = t.i + 1; sums = r; mach = u; so = summed-next t.so l e (held b v is) more-is })
+        again ! Nearer At t (record { i = t.i + 1; sums = r; mach = u; so = summed_next t.so l e (held b v is) more-is })
         (add-one-dec (length ys) t.i l))))))))))
         (λ over. jumps ! $ exec ! C Λ En piece.t-4 (at_ret En Post) $
         move ! (14 ∷ []) $ peeks ! S.the_row (Is S.the_row) (shows 𝓛 S.the_row) t.sums (t.mach ∷ []) (λ is.
@@ -259,53 +259,53 @@ module _ {M : Type 1} {𝓤 : Ura M} (𝓛 : Logic 𝓤) (mem : Memory → SProp
         forget ! 13 refl $
         move ! (13 ∷ 14 ∷ []) $ free1 ! $ move ! (11 ∷ 12 ∷ []) $ free1 ! $ move ! (9 ∷ 10 ∷ []) $ free1 ! $ move ! (7 ∷ 8 ∷ []) $ free1 ! $
         move ! (5 ∷ 6 ∷ []) $ free1 ! $ move ! (3 ∷ 4 ∷ []) $ free1 ! $ move ! (1 ∷ 2 ∷ []) $ free1 ! $ free0 ! $
-        by ! (exits t.sums t.mach (summed-all t.so (nltb→le t.i (length ys) over)))))
+        by ! (exits t.sums t.mach (summed_all t.so (nltb→le t.i (length ys) over)))))
 
     -- the loop, from no turn on: a lemma of its own, since inside the walk its check runs to the step limit
     begins : Sq 𝓛 (At start) (runs C Λ En piece.t-3 (at_ret En Post))
-    begins = first ! $ blocks ! $ loops ! 𝓣 Nearer Nearer-wf At turns start
+    begins = first ! $ blocks ! $ loops ! 𝓣 Nearer Nearer_wf At turns start
 
   walk : (𝓣 : Tables 𝓤 H) → Triple 𝓤 (𝓣.C #records·record-at) (RecordAt 𝓛 mem run)
       → Triple 𝓤 (𝓣.C #records·added) (Add 𝓛 mem run)
       → ent 𝓤 (on_entry 𝓛 sum.signature (κ, tt) (q, tt) (x, tt) (s ∷ [], tt)) (WpFn 𝓤 H 𝓣.C 𝓣.Λ code.function (s ∷ []) Post)
-  walk 𝓣 known-record known-added =
+  walk 𝓣 known_record known_added =
       qed 𝓛 ((‵ (flft κ q) ⊛ ‵ ftrue) ∷ ‵ (owns (ShrSlice (named 0) κ T.the_row ∷ []) (x, tt) (s ∷ [], tt)) ∷ []) ∵
       enter ! 𝓣.C 𝓣.Λ code.function (s ∷ []) _ $
       alloc1 ! (λ l₀. alloc1 ! (λ l₁. alloc1 ! (λ l₂. alloc1 ! (λ l₃. alloc1 ! (λ l₄. alloc1 ! (λ l₅. alloc1 ! (λ l₆. alloc0 ! $ params1 ! $
       pass1 ! (init ! 10 refl (tt, (tt, (record { fits = gn.0 }, tt)))) $ pass0 ! $
       assigns ! (agg ! (and_then ! (lit ! tt) (and_then ! (lit ! tt) (no_more !)))) (from ! (stop !))
-      (init ! 8 refl ((LL.lawful S.the_type S'.the_laws 𝓛).typed none (none-mach ∷ []) none_is).0) $
+      (init ! 8 refl ((LL.lawful S.the_type S'.the_laws 𝓛).typed none (none_mach ∷ []) none_is).0) $
       assigns ! (of_opd ! (lit ! tt)) (from ! (stop !)) (init ! 6 refl (tt, record { fits = lit< tt })) $
       move ! (15 ∷ []) $ fsplit ! $
-      owned ! S.the_row (Is S.the_row) (LL.makes S.the_type S'.the_plain 𝓛) none (none-mach ∷ []) none_is $
+      owned ! S.the_row (Is S.the_row) (LL.makes S.the_type S'.the_plain 𝓛) none (none_mach ∷ []) none_is $
       -- [what the sums own; what records owns; true; the locals; the token]
       keep ! (3 ∷ 4 ∷ 5 ∷ 6 ∷ 7 ∷ 8 ∷ 9 ∷ 10 ∷ 11 ∷ 12 ∷ 13 ∷ 14 ∷ 15 ∷ 16 ∷ 0 ∷ 17 ∷ 1 ∷ []) $
-      begins 𝓣 known-record known-added l₀ l₁ l₂ l₃ l₄ l₅ l₆)))))))
+      begins 𝓣 known_record known_added l₀ l₁ l₂ l₃ l₄ l₅ l₆)))))))
 
 module _ {M : Type 1} {𝓤 : Ura M} (𝓛 : Logic 𝓤) (mem : Memory → SProp 𝓤) (run : Routine → Fun 𝓤) where
   open 𝓛 use {H}
 
-  sum-walks : (𝓣 : Tables 𝓤 H) → Triple 𝓤 (𝓣.C #records·record-at) (RecordAt 𝓛 mem run)
+  sum_walks : (𝓣 : Tables 𝓤 H) → Triple 𝓤 (𝓣.C #records·record-at) (RecordAt 𝓛 mem run)
       → Triple 𝓤 (𝓣.C #records·added) (Add 𝓛 mem run)
       → Walks 𝓛 sum.ended stayed (WpFn 𝓤 H 𝓣.C 𝓣.Λ code.function) (sum.clauses 𝓛 mem run)
-  sum-walks 𝓣 known-record known-added =
+  sum_walks 𝓣 known_record known_added =
       walked 𝓛 sum.ended stayed (sum.clauses 𝓛 mem run) (WpFn 𝓤 H 𝓣.C 𝓣.Λ code.function)
       (λ κs. (shr_slice_vals, tt)) (λ κs. (shr_slice_Tells (named 0) κs.0 T.the_row, tt))
       (λ κs qs bounds a g are. needs 𝓤 _ _
-      (λ few. walk 𝓛 mem run κs.0 qs.0 a.0 are.0.0.1 few 𝓣 known-record known-added))
+      (λ few. walk 𝓛 mem run κs.0 qs.0 a.0 are.0.0.1 few 𝓣 known_record known_added))
 
 sum_meets : {M : Type 1} {𝓤 : Ura M} (𝓛 : Logic 𝓤) →
     (mem : Memory → SProp 𝓤) (run : Routine → Fun 𝓤) (𝓣 : Tables 𝓤 𝓛.H)
     → Triple 𝓤 (𝓣.C #records·record-at) (RecordAt 𝓛 mem run) → Triple 𝓤 (𝓣.C #records·added) (Add 𝓛 mem run)
     → Meets 𝓛 sum.signature (WpFn 𝓤 𝓛.H 𝓣.C 𝓣.Λ code.function) (sum.spec 𝓛 mem run)
-sum_meets {𝓤 = 𝓤} 𝓛 mem run 𝓣 known-record known-added =
+sum_meets {𝓤 = 𝓤} 𝓛 mem run 𝓣 known_record known_added =
     walk_Meets 𝓛 sum.ended stayed (Goes-none_slice 𝓛 1 (0 ∷ []) tt (plain (λ _. T.the_row)) yes, tt)
     (sum.clauses 𝓛 mem run) (WpFn 𝓤 𝓛.H 𝓣.C 𝓣.Λ code.function) (WpFn-mono 𝓤 𝓛.H 𝓛.laws 𝓣 code.function)
-    (sum-walks 𝓛 mem run 𝓣 known-record known-added)
+    (sum_walks 𝓛 mem run 𝓣 known_record known_added)
 
-pub sum-spec : {M : Type 1} → stated.statement M
+pub sum_spec : {M : Type 1} → stated.statement M
 unfolding code.routine tables_of
-sum-spec 𝓤 𝓛 𝓜 𝓡 =
+sum_spec 𝓤 𝓛 𝓜 𝓡 =
     entered 𝓤 𝓛.H (triple_of 𝓛 sum.signature (sum.spec 𝓛 𝓜.mem 𝓡.run))
     (tables 𝓤 𝓛.H 𝓜 𝓡 code.env).C (tables 𝓤 𝓛.H 𝓜 𝓡 code.env).Λ #records·sum code.function (code.unfolded 𝓤 𝓛.H 𝓜 𝓡)
     (sum_meets 𝓛 𝓜.mem 𝓡.run (tables_of 𝓤 𝓛.H 𝓜 (tables 𝓤 𝓛.H 𝓜 𝓡 code.env))

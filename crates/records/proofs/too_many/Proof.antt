@@ -6,5 +6,5 @@ use Rattle.records.proofs.too_many.Tie as tie
 returns : tie.Need-returns
 returns c = refl
 
-pub too-many-spec : {M : Type 1} → statement M
-too-many-spec = tie.close (tie.spec returns)
+pub too_many_spec : {M : Type 1} → statement M
+too_many_spec = tie.close (tie.spec returns)

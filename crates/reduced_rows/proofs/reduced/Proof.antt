@@ -3,7 +3,7 @@
 use Prim.Native.Nat.{◌-◌}
 use borrow.Author.Rules.{rules}
 use Rattle.parity.proofs.Checking.{power_at}
-use Rattle.reduced_rows.proofs.ReadingOff.{Reducing, reducing-none, reducing-next, reducing-end}
+use Rattle.reduced_rows.proofs.ReadingOff.{Reducing, reducing_none, reducing_next, reducing_end}
 use Rattle.reduced_rows.proofs.reduced.Statement.{statement}
 use Rattle.reduced_rows.proofs.reduced.Tie as tie
 
@@ -14,7 +14,7 @@ abbrev decreases-loop : tie.decreases-loop
 decreases-loop columns rows₀ count₀ m₀ rows count m = 16 - m
 
 loop-holds : tie.Need-loop-init invariant-loop decreases-loop
-loop-holds c = reducing-none _ _ (search rules)
+loop-holds c = reducing_none _ _ (search rules)
 
 mul-column : tie.Need-overflow-mul-column invariant-loop decreases-loop
 mul-column c = search rules
@@ -46,13 +46,13 @@ loop-less c = search rules
 loop-again : tie.Need-loop-preserved invariant-loop decreases-loop
 loop-again c =
     let turn = c.before.before.before in
-    reducing-next turn.loop.invariant (search rules) (search rules) (power_at _ (search rules)) c.counted.ensures
+    reducing_next turn.loop.invariant (search rules) (search rules) (power_at _ (search rules)) c.counted.ensures
 
 returns : tie.Need-returns invariant-loop decreases-loop
-returns c = reducing-end c.before.loop.invariant (search rules) (search rules)
+returns c = reducing_end c.before.loop.invariant (search rules) (search rules)
 
-pub reduced-spec : {M : Type 1} → statement M
-reduced-spec =
+pub reduced_spec : {M : Type 1} → statement M
+reduced_spec =
     tie.close
     (tie.spec
     invariant-loop

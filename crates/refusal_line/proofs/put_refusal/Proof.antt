@@ -1,7 +1,7 @@
 -- `refusal_line::put_refusal` puts the number and the first values, which are those returned with it.
 use mathlib.Core.Path.{sym}
 use lib.Seq.{length-take-le}
-use Rattle.refusal_line.proofs.Refusal.{refusal-put}
+use Rattle.refusal_line.proofs.Refusal.{refusal_put}
 use borrow.Author.Rules.{rules}
 use Rattle.refusal_line.proofs.put_refusal.Statement.{statement}
 use Rattle.refusal_line.proofs.put_refusal.Tie as tie
@@ -40,10 +40,10 @@ same_length : tie.Need-same-length
 same_length c = search rules
 
 returns : tie.Need-returns
-returns c = λ o H. refusal-put H c.before.before.put-line.ensures
+returns c = λ o H. refusal_put H c.before.before.put-line.ensures
 
-pub put-refusal-spec : {M : Type 1} → statement M
-put-refusal-spec =
+pub put_refusal_spec : {M : Type 1} → statement M
+put_refusal_spec =
     tie.close
     (tie.spec
     cast-numbers

@@ -1,7 +1,7 @@
 -- `refusing::clear` clears one place after another: the loop keeps those that are cleared so far.
 use Prim.Native.Nat.{◌-◌}
 use borrow.Author.Rules.{rules}
-use Rattle.refusing.proofs.Clearing.{InClear, clear_none, clear-more, clear-end}
+use Rattle.refusing.proofs.Clearing.{InClear, clear_none, clear_more, clear_end}
 use Rattle.refusing.proofs.clear.Statement.{statement}
 use Rattle.refusing.proofs.clear.Tie as tie
 
@@ -27,13 +27,13 @@ loop-less : tie.Need-loop-smaller invariant-loop decreases-loop
 loop-less c = search rules
 
 loop-again : tie.Need-loop-preserved invariant-loop decreases-loop
-loop-again c = clear-more c.before.loop.invariant (search rules) (search rules)
+loop-again c = clear_more c.before.loop.invariant (search rules) (search rules)
 
 same_length : tie.Need-same-length invariant-loop decreases-loop
 same_length c = c.before.loop.invariant.len
 
 returns : tie.Need-returns invariant-loop decreases-loop
-returns c = clear-end c.before.loop.invariant (search rules)
+returns c = clear_end c.before.loop.invariant (search rules)
 
 pub clear_spec : {M : Type 1} → statement M
 clear_spec =

@@ -1,5 +1,5 @@
 -- `refusing::refuse` clears the map and gives the first witness, which there is at a depth that is not rectangular.
-use Rattle.refusing.proofs.FirstDepth.{refusal-at, refusal-none}
+use Rattle.refusing.proofs.FirstDepth.{refusal_at, refusal_none}
 use borrow.Author.Rules.{rules}
 use Rattle.refusing.proofs.refuse.Statement.{statement}
 use Rattle.refusing.proofs.refuse.Tie as tie
@@ -27,23 +27,23 @@ same_length c = let at_clear = c.before.before.before.before.before.before in at
 
 returns : tie.Need-returns
 returns c =
-    let at-find = c.before.before.before in
-    let at_clear = at-find.before.before.before in
+    let at_find = c.before.before.before in
+    let at_clear = at_find.before.before.before in
     let entry = at_clear.before.before.before.before.before.before in
-    (refusal-at entry.requires.first at-find.find-witness.ensures c.before.i.given.1, at_clear.clear.ensures)
+    (refusal_at entry.requires.first at_find.find-witness.ensures c.before.i.given.1, at_clear.clear.ensures)
 
 same-length-2 : tie.Need-same-length-2
 same-length-2 c = let at_clear = c.before.before.before.before.before in at_clear.clear.auto.0
 
 returns-2 : tie.Need-returns-2
 returns-2 c =
-    let at-find = c.before.before in
-    let at_clear = at-find.before.before.before in
+    let at_find = c.before.before in
+    let at_clear = at_find.before.before.before in
     let entry = at_clear.before.before.before.before.before.before in
-    (refusal-none entry.requires.first at-find.find-witness.ensures c.enum_told.given.1, at_clear.clear.ensures)
+    (refusal_none entry.requires.first at_find.find-witness.ensures c.enum_told.given.1, at_clear.clear.ensures)
 
-pub refuse-spec : {M : Type 1} → statement M
-refuse-spec =
+pub refuse_spec : {M : Type 1} → statement M
+refuse_spec =
     tie.close
     (tie.spec
     add-clear

@@ -1,6 +1,6 @@
 -- `room::needed_to_decode` asks the buffers one by one, from the last to the first.
 use borrow.Author.Rules.{rules}
-use Rattle.room.proofs.Fitting.{decode-by}
+use Rattle.room.proofs.Fitting.{decode_by}
 use Rattle.room.proofs.needed_to_decode.Statement.{statement}
 use Rattle.room.proofs.needed_to_decode.Tie as tie
 
@@ -22,11 +22,11 @@ short-of-requires-4 c κs = search rules
 returns : tie.Need-returns
 returns c =
     let third = c.before in
-    decode-by _ _ _ _ _ third.before.before.short-of.ensures third.before.short-of2.ensures third.short-of3.ensures
+    decode_by _ _ _ _ _ third.before.before.short-of.ensures third.before.short-of2.ensures third.short-of3.ensures
     c.short-of4.ensures
 
-pub needed-to-decode-spec : {M : Type 1} → statement M
-needed-to-decode-spec =
+pub needed_to_decode_spec : {M : Type 1} → statement M
+needed_to_decode_spec =
     tie.close
     (tie.spec
     short-of-requires

@@ -1,11 +1,11 @@
 -- `room::needed_to_list` asks the buffers one by one, from the last to the first. The words of all paths are few, so their number fits.
 use borrow.Author.Rules.{rules}
-use Rattle.room.proofs.Fitting.{words-few, list-by}
+use Rattle.room.proofs.Fitting.{words_few, list_by}
 use Rattle.room.proofs.needed_to_list.Statement.{statement}
 use Rattle.room.proofs.needed_to_list.Tie as tie
 
 mul_words : tie.Need-overflow-mul-words
-mul_words c = let few = words-few c.args.paths c.args.blocks c.requires.1 c.requires.0 in search rules
+mul_words c = let few = words_few c.args.paths c.args.blocks c.requires.1 c.requires.0 in search rules
 
 short-of-requires : tie.Need-short-of-requires
 short-of-requires c κs = search rules
@@ -25,11 +25,11 @@ short-of-requires-4 c κs = search rules
 returns : tie.Need-returns
 returns c =
     let third = c.before in
-    list-by _ _ _ _ _ _ third.before.before.short-of.ensures third.before.short-of2.ensures third.short-of3.ensures
+    list_by _ _ _ _ _ _ third.before.before.short-of.ensures third.before.short-of2.ensures third.short-of3.ensures
     c.short-of4.ensures
 
-pub needed-to-list-spec : {M : Type 1} → statement M
-needed-to-list-spec =
+pub needed_to_list_spec : {M : Type 1} → statement M
+needed_to_list_spec =
     tie.close
     (tie.spec
     mul_words

@@ -3,7 +3,7 @@ use mathlib.Core.Path.{refl}
 use Prim.Native.Nat.{◌-◌}
 use lib.ListN.{length}
 use borrow.Author.Rules.{rules}
-use Rattle.row_arcs.proofs.RowArcs.{InArcs, arcs-none, word_below, words-few, arc-small, arcs-next, arcs-end}
+use Rattle.row_arcs.proofs.RowArcs.{InArcs, arcs_none, word_below, words_few, arc_small, arcs_next, arcs_end}
 use Rattle.row_arcs.proofs.arcs_of.Statement.{statement}
 use Rattle.row_arcs.proofs.arcs_of.Tie as tie
 
@@ -14,7 +14,7 @@ abbrev decreases-loop : tie.decreases-loop
 decreases-loop map row w rows cut dim arcs₀ i₀ b₀ arcs i b = length rows - b
 
 loop-holds : tie.Need-loop-init invariant-loop decreases-loop
-loop-holds c = arcs-none _ _ _ _ _ _ refl
+loop-holds c = arcs_none _ _ _ _ _ _ refl
 
 add-edge-number : tie.Need-overflow-add-edge-number invariant-loop decreases-loop
 add-edge-number c =
@@ -71,7 +71,7 @@ edge-number-requires : tie.Need-edge-number-requires invariant-loop decreases-lo
 edge-number-requires c κs =
     let turn = c.before.before.before.before.before in
     let entry = turn.before.before.before in
-    (entry.requires.short, arc-small entry.requires turn.loop.invariant (search rules) c.before.bit_at.ensures)
+    (entry.requires.short, arc_small entry.requires turn.loop.invariant (search rules) c.before.bit_at.ensures)
 
 mul-arcs : tie.Need-overflow-mul-arcs invariant-loop decreases-loop
 mul-arcs c = search rules
@@ -83,7 +83,7 @@ add-i : tie.Need-overflow-add-i invariant-loop decreases-loop
 add-i c =
     let turn = c.before.before.before.before.before.before in
     let entry = turn.before.before.before in
-    search (rules, word_below entry.requires turn.loop.invariant (search rules), words-few entry.requires)
+    search (rules, word_below entry.requires turn.loop.invariant (search rules), words_few entry.requires)
 
 add-b : tie.Need-overflow-add-b invariant-loop decreases-loop
 add-b c = search rules
@@ -95,13 +95,13 @@ loop-again : tie.Need-loop-preserved invariant-loop decreases-loop
 loop-again c =
     let turn = c.before.before.before.before.before.before in
     let entry = turn.before.before.before in
-    arcs-next entry.requires turn.loop.invariant (search rules) c.before.before.bit_at.ensures c.edge-number.ensures
+    arcs_next entry.requires turn.loop.invariant (search rules) c.before.before.bit_at.ensures c.edge-number.ensures
 
 returns : tie.Need-returns invariant-loop decreases-loop
-returns c = arcs-end c.before.loop.invariant (search rules)
+returns c = arcs_end c.before.loop.invariant (search rules)
 
-pub arcs-of-spec : {M : Type 1} → statement M
-arcs-of-spec =
+pub arcs_of_spec : {M : Type 1} → statement M
+arcs_of_spec =
     tie.close
     (tie.spec
     invariant-loop

@@ -13,5 +13,5 @@ shr-result c = search rules
 returns : tie.Need-returns
 returns c = bit_is _ _
 
-pub bit-at-spec : {M : Type 1} → statement M
-bit-at-spec = tie.close (tie.spec cast-result shr-result returns)
+pub bit_at_spec : {M : Type 1} → statement M
+bit_at_spec = tie.close (tie.spec cast-result shr-result returns)

@@ -3,8 +3,8 @@ use mathlib.Core.Path.{refl}
 use Prim.Native.Nat.{◌-◌}
 use native.Mathlib.Omega.{arith}
 use borrow.Author.Rules.{rules}
-use Rattle.row_arcs.proofs.AllSteps.{InEdges, edges_none, words-most, steps-below, step-asked, step_room, step_from, step-most}
-use Rattle.row_arcs.proofs.AllSteps.{edges-next, edges-end}
+use Rattle.row_arcs.proofs.AllSteps.{InEdges, edges_none, words_most, steps_below, step_asked, step_room, step_from, step_most}
+use Rattle.row_arcs.proofs.AllSteps.{edges_next, edges_end}
 use Rattle.row_arcs.proofs.take_edges.Statement.{statement}
 use Rattle.row_arcs.proofs.take_edges.Tie as tie
 
@@ -21,7 +21,7 @@ mul-take-step : tie.Need-overflow-mul-take-step invariant-loop decreases-loop
 mul-take-step c =
     let turn = c.before in
     let entry = turn.before.before.before.before in
-    omega (arith, steps-below entry.requires.0 turn.loop.t (search rules))
+    omega (arith, steps_below entry.requires.0 turn.loop.t (search rules))
 
 sub-take-step : tie.Need-overflow-sub-take-step invariant-loop decreases-loop
 sub-take-step c = search rules
@@ -45,21 +45,21 @@ take-step-requires : tie.Need-take-step-requires invariant-loop decreases-loop
 take-step-requires c κs =
     let turn = c.before.before.before in
     let entry = turn.before.before.before.before in
-    (step-asked entry.requires.0 _ (search rules), step_room entry.requires.0 turn.loop.invariant (search rules) entry.requires.1)
+    (step_asked entry.requires.0 _ (search rules), step_room entry.requires.0 turn.loop.invariant (search rules) entry.requires.1)
 
 sub-counts : tie.Need-overflow-sub-counts invariant-loop decreases-loop
 sub-counts c =
-    let at-step = c.before.before in
-    let turn = at-step.before.before.before.before in
+    let at_step = c.before.before in
+    let turn = at_step.before.before.before.before in
     let entry = turn.before.before.before.before in
-    step_from entry.requires.0 turn.loop.invariant (search rules) at-step.take_step.ensures
+    step_from entry.requires.0 turn.loop.invariant (search rules) at_step.take_step.ensures
 
 cast-counts : tie.Need-overflow-cast-counts invariant-loop decreases-loop
 cast-counts c =
-    let at-step = c.before.before in
-    let turn = at-step.before.before.before.before in
+    let at_step = c.before.before in
+    let turn = at_step.before.before.before.before in
     let entry = turn.before.before.before.before in
-    omega (arith, step-most entry.requires.0 turn.loop.invariant (search rules) at-step.take_step.ensures, words-most entry.requires.0)
+    omega (arith, step_most entry.requires.0 turn.loop.invariant (search rules) at_step.take_step.ensures, words_most entry.requires.0)
 
 mul-counts : tie.Need-overflow-mul-counts invariant-loop decreases-loop
 mul-counts c = search rules
@@ -75,19 +75,19 @@ loop-less c = search rules
 
 loop-again : tie.Need-loop-preserved invariant-loop decreases-loop
 loop-again c =
-    let at-step = c.before.before in
-    let turn = at-step.before.before.before.before in
+    let at_step = c.before.before in
+    let turn = at_step.before.before.before.before in
     let entry = turn.before.before.before.before in
-    edges-next entry.requires.0 turn.loop.invariant (search rules) at-step.take_step.ensures
+    edges_next entry.requires.0 turn.loop.invariant (search rules) at_step.take_step.ensures
 
 same_length : tie.Need-same-length invariant-loop decreases-loop
 same_length c = c.before.loop.invariant.len
 
 returns : tie.Need-returns invariant-loop decreases-loop
-returns c = edges-end c.before.loop.invariant (search rules)
+returns c = edges_end c.before.loop.invariant (search rules)
 
-pub take-edges-spec : {M : Type 1} → statement M
-take-edges-spec =
+pub take_edges_spec : {M : Type 1} → statement M
+take_edges_spec =
     tie.close
     (tie.spec
     invariant-loop

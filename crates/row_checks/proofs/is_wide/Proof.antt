@@ -13,5 +13,5 @@ shl-result c = search rules
 returns : tie.Need-returns
 returns c = wide_test _ _ c.before.requires c.wide.ensures.0
 
-pub is-wide-spec : {M : Type 1} → statement M
-is-wide-spec = tie.close (tie.spec wide-requires shl-result returns)
+pub is_wide_spec : {M : Type 1} → statement M
+is_wide_spec = tie.close (tie.spec wide-requires shl-result returns)

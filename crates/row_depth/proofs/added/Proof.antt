@@ -1,5 +1,5 @@
 -- `row_depth::added` tests as its contract does; 2 to a dimension below 16 fits in 16 bits.
-use Rattle.row_depth.proofs.Finding.{power-is, when-less, when-not}
+use Rattle.row_depth.proofs.Finding.{power_is, when_less, when_not}
 use mathlib.Core.Path.{◌∙◌}
 use borrow.Author.Rules.{rules}
 use Rattle.row_depth.proofs.added.Statement.{statement}
@@ -21,13 +21,13 @@ shl-result : tie.Need-overflow-shl-result
 shl-result c = search rules
 
 returns : tie.Need-returns
-returns c = when-less c.before.before.args.o c.before.before.args.w _ _ (search rules)
+returns c = when_less c.before.before.args.o c.before.before.args.w _ _ (search rules)
 
 returns-2 : tie.Need-returns-2
-returns-2 c = power-is _ (search rules) ∙ when-not c.before.args.o c.before.args.w _ _ (search rules)
+returns-2 c = power_is _ (search rules) ∙ when_not c.before.args.o c.before.args.w _ _ (search rules)
 
-pub added-spec : {M : Type 1} → statement M
-added-spec =
+pub added_spec : {M : Type 1} → statement M
+added_spec =
     tie.close
     (tie.spec
     add-result

@@ -1,5 +1,5 @@
 -- `row_depth::find` goes on while none so far is x, and stops at the first that is, or behind the last.
-use Rattle.row_depth.proofs.Finding.{Missed, missed-none, missed-next, found_here, found-end}
+use Rattle.row_depth.proofs.Finding.{Missed, missed_none, missed_next, found_here, found_end}
 use Prim.Native.Nat.{◌-◌, ◌≤◌}
 use borrow.Author.Rules.{rules}
 use Rattle.row_depth.proofs.find.Statement.{statement}
@@ -12,7 +12,7 @@ abbrev decreases-loop : tie.decreases-loop
 decreases-loop seen w x j₀ j = w - j
 
 loop-holds : tie.Need-loop-init invariant-loop decreases-loop
-loop-holds c = (missed-none _ _, search rules)
+loop-holds c = (missed_none _ _, search rules)
 
 mul-if1 : tie.Need-overflow-mul-if1 invariant-loop decreases-loop
 mul-if1 c = search rules
@@ -30,10 +30,10 @@ loop-less : tie.Need-loop-smaller invariant-loop decreases-loop
 loop-less c = search rules
 
 loop-again : tie.Need-loop-preserved invariant-loop decreases-loop
-loop-again c = (missed-next c.before.before.before.loop.invariant.0 c.if1.false, search rules)
+loop-again c = (missed_next c.before.before.before.loop.invariant.0 c.if1.false, search rules)
 
 returns-2 : tie.Need-returns-2 invariant-loop decreases-loop
-returns-2 c = found-end c.before.loop.invariant.0 (search rules) (search rules)
+returns-2 c = found_end c.before.loop.invariant.0 (search rules) (search rules)
 
 pub find_spec : {M : Type 1} → statement M
 find_spec =

@@ -2,14 +2,14 @@
 use Prim.Native.Nat.{◌-◌}
 use native.Mathlib.Omega.{arith}
 use borrow.Author.Rules.{rules}
-use Rattle.row_pieces.specs.inner.Pieces.{pairsFrom}
-use Rattle.row_edges.proofs.AllPieces.{InAll, all_none, lent-inside, lent-room, all-next, all_end, pairs-size}
+use Rattle.row_pieces.specs.Inner.Pieces.{pairs_from}
+use Rattle.row_edges.proofs.AllPieces.{InAll, all_none, lent_inside, lent_room, all_next, all_end, pairs_size}
 use Rattle.row_edges.proofs.put_all_pairs.Statement.{statement}
 use Rattle.row_edges.proofs.put_all_pairs.Tie as tie
 
 abbrev invariant-loop : tie.invariant-loop
 invariant-loop edges counts n dims section₀ at to₀ lo₀ t₀ section to lo t =
-    InAll pairsFrom 2 edges counts n dims section₀ at section to lo t
+    InAll pairs_from 2 edges counts n dims section₀ at section to lo t
 
 abbrev decreases-loop : tie.decreases-loop
 decreases-loop edges counts n dims section₀ at to₀ lo₀ t₀ section to lo t = n - t
@@ -30,13 +30,13 @@ add-hi : tie.Need-overflow-add-hi invariant-loop decreases-loop
 add-hi c =
     let turn = c.before.before.before in
     let entry = turn.before.before.before in
-    omega (arith, lent-inside entry.requires turn.loop.invariant (search rules) c.wide.ensures.0)
+    omega (arith, lent_inside entry.requires turn.loop.invariant (search rules) c.wide.ensures.0)
 
 mul-put-pairs : tie.Need-overflow-mul-put-pairs invariant-loop decreases-loop
 mul-put-pairs c =
     let turn = c.before.before.before in
     let entry = turn.before.before.before in
-    search (rules, lent-inside entry.requires turn.loop.invariant (search rules) c.wide.ensures.0)
+    search (rules, lent_inside entry.requires turn.loop.invariant (search rules) c.wide.ensures.0)
 
 sub-put-pairs : tie.Need-overflow-sub-put-pairs invariant-loop decreases-loop
 sub-put-pairs c = search rules
@@ -48,7 +48,7 @@ part-put-pairs-end : tie.Need-slice-bounds-put-pairs-end invariant-loop decrease
 part-put-pairs-end c =
     let turn = c.before.before.before in
     let entry = turn.before.before.before in
-    omega (arith, lent-inside entry.requires turn.loop.invariant (search rules) c.wide.ensures.0)
+    omega (arith, lent_inside entry.requires turn.loop.invariant (search rules) c.wide.ensures.0)
 
 add-put-pairs : tie.Need-overflow-add-put-pairs invariant-loop decreases-loop
 add-put-pairs c = search rules
@@ -64,7 +64,7 @@ put-pairs-requires c κs =
     let at_wide = c.before.before.before in
     let turn = at_wide.before.before.before in
     let entry = turn.before.before.before in
-    (entry.requires.short _, lent-room entry.requires turn.loop.invariant (search rules) at_wide.wide.ensures.0)
+    (entry.requires.short _, lent_room entry.requires turn.loop.invariant (search rules) at_wide.wide.ensures.0)
 
 add-t : tie.Need-overflow-add-t invariant-loop decreases-loop
 add-t c = search rules
@@ -74,11 +74,11 @@ loop-less c = search rules
 
 loop-again : tie.Need-loop-preserved invariant-loop decreases-loop
 loop-again c =
-    let at-put = c.before.before in
-    let at_wide = at-put.before.before.before.before in
+    let at_put = c.before.before in
+    let at_wide = at_put.before.before.before.before in
     let turn = at_wide.before.before.before in
     let entry = turn.before.before.before in
-    all-next entry.requires turn.loop.invariant (search rules) at_wide.wide.ensures.0 pairs-size at-put.put-pairs.ensures
+    all_next entry.requires turn.loop.invariant (search rules) at_wide.wide.ensures.0 pairs_size at_put.put-pairs.ensures
 
 same_length : tie.Need-same-length invariant-loop decreases-loop
 same_length c = c.before.loop.invariant.len
@@ -86,8 +86,8 @@ same_length c = c.before.loop.invariant.len
 returns : tie.Need-returns invariant-loop decreases-loop
 returns c = all_end c.before.loop.invariant (search rules)
 
-pub put-all-pairs-spec : {M : Type 1} → statement M
-put-all-pairs-spec =
+pub put_all_pairs_spec : {M : Type 1} → statement M
+put_all_pairs_spec =
     tie.close
     (tie.spec
     invariant-loop

@@ -2,8 +2,8 @@
 use Prim.Native.Nat.{◌-◌}
 use native.Mathlib.Omega.{arith}
 use borrow.Author.Rules.{rules}
-use Rattle.row_pieces.specs.inner.Pieces.{symbols_from}
-use Rattle.row_edges.proofs.AllPieces.{InAll, all_none, lent-inside, lent-room, all-next, all_end, symbols-size}
+use Rattle.row_pieces.specs.Inner.Pieces.{symbols_from}
+use Rattle.row_edges.proofs.AllPieces.{InAll, all_none, lent_inside, lent_room, all_next, all_end, symbols_size}
 use Rattle.row_edges.proofs.put_all_symbols.Statement.{statement}
 use Rattle.row_edges.proofs.put_all_symbols.Tie as tie
 
@@ -30,13 +30,13 @@ add-hi : tie.Need-overflow-add-hi invariant-loop decreases-loop
 add-hi c =
     let turn = c.before.before.before in
     let entry = turn.before.before.before in
-    omega (arith, lent-inside entry.requires turn.loop.invariant (search rules) c.wide.ensures.0)
+    omega (arith, lent_inside entry.requires turn.loop.invariant (search rules) c.wide.ensures.0)
 
 mul-put-symbols : tie.Need-overflow-mul-put-symbols invariant-loop decreases-loop
 mul-put-symbols c =
     let turn = c.before.before.before in
     let entry = turn.before.before.before in
-    search (rules, lent-inside entry.requires turn.loop.invariant (search rules) c.wide.ensures.0)
+    search (rules, lent_inside entry.requires turn.loop.invariant (search rules) c.wide.ensures.0)
 
 sub-put-symbols : tie.Need-overflow-sub-put-symbols invariant-loop decreases-loop
 sub-put-symbols c = search rules
@@ -48,7 +48,7 @@ part-put-symbols-end : tie.Need-slice-bounds-put-symbols-end invariant-loop decr
 part-put-symbols-end c =
     let turn = c.before.before.before in
     let entry = turn.before.before.before in
-    omega (arith, lent-inside entry.requires turn.loop.invariant (search rules) c.wide.ensures.0)
+    omega (arith, lent_inside entry.requires turn.loop.invariant (search rules) c.wide.ensures.0)
 
 add-put-symbols : tie.Need-overflow-add-put-symbols invariant-loop decreases-loop
 add-put-symbols c = search rules
@@ -64,7 +64,7 @@ put-symbols-requires c κs =
     let at_wide = c.before.before.before in
     let turn = at_wide.before.before.before in
     let entry = turn.before.before.before in
-    (entry.requires.short _, omega (arith, lent-room entry.requires turn.loop.invariant (search rules) at_wide.wide.ensures.0))
+    (entry.requires.short _, omega (arith, lent_room entry.requires turn.loop.invariant (search rules) at_wide.wide.ensures.0))
 
 add-t : tie.Need-overflow-add-t invariant-loop decreases-loop
 add-t c = search rules
@@ -74,11 +74,11 @@ loop-less c = search rules
 
 loop-again : tie.Need-loop-preserved invariant-loop decreases-loop
 loop-again c =
-    let at-put = c.before.before in
-    let at_wide = at-put.before.before.before.before in
+    let at_put = c.before.before in
+    let at_wide = at_put.before.before.before.before in
     let turn = at_wide.before.before.before in
     let entry = turn.before.before.before in
-    all-next entry.requires turn.loop.invariant (search rules) at_wide.wide.ensures.0 symbols-size at-put.put-symbols.ensures
+    all_next entry.requires turn.loop.invariant (search rules) at_wide.wide.ensures.0 symbols_size at_put.put-symbols.ensures
 
 same_length : tie.Need-same-length invariant-loop decreases-loop
 same_length c = c.before.loop.invariant.len
@@ -86,8 +86,8 @@ same_length c = c.before.loop.invariant.len
 returns : tie.Need-returns invariant-loop decreases-loop
 returns c = all_end c.before.loop.invariant (search rules)
 
-pub put-all-symbols-spec : {M : Type 1} → statement M
-put-all-symbols-spec =
+pub put_all_symbols_spec : {M : Type 1} → statement M
+put_all_symbols_spec =
     tie.close
     (tie.spec
     invariant-loop

@@ -1,7 +1,7 @@
 -- `row_file::goal_of` meets its contract: the mask is `bits` ones, and what it keeps fits a byte.
 use native.Mathlib.Omega.{arith}
 use borrow.Author.Rules.{rules}
-use Rattle.row_file.proofs.States.{power-some, masked, goal-byte}
+use Rattle.row_file.proofs.States.{power_some, masked, goal_byte}
 use Rattle.row_file.proofs.goal_of.Statement.{statement}
 use Rattle.row_file.proofs.goal_of.Tie as tie
 
@@ -12,13 +12,13 @@ shl-result : tie.Need-overflow-shl-result
 shl-result c = search rules
 
 sub-result : tie.Need-overflow-sub-result
-sub-result c = power-some 16 _ (search rules)
+sub-result c = power_some 16 _ (search rules)
 
 cast-result-2 : tie.Need-overflow-cast-result-2
-cast-result-2 c = omega (arith, goal-byte 16 c.args.x c.args.bits (search rules) (search rules))
+cast-result-2 c = omega (arith, goal_byte 16 c.args.x c.args.bits (search rules) (search rules))
 
 returns : tie.Need-returns
 returns c = masked 16 _ _ (search rules)
 
-pub goal-of-spec : {M : Type 1} → statement M
-goal-of-spec = tie.close (tie.spec cast-result shl-result sub-result cast-result-2 returns)
+pub goal_of_spec : {M : Type 1} → statement M
+goal_of_spec = tie.close (tie.spec cast-result shl-result sub-result cast-result-2 returns)

@@ -4,8 +4,8 @@ use native.Mathlib.Omega.{arith}
 use lib.ListN.{length, length-set}
 use borrow.Author.Rules.{rules}
 use Rattle.word_file.specs.TableBytes.{bytes_of}
-use Rattle.word_file.proofs.Writing.{Pieces, pieces-start, pieces-next}
-use Rattle.row_file.proofs.Pieces.{label-bytes, pieces_end}
+use Rattle.word_file.proofs.Writing.{Pieces, pieces_start, pieces_next}
+use Rattle.row_file.proofs.Pieces.{label_bytes, pieces_end}
 use Rattle.row_file.proofs.put_labels.Statement.{statement}
 use Rattle.row_file.proofs.put_labels.Tie as tie
 
@@ -16,7 +16,7 @@ abbrev decreases-loop : tie.decreases-loop
 decreases-loop labels start file₀ at₀ i₀ file at i = length labels - i
 
 loop-holds : tie.Need-loop-init invariant-loop decreases-loop
-loop-holds c = pieces-start
+loop-holds c = pieces_start
 
 mul_wide : tie.Need-overflow-mul-wide invariant-loop decreases-loop
 mul_wide c = search rules
@@ -56,8 +56,8 @@ loop-again c =
     let low = c.before in
     let at_wide = low.before in
     let at_test = at_wide.before.before in
-    pieces-next at_test.before.loop.invariant at_test.loop-test.true (search rules)
-    (label-bytes _ at_wide.wide.ensures low.byte.ensures c.byte2.ensures)
+    pieces_next at_test.before.loop.invariant at_test.loop-test.true (search rules)
+    (label_bytes _ at_wide.wide.ensures low.byte.ensures c.byte2.ensures)
 
 same_length : tie.Need-same-length invariant-loop decreases-loop
 same_length c = c.before.loop.invariant.len
@@ -65,8 +65,8 @@ same_length c = c.before.loop.invariant.len
 returns : tie.Need-returns invariant-loop decreases-loop
 returns c = pieces_end c.before.loop.invariant (search rules)
 
-pub put-labels-spec : {M : Type 1} → statement M
-put-labels-spec =
+pub put_labels_spec : {M : Type 1} → statement M
+put_labels_spec =
     tie.close
     (tie.spec
     invariant-loop

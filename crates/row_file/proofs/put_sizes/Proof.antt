@@ -2,7 +2,7 @@
 use native.Mathlib.Omega.{arith}
 use lib.ListN.{length-set}
 use borrow.Author.Rules.{rules}
-use Rattle.row_file.proofs.Pieces.{sizes-put}
+use Rattle.row_file.proofs.Pieces.{sizes_put}
 use Rattle.row_file.proofs.put_sizes.Statement.{statement}
 use Rattle.row_file.proofs.put_sizes.Tie as tie
 
@@ -46,11 +46,11 @@ returns c =
     let first = second.before in
     let entry = first.before.before in
     let a = entry.args in
-    sizes-put a.file.now a.n a.bits a.count (search rules) (search rules) (search rules) first.byte.ensures
+    sizes_put a.file.now a.n a.bits a.count (search rules) (search rules) (search rules) first.byte.ensures
     second.byte2.ensures third.byte3.ensures c.byte4.ensures
 
-pub put-sizes-spec : {M : Type 1} → statement M
-put-sizes-spec =
+pub put_sizes_spec : {M : Type 1} → statement M
+put_sizes_spec =
     tie.close
     (tie.spec
     slice-write-file

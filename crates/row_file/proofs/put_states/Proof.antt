@@ -4,21 +4,21 @@ use Prim.Native.Nat.{◌-◌}
 use native.Mathlib.Omega.{arith}
 use lib.ListN.{length, get_or, length-set}
 use borrow.Author.Rules.{rules}
-use Rattle.word_file.proofs.Writing.{Pieces, pieces-start, pieces-next}
-use Rattle.row_file.specs.inner.Filing.{stateBytes}
-use Rattle.row_file.proofs.States.{root-byte}
-use Rattle.row_file.proofs.Pieces.{states-are, pieces_whole}
+use Rattle.word_file.proofs.Writing.{Pieces, pieces_start, pieces_next}
+use Rattle.row_file.specs.Inner.Filing.{state_bytes}
+use Rattle.row_file.proofs.States.{root_byte}
+use Rattle.row_file.proofs.Pieces.{states_are, pieces_whole}
 use Rattle.row_file.proofs.put_states.Statement.{statement}
 use Rattle.row_file.proofs.put_states.Tie as tie
 
 abbrev invariant-loop : tie.invariant-loop
-invariant-loop words bits n file₀ at₀ i₀ file at i = Pieces (stateBytes bits n) file₀ 5 words (length words) file at i
+invariant-loop words bits n file₀ at₀ i₀ file at i = Pieces (state_bytes bits n) file₀ 5 words (length words) file at i
 
 abbrev decreases-loop : tie.decreases-loop
 decreases-loop words bits n file₀ at₀ i₀ file at i = length words - i
 
 loop-holds : tie.Need-loop-init invariant-loop decreases-loop
-loop-holds c = pieces-start
+loop-holds c = pieces_start
 
 mul-root-of : tie.Need-overflow-mul-root-of invariant-loop decreases-loop
 mul-root-of c = search rules
@@ -35,7 +35,7 @@ root-of-requires c κs =
     let entry = at_test.before.before.before.before in
     let a = entry.args in
     let i = at_test.before.loop.i in
-    (search rules, root-byte a.bits a.n (get_or a.words.now i 0) (search rules) (entry.requires.0 i at_test.loop-test.true))
+    (search rules, root_byte a.bits a.n (get_or a.words.now i 0) (search rules) (entry.requires.0 i at_test.loop-test.true))
 
 slice-write-file : tie.Need-slice-write-file invariant-loop decreases-loop
 slice-write-file c = search rules
@@ -66,11 +66,11 @@ loop-less c = search rules
 
 loop-again : tie.Need-loop-preserved invariant-loop decreases-loop
 loop-again c =
-    let at-root = c.before.before in
-    let at_test = at-root.before.before in
+    let at_root = c.before.before in
+    let at_test = at_root.before.before in
     let a = at_test.before.before.before.before.args in
-    pieces-next at_test.before.loop.invariant at_test.loop-test.true (search rules)
-    (states-are a.bits a.n _ at-root.root-of.ensures c.goal-of.ensures)
+    pieces_next at_test.before.loop.invariant at_test.loop-test.true (search rules)
+    (states_are a.bits a.n _ at_root.root-of.ensures c.goal-of.ensures)
 
 same_length : tie.Need-same-length invariant-loop decreases-loop
 same_length c = c.before.loop.invariant.len
@@ -78,8 +78,8 @@ same_length c = c.before.loop.invariant.len
 returns : tie.Need-returns invariant-loop decreases-loop
 returns c = pieces_whole c.before.loop.invariant (search rules)
 
-pub put-states-spec : {M : Type 1} → statement M
-put-states-spec =
+pub put_states_spec : {M : Type 1} → statement M
+put_states_spec =
     tie.close
     (tie.spec
     invariant-loop

@@ -3,20 +3,20 @@
 use Prim.Native.Nat.{◌-◌}
 use lib.ListN.{length}
 use borrow.Author.Rules.{rules}
-use Rattle.parity.proofs.Fronts.{Fills, fills-none}
-use Rattle.row_labels.specs.inner.Labels.{labelsOf}
-use Rattle.row_labels.proofs.Spread.{labels_next, labels-all}
+use Rattle.parity.proofs.Fronts.{Fills, fills_none}
+use Rattle.row_labels.specs.Inner.Labels.{labels_of}
+use Rattle.row_labels.proofs.Spread.{labels_next, labels_all}
 use Rattle.row_labels.proofs.labels_of.Statement.{statement}
 use Rattle.row_labels.proofs.labels_of.Tie as tie
 
 abbrev invariant-loop : tie.invariant-loop
-invariant-loop rows bits n labels₀ b₀ labels b = Fills (labelsOf bits n rows) b labels
+invariant-loop rows bits n labels₀ b₀ labels b = Fills (labels_of bits n rows) b labels
 
 abbrev decreases-loop : tie.decreases-loop
 decreases-loop rows bits n labels₀ b₀ labels b = length rows - b
 
 loop-holds : tie.Need-loop-init invariant-loop decreases-loop
-loop-holds c = fills-none _ (search rules)
+loop-holds c = fills_none _ (search rules)
 
 mul-spread-bits : tie.Need-overflow-mul-spread-bits invariant-loop decreases-loop
 mul-spread-bits c = search rules
@@ -55,10 +55,10 @@ loop-again c =
 returns : tie.Need-returns invariant-loop decreases-loop
 returns c =
     let a = c.before.before.before.args in
-    labels-all a.bits a.n a.rows.now c.before.loop.invariant (search rules)
+    labels_all a.bits a.n a.rows.now c.before.loop.invariant (search rules)
 
-pub labels-of-spec : {M : Type 1} → statement M
-labels-of-spec =
+pub labels_of_spec : {M : Type 1} → statement M
+labels_of_spec =
     tie.close
     (tie.spec
     invariant-loop

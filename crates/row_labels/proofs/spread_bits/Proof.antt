@@ -3,7 +3,7 @@ use Prim.Native.Nat.{◌/◌, ◌^◌, ◌-◌}
 use native.Mathlib.Omega.{arith}
 use lib.Bits.{mask_lt}
 use borrow.Author.Rules.{rules}
-use Rattle.row_labels.proofs.Spread.{Spreading, spreading-none, spreading-next, spreading-fits, spreading-end}
+use Rattle.row_labels.proofs.Spread.{Spreading, spreading_none, spreading_next, spreading_fits, spreading_end}
 use Rattle.row_labels.proofs.spread_bits.Statement.{statement}
 use Rattle.row_labels.proofs.spread_bits.Tie as tie
 
@@ -14,13 +14,13 @@ abbrev decreases-loop : tie.decreases-loop
 decreases-loop x n label₀ left₀ label left = left
 
 loop-holds : tie.Need-loop-init invariant-loop decreases-loop
-loop-holds c = spreading-none _ _
+loop-holds c = spreading_none _ _
 
 sub-left : tie.Need-overflow-sub-left invariant-loop decreases-loop
 sub-left c = search rules
 
 mul-label : tie.Need-overflow-mul-label invariant-loop decreases-loop
-mul-label c = omega (arith, spreading-fits c.before.loop.invariant c.loop-test.true c.before.before.requires)
+mul-label c = omega (arith, spreading_fits c.before.loop.invariant c.loop-test.true c.before.before.requires)
 
 cast-label : tie.Need-overflow-cast-label invariant-loop decreases-loop
 cast-label c = search rules
@@ -32,20 +32,20 @@ add-label : tie.Need-overflow-add-label invariant-loop decreases-loop
 add-label c =
     let turn = c.before in
     let entry = turn.before in
-    let fits = spreading-fits turn.loop.invariant c.loop-test.true entry.requires in
+    let fits = spreading_fits turn.loop.invariant c.loop-test.true entry.requires in
     omega (arith, mask_lt (entry.args.x / 2 ^ (turn.loop.left - 1)) 1)
 
 loop-less : tie.Need-loop-smaller invariant-loop decreases-loop
 loop-less c = search rules
 
 loop-again : tie.Need-loop-preserved invariant-loop decreases-loop
-loop-again c = spreading-next c.before.loop.invariant c.loop-test.true
+loop-again c = spreading_next c.before.loop.invariant c.loop-test.true
 
 returns : tie.Need-returns invariant-loop decreases-loop
-returns c = spreading-end c.before.loop.invariant (search rules)
+returns c = spreading_end c.before.loop.invariant (search rules)
 
-pub spread-bits-spec : {M : Type 1} → statement M
-spread-bits-spec =
+pub spread_bits_spec : {M : Type 1} → statement M
+spread_bits_spec =
     tie.close
     (tie.spec
     invariant-loop

@@ -1,6 +1,6 @@
 -- `row_map::counts_of` sets the counts depth by depth: the loop keeps that those before t are set.
 use Prim.Native.Nat.{◌-◌}
-use Rattle.row_map.proofs.AllDepths.{Counting, counting-none, counting-next, counting-end}
+use Rattle.row_map.proofs.AllDepths.{Counting, counting_none, counting_next, counting_end}
 use borrow.Author.Rules.{rules}
 use Rattle.row_map.proofs.counts_of.Statement.{statement}
 use Rattle.row_map.proofs.counts_of.Tie as tie
@@ -12,7 +12,7 @@ abbrev decreases-loop : tie.decreases-loop
 decreases-loop dims counts₀ t₀ counts t = 9 - t
 
 loop-holds : tie.Need-loop-init invariant-loop decreases-loop
-loop-holds c = counting-none _ _ (search rules)
+loop-holds c = counting_none _ _ (search rules)
 
 add-loop : tie.Need-overflow-add-loop invariant-loop decreases-loop
 add-loop c = search rules
@@ -39,13 +39,13 @@ loop-less : tie.Need-loop-smaller invariant-loop decreases-loop
 loop-less c = search rules
 
 loop-again : tie.Need-loop-preserved invariant-loop decreases-loop
-loop-again c = counting-next c.before.before.before.loop.invariant (search rules) c.power.ensures
+loop-again c = counting_next c.before.before.before.loop.invariant (search rules) c.power.ensures
 
 returns : tie.Need-returns invariant-loop decreases-loop
-returns c = counting-end c.before.loop.invariant (search rules)
+returns c = counting_end c.before.loop.invariant (search rules)
 
-pub counts-of-spec : {M : Type 1} → statement M
-counts-of-spec =
+pub counts_of_spec : {M : Type 1} → statement M
+counts_of_spec =
     tie.close
     (tie.spec
     invariant-loop

@@ -1,7 +1,7 @@
 -- `row_map::put_inner` puts the inner depths one behind another: the loop keeps that those before t stand.
 use Prim.Native.Nat.{◌-◌, ◌≤◌}
-use Rattle.row_map.specs.inner.Maps.{InnerPut}
-use Rattle.row_map.proofs.AllDepths.{inner-none, inner_room, inner-asked, inner-next, inner-end}
+use Rattle.row_map.specs.Inner.Maps.{InnerPut}
+use Rattle.row_map.proofs.AllDepths.{inner_none, inner_room, inner_asked, inner_next, inner_end}
 use borrow.Author.Rules.{rules}
 use Rattle.row_map.proofs.put_inner.Statement.{statement}
 use Rattle.row_map.proofs.put_inner.Tie as tie
@@ -13,7 +13,7 @@ abbrev decreases-loop : tie.decreases-loop
 decreases-loop columns rows w bits n map₀ dims₀ t₀ map dims t = n - t
 
 loop-holds : tie.Need-loop-init invariant-loop decreases-loop
-loop-holds c = (inner-none _ _ _ _ _ _, search rules)
+loop-holds c = (inner_none _ _ _ _ _ _, search rules)
 
 sub-put-depth : tie.Need-overflow-sub-put-depth invariant-loop decreases-loop
 sub-put-depth c = search rules
@@ -29,7 +29,7 @@ mul-put-depth c =
 put-depth-requires : tie.Need-put-depth-requires invariant-loop decreases-loop
 put-depth-requires c κs =
     let turn = c.before.before in
-    inner-asked turn.before.before.before.requires turn.loop.invariant.0 (search rules) (search rules)
+    inner_asked turn.before.before.before.requires turn.loop.invariant.0 (search rules) (search rules)
 
 mul-dims : tie.Need-overflow-mul-dims invariant-loop decreases-loop
 mul-dims c = search rules
@@ -45,18 +45,18 @@ loop-less c = search rules
 
 loop-again : tie.Need-loop-preserved invariant-loop decreases-loop
 loop-again c =
-    let at-depth = c.before.before in
-    let turn = at-depth.before.before.before in
-    (inner-next turn.before.before.before.requires turn.loop.invariant.0 (search rules) at-depth.put-depth.ensures, search rules)
+    let at_depth = c.before.before in
+    let turn = at_depth.before.before.before in
+    (inner_next turn.before.before.before.requires turn.loop.invariant.0 (search rules) at_depth.put-depth.ensures, search rules)
 
 same_length : tie.Need-same-length invariant-loop decreases-loop
 same_length c = c.before.loop.invariant.0.len
 
 returns : tie.Need-returns invariant-loop decreases-loop
-returns c = inner-end c.before.before.before.before.requires c.before.loop.invariant.0 (search rules) (search rules)
+returns c = inner_end c.before.before.before.before.requires c.before.loop.invariant.0 (search rules) (search rules)
 
-pub put-inner-spec : {M : Type 1} → statement M
-put-inner-spec =
+pub put_inner_spec : {M : Type 1} → statement M
+put_inner_spec =
     tie.close
     (tie.spec
     invariant-loop

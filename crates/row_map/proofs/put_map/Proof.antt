@@ -1,6 +1,6 @@
 -- `row_map::put_map` puts the inner depths, then depth 0 and depth n by the rows' states, and sets their dimensions: what stands then is
 -- the whole map, as `Whole` says.
-use Rattle.row_map.proofs.Whole.{lent_length, root-asked, goal-asked, counts-asked, map-put}
+use Rattle.row_map.proofs.Whole.{lent_length, root_asked, goal_asked, counts_asked, map_put}
 use borrow.Author.Rules.{rules}
 use Rattle.row_map.proofs.put_map.Statement.{statement}
 use Rattle.row_map.proofs.put_map.Tie as tie
@@ -19,16 +19,16 @@ array-share-prefix-roots c = search rules
 
 slice-aggregate-put-outer : tie.Need-slice-aggregate-put-outer
 slice-aggregate-put-outer c =
-    let at-roots = c.before in
-    let entry = at-roots.before.before.before.before.before.before.before in
-    lent_length entry.requires at-roots.roots-of.ensures
+    let at_roots = c.before in
+    let entry = at_roots.before.before.before.before.before.before.before in
+    lent_length entry.requires at_roots.roots-of.ensures
 
 put-outer-requires : tie.Need-put-outer-requires
 put-outer-requires c κs =
-    let at-roots = c.before.before in
-    let at_inner = at-roots.before.before.before in
+    let at_roots = c.before.before in
+    let at_inner = at_roots.before.before.before in
     let entry = at_inner.before.before.before.before in
-    root-asked entry.requires at_inner.put-inner.ensures at-roots.roots-of.ensures
+    root_asked entry.requires at_inner.put-inner.ensures at_roots.roots-of.ensures
 
 goals-of-requires : tie.Need-goals-of-requires
 goals-of-requires c κs = search rules
@@ -38,22 +38,22 @@ array-share-prefix-goals c = search rules
 
 slice-aggregate-put-outer-2 : tie.Need-slice-aggregate-put-outer-2
 slice-aggregate-put-outer-2 c =
-    let at-goals = c.before in
-    let entry = at-goals.before.before.before.before.before.before.before.before.before.before.before.before.before in
-    lent_length entry.requires at-goals.goals_of.ensures
+    let at_goals = c.before in
+    let entry = at_goals.before.before.before.before.before.before.before.before.before.before.before.before.before in
+    lent_length entry.requires at_goals.goals_of.ensures
 
 mul-put-outer : tie.Need-overflow-mul-put-outer
 mul-put-outer c = search rules
 
 put-outer-requires-2 : tie.Need-put-outer-requires-2
 put-outer-requires-2 c κs =
-    let at-goals = c.before.before in
-    let at_first = at-goals.before.before.before in
-    let at-roots = at_first.before.before.before in
-    let at_inner = at-roots.before.before.before in
+    let at_goals = c.before.before in
+    let at_first = at_goals.before.before.before in
+    let at_roots = at_first.before.before.before in
+    let at_inner = at_roots.before.before.before in
     let entry = at_inner.before.before.before.before in
-    goal-asked entry.requires at_inner.put-inner.ensures at-roots.roots-of.ensures at_first.put-outer.ensures
-    at-goals.goals_of.ensures
+    goal_asked entry.requires at_inner.put-inner.ensures at_roots.roots-of.ensures at_first.put-outer.ensures
+    at_goals.goals_of.ensures
 
 array-write-dims : tie.Need-array-write-dims
 array-write-dims c = search rules
@@ -67,13 +67,13 @@ array-write-dims-2 c = search rules
 counts-of-requires : tie.Need-counts-of-requires
 counts-of-requires c κs =
     let at_last = c.before.before.before.before.before.before in
-    let at-goals = at_last.before.before.before in
-    let at_first = at-goals.before.before.before in
-    let at-roots = at_first.before.before.before in
-    let at_inner = at-roots.before.before.before in
+    let at_goals = at_last.before.before.before in
+    let at_first = at_goals.before.before.before in
+    let at_roots = at_first.before.before.before in
+    let at_inner = at_roots.before.before.before in
     let entry = at_inner.before.before.before.before in
-    counts-asked entry.requires at_inner.put-inner.ensures at-roots.roots-of.ensures at_first.put-outer.ensures
-    at-goals.goals_of.ensures at_last.put-outer2.ensures
+    counts_asked entry.requires at_inner.put-inner.ensures at_roots.roots-of.ensures at_first.put-outer.ensures
+    at_goals.goals_of.ensures at_last.put-outer2.ensures
 
 same_length : tie.Need-same-length
 same_length c = search rules
@@ -81,16 +81,16 @@ same_length c = search rules
 returns : tie.Need-returns
 returns c =
     let at_last = c.before.before.before.before.before.before.before in
-    let at-goals = at_last.before.before.before in
-    let at_first = at-goals.before.before.before in
-    let at-roots = at_first.before.before.before in
-    let at_inner = at-roots.before.before.before in
+    let at_goals = at_last.before.before.before in
+    let at_first = at_goals.before.before.before in
+    let at_roots = at_first.before.before.before in
+    let at_inner = at_roots.before.before.before in
     let entry = at_inner.before.before.before.before in
-    map-put entry.requires at_inner.put-inner.ensures at-roots.roots-of.ensures at_first.put-outer.ensures
-    at-goals.goals_of.ensures at_last.put-outer2.ensures c.Counts-of.ensures
+    map_put entry.requires at_inner.put-inner.ensures at_roots.roots-of.ensures at_first.put-outer.ensures
+    at_goals.goals_of.ensures at_last.put-outer2.ensures c.Counts-of.ensures
 
-pub put-map-spec : {M : Type 1} → statement M
-put-map-spec =
+pub put_map_spec : {M : Type 1} → statement M
+put_map_spec =
     tie.close
     (tie.spec
     put-inner-requires

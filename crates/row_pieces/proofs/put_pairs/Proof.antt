@@ -3,19 +3,19 @@ use Prim.Native.Nat.{◌-◌}
 use native.Mathlib.Omega.{arith}
 use lib.ListN.{length, length-set}
 use borrow.Author.Rules.{rules}
-use Rattle.row_pieces.specs.inner.Pieces.{pairsFrom}
-use Rattle.row_pieces.proofs.Pieces.{Put, put-none, pairs-piece, pair-more, put-end}
+use Rattle.row_pieces.specs.Inner.Pieces.{pairs_from}
+use Rattle.row_pieces.proofs.Pieces.{Put, put_none, pairs_piece, pair_more, put_end}
 use Rattle.row_pieces.proofs.put_pairs.Statement.{statement}
 use Rattle.row_pieces.proofs.put_pairs.Tie as tie
 
 abbrev invariant-loop : tie.invariant-loop
-invariant-loop edges dim section₀ at to₀ k₀ section to k = Put (pairsFrom dim) 2 edges section₀ at section to k
+invariant-loop edges dim section₀ at to₀ k₀ section to k = Put (pairs_from dim) 2 edges section₀ at section to k
 
 abbrev decreases-loop : tie.decreases-loop
 decreases-loop edges dim section₀ at to₀ k₀ section to k = length edges - k
 
 loop-holds : tie.Need-loop-init invariant-loop decreases-loop
-loop-holds c = put-none 2 (pairs-piece _) _ _ _
+loop-holds c = put_none 2 (pairs_piece _) _ _ _
 
 mul-from-of : tie.Need-overflow-mul-from-of invariant-loop decreases-loop
 mul-from-of c = search rules
@@ -48,8 +48,8 @@ mul-section-2 : tie.Need-overflow-mul-section-2 invariant-loop decreases-loop
 mul-section-2 c = search rules
 
 slice-write-section-2 : tie.Need-slice-write-section-2 invariant-loop decreases-loop
-slice-write-section-2 c = let at-loop = c.before.before.before.before.before.loop.invariant in
-    simp length-set (omega (arith, at-loop.len, at-loop.to_is))
+slice-write-section-2 c = let at_loop = c.before.before.before.before.before.loop.invariant in
+    simp length-set (omega (arith, at_loop.len, at_loop.to_is))
 
 add-to : tie.Need-overflow-add-to invariant-loop decreases-loop
 add-to c = search rules
@@ -63,16 +63,16 @@ loop-less c = search rules
 loop-again : tie.Need-loop-preserved invariant-loop decreases-loop
 loop-again c =
     let at_from = c.before.before in
-    pair-more _ at_from.before.before.before.loop.invariant at_from.from-of.ensures c.to-of.ensures (search rules)
+    pair_more _ at_from.before.before.before.loop.invariant at_from.from-of.ensures c.to-of.ensures (search rules)
 
 same_length : tie.Need-same-length invariant-loop decreases-loop
 same_length c = c.before.loop.invariant.len
 
 returns : tie.Need-returns invariant-loop decreases-loop
-returns c = put-end c.before.loop.invariant (search rules)
+returns c = put_end c.before.loop.invariant (search rules)
 
-pub put-pairs-spec : {M : Type 1} → statement M
-put-pairs-spec =
+pub put_pairs_spec : {M : Type 1} → statement M
+put_pairs_spec =
     tie.close
     (tie.spec
     invariant-loop

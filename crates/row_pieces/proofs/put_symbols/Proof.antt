@@ -2,8 +2,8 @@
 use Prim.Native.Nat.{◌-◌, ◌+◌}
 use lib.ListN.{length}
 use borrow.Author.Rules.{rules}
-use Rattle.row_pieces.specs.inner.Pieces.{symbols_from}
-use Rattle.row_pieces.proofs.Pieces.{Put, symbols-none, symbol-more, symbols-end}
+use Rattle.row_pieces.specs.Inner.Pieces.{symbols_from}
+use Rattle.row_pieces.proofs.Pieces.{Put, symbols_none, symbol_more, symbols_end}
 use Rattle.row_pieces.proofs.put_symbols.Statement.{statement}
 use Rattle.row_pieces.proofs.put_symbols.Tie as tie
 
@@ -14,7 +14,7 @@ abbrev decreases-loop : tie.decreases-loop
 decreases-loop edges dim section₀ at k₀ section k = length edges - k
 
 loop-holds : tie.Need-loop-init invariant-loop decreases-loop
-loop-holds c = symbols-none _ _ _ _
+loop-holds c = symbols_none _ _ _ _
 
 mul-bit-at : tie.Need-overflow-mul-bit-at invariant-loop decreases-loop
 mul-bit-at c = search rules
@@ -41,7 +41,7 @@ loop-less : tie.Need-loop-smaller invariant-loop decreases-loop
 loop-less c = search rules
 
 loop-again : tie.Need-loop-preserved invariant-loop decreases-loop
-loop-again c = symbol-more _ c.before.before.before.loop.invariant c.bit_at.ensures (search rules)
+loop-again c = symbol_more _ c.before.before.before.loop.invariant c.bit_at.ensures (search rules)
 
 add-result : tie.Need-overflow-add-result invariant-loop decreases-loop
 add-result c = search rules
@@ -50,10 +50,10 @@ same_length : tie.Need-same-length invariant-loop decreases-loop
 same_length c = c.before.loop.invariant.len
 
 returns : tie.Need-returns invariant-loop decreases-loop
-returns c = symbols-end _ c.before.loop.invariant (search rules)
+returns c = symbols_end _ c.before.loop.invariant (search rules)
 
-pub put-symbols-spec : {M : Type 1} → statement M
-put-symbols-spec =
+pub put_symbols_spec : {M : Type 1} → statement M
+put_symbols_spec =
     tie.close
     (tie.spec
     invariant-loop

@@ -1,6 +1,6 @@
 -- `row_section::put_section` writes the sizes and then the parts one behind another; each has room behind those before it.
 use mathlib.Core.Path.{sym}
-use Rattle.row_section.proofs.Parts.{goals-asked, pairs-asked, symbols-asked, all-parts}
+use Rattle.row_section.proofs.Parts.{goals_asked, pairs_asked, symbols_asked, all_parts}
 use borrow.Author.Rules.{rules}
 use Rattle.row_section.proofs.put_section.Statement.{statement}
 use Rattle.row_section.proofs.put_section.Tie as tie
@@ -31,10 +31,10 @@ put-numbers-requires c κs = search rules
 
 slice-aggregate-put-numbers-2 : tie.Need-slice-aggregate-put-numbers-2
 slice-aggregate-put-numbers-2 c =
-    let at-roots = c.before.before.before in
-    let at-sizes = at-roots.before.before.before.before.before.before in
-    let entry = at-sizes.before.before.before.before.before.before.before.before.before.before.before.before in
-    sym entry.requires.goalPlaces
+    let at_roots = c.before.before.before in
+    let at_sizes = at_roots.before.before.before.before.before.before in
+    let entry = at_sizes.before.before.before.before.before.before.before.before.before.before.before.before in
+    sym entry.requires.goal_places
 
 mul_wide : tie.Need-overflow-mul-wide
 mul_wide c = search rules
@@ -47,55 +47,55 @@ wide-requires-2 c κs = search rules
 
 put-numbers-requires-2 : tie.Need-put-numbers-requires-2
 put-numbers-requires-2 c κs =
-    let at-roots = c.before.before.before.before.before in
-    let at-sizes = at-roots.before.before.before.before.before.before in
-    let at-states = at-sizes.before.before.before.before in
-    let entry = at-states.before.before.before.before.before.before.before.before in
-    goals-asked entry.requires at-states.states-of.ensures at-sizes.put-sizes.ensures
-    at-roots.before.before.wide.ensures.0 at-roots.put-numbers.ensures c.before.wide2.ensures.0
+    let at_roots = c.before.before.before.before.before in
+    let at_sizes = at_roots.before.before.before.before.before.before in
+    let at_states = at_sizes.before.before.before.before in
+    let entry = at_states.before.before.before.before.before.before.before.before in
+    goals_asked entry.requires at_states.states-of.ensures at_sizes.put-sizes.ensures
+    at_roots.before.before.wide.ensures.0 at_roots.put-numbers.ensures c.before.wide2.ensures.0
 
 put-all-pairs-requires : tie.Need-put-all-pairs-requires
 put-all-pairs-requires c κs =
-    let at-goals = c.before.before.before.before.before in
-    let at-roots = at-goals.before.before.before.before.before.before in
-    let at-sizes = at-roots.before.before.before.before.before.before in
-    let at-states = at-sizes.before.before.before.before in
-    let entry = at-states.before.before.before.before.before.before.before.before in
-    pairs-asked entry.requires at-states.states-of.ensures at-sizes.put-sizes.ensures
-    at-roots.before.before.wide.ensures.0 at-roots.put-numbers.ensures
-    at-goals.before.before.wide2.ensures.0 at-goals.put-numbers2.ensures
+    let at_goals = c.before.before.before.before.before in
+    let at_roots = at_goals.before.before.before.before.before.before in
+    let at_sizes = at_roots.before.before.before.before.before.before in
+    let at_states = at_sizes.before.before.before.before in
+    let entry = at_states.before.before.before.before.before.before.before.before in
+    pairs_asked entry.requires at_states.states-of.ensures at_sizes.put-sizes.ensures
+    at_roots.before.before.wide.ensures.0 at_roots.put-numbers.ensures
+    at_goals.before.before.wide2.ensures.0 at_goals.put-numbers2.ensures
 
 put-all-symbols-requires : tie.Need-put-all-symbols-requires
 put-all-symbols-requires c κs =
-    let at-pairs = c.before.before.before.before.before in
-    let at-goals = at-pairs.before.before.before.before.before.before in
-    let at-roots = at-goals.before.before.before.before.before.before in
-    let at-sizes = at-roots.before.before.before.before.before.before in
-    let at-states = at-sizes.before.before.before.before in
-    let entry = at-states.before.before.before.before.before.before.before.before in
-    symbols-asked entry.requires at-states.states-of.ensures at-sizes.put-sizes.ensures
-    at-roots.before.before.wide.ensures.0 at-roots.put-numbers.ensures
-    at-goals.before.before.wide2.ensures.0 at-goals.put-numbers2.ensures at-pairs.put-all-pairs.ensures
+    let at_pairs = c.before.before.before.before.before in
+    let at_goals = at_pairs.before.before.before.before.before.before in
+    let at_roots = at_goals.before.before.before.before.before.before in
+    let at_sizes = at_roots.before.before.before.before.before.before in
+    let at_states = at_sizes.before.before.before.before in
+    let entry = at_states.before.before.before.before.before.before.before.before in
+    symbols_asked entry.requires at_states.states-of.ensures at_sizes.put-sizes.ensures
+    at_roots.before.before.wide.ensures.0 at_roots.put-numbers.ensures
+    at_goals.before.before.wide2.ensures.0 at_goals.put-numbers2.ensures at_pairs.put-all-pairs.ensures
 
 same_length : tie.Need-same-length
 same_length c = search rules
 
 returns : tie.Need-returns
 returns c =
-    let at-symbols = c.before.before in
-    let at-pairs = at-symbols.before.before.before.before.before.before in
-    let at-goals = at-pairs.before.before.before.before.before.before in
-    let at-roots = at-goals.before.before.before.before.before.before in
-    let at-sizes = at-roots.before.before.before.before.before.before in
-    let at-states = at-sizes.before.before.before.before in
-    let entry = at-states.before.before.before.before.before.before.before.before in
-    all-parts entry.requires at-states.states-of.ensures at-sizes.put-sizes.ensures
-    at-roots.before.before.wide.ensures.0 at-roots.put-numbers.ensures
-    at-goals.before.before.wide2.ensures.0 at-goals.put-numbers2.ensures at-pairs.put-all-pairs.ensures
-    at-symbols.put-all-symbols.ensures
+    let at_symbols = c.before.before in
+    let at_pairs = at_symbols.before.before.before.before.before.before in
+    let at_goals = at_pairs.before.before.before.before.before.before in
+    let at_roots = at_goals.before.before.before.before.before.before in
+    let at_sizes = at_roots.before.before.before.before.before.before in
+    let at_states = at_sizes.before.before.before.before in
+    let entry = at_states.before.before.before.before.before.before.before.before in
+    all_parts entry.requires at_states.states-of.ensures at_sizes.put-sizes.ensures
+    at_roots.before.before.wide.ensures.0 at_roots.put-numbers.ensures
+    at_goals.before.before.wide2.ensures.0 at_goals.put-numbers2.ensures at_pairs.put-all-pairs.ensures
+    at_symbols.put-all-symbols.ensures
 
-pub put-section-spec : {M : Type 1} → statement M
-put-section-spec =
+pub put_section_spec : {M : Type 1} → statement M
+put_section_spec =
     tie.close
     (tie.spec
     states-of-requires

@@ -1,7 +1,7 @@
 -- `row_states::goals_of` fills an array from the front: the loop keeps that the first b rows' last bits stand.
 use Prim.Native.Nat.{◌-◌, ◌%◌, ◌^◌}
 use lib.ListN.{length}
-use Rattle.row_states.proofs.Keys.{Given, given-none, given-next, given-all}
+use Rattle.row_states.proofs.Keys.{Given, given_none, given_next, given_all}
 use borrow.Author.Rules.{rules}
 use Rattle.row_states.proofs.goals_of.Statement.{statement}
 use Rattle.row_states.proofs.goals_of.Tie as tie
@@ -13,7 +13,7 @@ abbrev decreases-loop : tie.decreases-loop
 decreases-loop rows bits values₀ b₀ values b = length rows - b
 
 loop-holds : tie.Need-loop-init invariant-loop decreases-loop
-loop-holds c = given-none _ _ (search rules)
+loop-holds c = given_none _ _ (search rules)
 
 mul-goal-of : tie.Need-overflow-mul-goal-of invariant-loop decreases-loop
 mul-goal-of c = search rules
@@ -37,13 +37,13 @@ loop-less : tie.Need-loop-smaller invariant-loop decreases-loop
 loop-less c = search rules
 
 loop-again : tie.Need-loop-preserved invariant-loop decreases-loop
-loop-again c = given-next c.before.before.before.loop.invariant (search rules) (search rules) c.goal-of.ensures
+loop-again c = given_next c.before.before.before.loop.invariant (search rules) (search rules) c.goal-of.ensures
 
 returns : tie.Need-returns invariant-loop decreases-loop
-returns c = given-all c.before.loop.invariant (search rules)
+returns c = given_all c.before.loop.invariant (search rules)
 
-pub goals-of-spec : {M : Type 1} → statement M
-goals-of-spec =
+pub goals_of_spec : {M : Type 1} → statement M
+goals_of_spec =
     tie.close
     (tie.spec
     invariant-loop

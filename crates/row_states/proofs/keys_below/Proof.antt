@@ -36,8 +36,8 @@ loop-again c = (below_next c.before.before.before.loop.invariant.0 (search rules
 returns : tie.Need-returns invariant-loop decreases-loop
 returns c = below_all c.before.loop.invariant.0 (search rules) (search rules)
 
-pub keys-below-spec : {M : Type 1} → statement M
-keys-below-spec =
+pub keys_below_spec : {M : Type 1} → statement M
+keys_below_spec =
     tie.close
     (tie.spec
     invariant-loop

@@ -2,7 +2,7 @@
 use Prim.Native.Nat.{◌-◌}
 use lib.ListN.{length}
 use Rattle.trellis.specs.Lists.{rank}
-use Rattle.row_states.proofs.Keys.{Given, given-none, given-next, given-all}
+use Rattle.row_states.proofs.Keys.{Given, given_none, given_next, given_all}
 use borrow.Author.Rules.{rules}
 use Rattle.row_states.proofs.ranks_of.Statement.{statement}
 use Rattle.row_states.proofs.ranks_of.Tie as tie
@@ -14,7 +14,7 @@ abbrev decreases-loop : tie.decreases-loop
 decreases-loop values keys ranks₀ b₀ ranks b = length values - b
 
 loop-holds : tie.Need-loop-init invariant-loop decreases-loop
-loop-holds c = given-none _ _ (search rules)
+loop-holds c = given_none _ _ (search rules)
 
 mul-keys-below : tie.Need-overflow-mul-keys-below invariant-loop decreases-loop
 mul-keys-below c = search rules
@@ -38,13 +38,13 @@ loop-less : tie.Need-loop-smaller invariant-loop decreases-loop
 loop-less c = search rules
 
 loop-again : tie.Need-loop-preserved invariant-loop decreases-loop
-loop-again c = given-next c.before.before.before.loop.invariant (search rules) (search rules) c.keys_below.ensures
+loop-again c = given_next c.before.before.before.loop.invariant (search rules) (search rules) c.keys_below.ensures
 
 returns : tie.Need-returns invariant-loop decreases-loop
-returns c = given-all c.before.loop.invariant (search rules)
+returns c = given_all c.before.loop.invariant (search rules)
 
-pub ranks-of-spec : {M : Type 1} → statement M
-ranks-of-spec =
+pub ranks_of_spec : {M : Type 1} → statement M
+ranks_of_spec =
     tie.close
     (tie.spec
     invariant-loop

@@ -2,7 +2,7 @@
 use Prim.Native.Nat.{◌-◌, ◌/◌, ◌^◌}
 use lib.ListN.{length}
 use mathlib.Core.Path.{refl}
-use Rattle.row_states.proofs.Keys.{Given, given-none, given-next, given-all}
+use Rattle.row_states.proofs.Keys.{Given, given_none, given_next, given_all}
 use borrow.Author.Rules.{rules}
 use Rattle.row_states.proofs.roots_of.Statement.{statement}
 use Rattle.row_states.proofs.roots_of.Tie as tie
@@ -14,7 +14,7 @@ abbrev decreases-loop : tie.decreases-loop
 decreases-loop rows behind values₀ b₀ values b = length rows - b
 
 loop-holds : tie.Need-loop-init invariant-loop decreases-loop
-loop-holds c = given-none _ _ (search rules)
+loop-holds c = given_none _ _ (search rules)
 
 mul-values : tie.Need-overflow-mul-values invariant-loop decreases-loop
 mul-values c = search rules
@@ -41,13 +41,13 @@ loop-less : tie.Need-loop-smaller invariant-loop decreases-loop
 loop-less c = search rules
 
 loop-again : tie.Need-loop-preserved invariant-loop decreases-loop
-loop-again c = given-next c.before.before.loop.invariant (search rules) (search rules) refl
+loop-again c = given_next c.before.before.loop.invariant (search rules) (search rules) refl
 
 returns : tie.Need-returns invariant-loop decreases-loop
-returns c = given-all c.before.loop.invariant (search rules)
+returns c = given_all c.before.loop.invariant (search rules)
 
-pub roots-of-spec : {M : Type 1} → statement M
-roots-of-spec =
+pub roots_of_spec : {M : Type 1} → statement M
+roots_of_spec =
     tie.close
     (tie.spec
     invariant-loop

@@ -1,8 +1,8 @@
 -- `row_sums::double` writes one number after another behind the others: the loop keeps which stand.
 use Prim.Native.Nat.{◌-◌, ◌≤◌}
 use borrow.Author.Rules.{rules}
-use Rattle.row_sums.specs.inner.Doubled.{Doubled}
-use Rattle.row_sums.proofs.Doubling.{doubled-none, doubled-next, doubled-end}
+use Rattle.row_sums.specs.Inner.Doubled.{Doubled}
+use Rattle.row_sums.proofs.Doubling.{doubled_none, doubled_next, doubled_end}
 use Rattle.row_sums.proofs.double.Statement.{statement}
 use Rattle.row_sums.proofs.double.Tie as tie
 
@@ -13,7 +13,7 @@ abbrev decreases-loop : tie.decreases-loop
 decreases-loop row₀ place w c j₀ row j = w - j
 
 loop-holds : tie.Need-loop-init invariant-loop decreases-loop
-loop-holds c = (doubled-none _ _ _ _, search rules)
+loop-holds c = (doubled_none _ _ _ _, search rules)
 
 add_row : tie.Need-overflow-add-row invariant-loop decreases-loop
 add_row c = search rules
@@ -43,16 +43,16 @@ loop-less : tie.Need-loop-smaller invariant-loop decreases-loop
 loop-less c = search rules
 
 loop-again : tie.Need-loop-preserved invariant-loop decreases-loop
-loop-again c = (doubled-next c.before.before.loop.invariant.0 (search rules) (search rules), search rules)
+loop-again c = (doubled_next c.before.before.loop.invariant.0 (search rules) (search rules), search rules)
 
 same_length : tie.Need-same-length invariant-loop decreases-loop
 same_length c = search rules
 
 returns : tie.Need-returns invariant-loop decreases-loop
-returns c = doubled-end c.before.loop.invariant.0 (search rules) (search rules)
+returns c = doubled_end c.before.loop.invariant.0 (search rules) (search rules)
 
-pub double-spec : {M : Type 1} → statement M
-double-spec =
+pub double_spec : {M : Type 1} → statement M
+double_spec =
     tie.close
     (tie.spec
     invariant-loop

@@ -5,7 +5,7 @@ use Prim.Native.Nat.{◌-◌}
 use lib.ListN.{length}
 use lib.Pow.{pow_pos}
 use borrow.Author.Rules.{rules}
-use Rattle.row_sums.proofs.AllSums.{SumsPut, sums_none, sums-few, sums-inside, sums-room, sums_next, sums-length, sums-end}
+use Rattle.row_sums.proofs.AllSums.{SumsPut, sums_none, sums_few, sums_inside, sums_room, sums_next, sums_length, sums_end}
 use Rattle.row_sums.proofs.put_sums.Statement.{statement}
 use Rattle.row_sums.proofs.put_sums.Tie as tie
 
@@ -33,12 +33,12 @@ shared-slice-read-double : tie.Need-shared-slice-read-double invariant-loop decr
 shared-slice-read-double c = search rules
 
 double-requires : tie.Need-double-requires invariant-loop decreases-loop
-double-requires c κs = sums-room c.before.before.before.loop.invariant (search rules)
+double-requires c κs = sums_room c.before.before.before.loop.invariant (search rules)
 
 add-w : tie.Need-overflow-add-w invariant-loop decreases-loop
 add-w c =
     let turn = c.before.before.before.before.before.before in
-    search (rules, sums-few turn.loop.invariant turn.before.before.before.requires.0)
+    search (rules, sums_few turn.loop.invariant turn.before.before.before.requires.0)
 
 add-b : tie.Need-overflow-add-b invariant-loop decreases-loop
 add-b c = search rules
@@ -48,22 +48,22 @@ loop-less c = search rules
 
 loop-again : tie.Need-loop-preserved invariant-loop decreases-loop
 loop-again c =
-    let at-double = c.before.before in
-    sums_next at-double.before.before.before.before.loop.invariant (search rules) at-double.double.ensures
+    let at_double = c.before.before in
+    sums_next at_double.before.before.before.before.loop.invariant (search rules) at_double.double.ensures
 
 add-result : tie.Need-overflow-add-result invariant-loop decreases-loop
 add-result c =
     let S = c.before.loop.invariant in
-    search (rules, sums-inside S, sums-length S c.before.before.before.before.args.buffer.now refl)
+    search (rules, sums_inside S, sums_length S c.before.before.before.before.args.buffer.now refl)
 
 same_length : tie.Need-same-length invariant-loop decreases-loop
-same_length c = sums-length c.before.loop.invariant c.before.before.before.before.args.buffer.now refl
+same_length c = sums_length c.before.loop.invariant c.before.before.before.before.args.buffer.now refl
 
 returns : tie.Need-returns invariant-loop decreases-loop
-returns c = sums-end c.before.loop.invariant _ refl (search rules)
+returns c = sums_end c.before.loop.invariant _ refl (search rules)
 
-pub put-sums-spec : {M : Type 1} → statement M
-put-sums-spec =
+pub put_sums_spec : {M : Type 1} → statement M
+put_sums_spec =
     tie.close
     (tie.spec
     invariant-loop

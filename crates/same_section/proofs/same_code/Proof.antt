@@ -1,9 +1,9 @@
 -- `same_section::same_code` meets its contract: each of its tests decides, by the laws of sections with the same code.
 use borrow.Author.Rules.{rules}
 use borrow.Author.Tests.{not-true, not-false}
-use Rattle.partners.specs.inner.Following.{BothSeen}
-use Rattle.same_section.proofs.Comparing.{followed-code}
-use Rattle.same_section.proofs.Answers.{front-differs, front_same, all_same, more-steps}
+use Rattle.partners.specs.Inner.Following.{BothSeen}
+use Rattle.same_section.proofs.Comparing.{followed_code}
+use Rattle.same_section.proofs.Answers.{front_differs, front_same, all_same, more_steps}
 use Rattle.same_section.proofs.same_code.Statement.{statement}
 use Rattle.same_section.proofs.same_code.Tie as tie
 
@@ -22,7 +22,7 @@ alike-requires c κs = search rules
 returns : tie.Need-returns
 returns c =
     let s = start c.before in let p = s.pre in
-    front-differs s.args.a.now s.args.b.now p.0 p.1 p.2 c.before.alike.ensures (not-true _ c.if1.true)
+    front_differs s.args.a.now s.args.b.now p.0 p.1 p.2 c.before.alike.ensures (not-true _ c.if1.true)
 
 alike-requires-2 : tie.Need-alike-requires-2
 alike-requires-2 c κs = search rules
@@ -34,15 +34,15 @@ returns-2 c =
     t.if2.true c.alike2.ensures
 
 follow-requires : tie.Need-follow-requires
-follow-requires c κs = let o = c.before.before in (both o, more-steps (both o).here c.if2.false)
+follow-requires c κs = let o = c.before.before in (both o, more_steps (both o).here c.if2.false)
 
 returns-3 : tie.Need-returns-3
 returns-3 c =
     let o = c.before.before.before in let p = (start o.before).requires in
-    followed-code p.1 p.2 (both o).front c.follow.ensures
+    followed_code p.1 p.2 (both o).front c.follow.ensures
 
-pub same-code-spec : {M : Type 1} → statement M
-same-code-spec =
+pub same_code_spec : {M : Type 1} → statement M
+same_code_spec =
     tie.close
     (tie.spec
     alike-requires

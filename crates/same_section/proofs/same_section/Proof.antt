@@ -1,8 +1,8 @@
 -- `same_section::same_section` meets its contract: where the first list is no section that is the answer, and else the two are compared.
 use mathlib.Core.Path.{sym, ◌∙◌}
 use borrow.Author.Rules.{rules}
-use Rattle.whole_section.proofs.Sections.{whole-filled, whole-none}
-use Rattle.same_section.proofs.Answers.{first-unusable}
+use Rattle.whole_section.proofs.Sections.{whole_filled, whole_none}
+use Rattle.same_section.proofs.Answers.{first_unusable}
 use Rattle.same_section.proofs.same_section.Statement.{statement}
 use Rattle.same_section.proofs.same_section.Tie as tie
 
@@ -15,7 +15,7 @@ enum-known-part c = search rules
 compare-requires : tie.Need-compare-requires
 compare-requires c κs =
     let p = c.before in let u = p.before.before in
-    let F = whole-filled u.before.before.before.args.a.now (sym p.part.given.1 ∙ u.section-of.ensures) in
+    let F = whole_filled u.before.before.before.args.a.now (sym p.part.given.1 ∙ u.section-of.ensures) in
     (F.seen, F.is-section)
 
 enum_told : tie.Need-enum-told
@@ -27,9 +27,9 @@ returns c = search rules
 returns-2 : tie.Need-returns-2
 returns-2 c =
     let u = c.before.before in let a = u.before.before.before.args in
-    first-unusable a.a.now a.b.now (whole-none a.a.now (sym c.enum_told.given.1 ∙ u.section-of.ensures))
+    first_unusable a.a.now a.b.now (whole_none a.a.now (sym c.enum_told.given.1 ∙ u.section-of.ensures))
 
-pub same-section-spec : {M : Type 1} → statement M
-same-section-spec =
+pub same_section_spec : {M : Type 1} → statement M
+same_section_spec =
     tie.close
     (tie.spec section-of-requires enum-known-part compare-requires enum_told returns returns-2)

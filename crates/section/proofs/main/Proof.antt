@@ -1,7 +1,7 @@
 -- `section::main` lends what it read and a buffer of its own, and writes the text that stands in it: a written text is inside the buffer.
 use mathlib.Core.Path.{sym}
 use lib.Seq.{length-take-le}
-use Rattle.listing.proofs.Outcomes.{listed-inside}
+use Rattle.listing.proofs.Outcomes.{listed_inside}
 use borrow.Author.Rules.{rules}
 use Rattle.section.proofs.main.Statement.{statement}
 use Rattle.section.proofs.main.Tie as tie
@@ -32,11 +32,11 @@ enum-known-length c = search rules
 
 array-share-prefix-text : tie.Need-array-share-prefix-text
 array-share-prefix-text c = let l = c.before.before.before.before in
-    listed-inside _ _ l.listing.ensures c.before.length.given.1
+    listed_inside _ _ l.listing.ensures c.before.length.given.1
 
 slice-aggregate-write-all : tie.Need-slice-aggregate-write-all
 slice-aggregate-write-all c = let l = c.before.before.before.before.before in
-    sym (length-take-le _ _ (listed-inside _ _ l.listing.ensures c.before.before.length.given.1))
+    sym (length-take-le _ _ (listed_inside _ _ l.listing.ensures c.before.before.length.given.1))
 
 write-all-requires : tie.Need-write-all-requires
 write-all-requires c κs = search rules

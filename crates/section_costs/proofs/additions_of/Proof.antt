@@ -1,6 +1,6 @@
 -- `section_costs::additions_of` sums the edge counts, which stand behind the n + 1 vertex counts.
 use native.Mathlib.Omega.{arith}
-use Rattle.section_costs.proofs.Costs.{edges-sum}
+use Rattle.section_costs.proofs.Costs.{edges_sum}
 use borrow.Author.Rules.{rules}
 use Rattle.section_costs.proofs.additions_of.Statement.{statement}
 use Rattle.section_costs.proofs.additions_of.Tie as tie
@@ -21,10 +21,10 @@ returns : tie.Need-returns
 returns c =
     let w = c.before in
     let a = w.before.before.before in (
-      edges-sum a.args.sizes.now w.before.number.ensures w.wide.ensures.0 c.total.ensures.0,
+      edges_sum a.args.sizes.now w.before.number.ensures w.wide.ensures.0 c.total.ensures.0,
       omega (arith, c.total.ensures.1, w.wide.ensures.1),
     )
 
-pub additions-of-spec : {M : Type 1} → statement M
-additions-of-spec =
+pub additions_of_spec : {M : Type 1} → statement M
+additions_of_spec =
     tie.close (tie.spec number-requires wide-requires add_total total-requires returns)

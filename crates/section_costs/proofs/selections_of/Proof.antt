@@ -44,8 +44,8 @@ returns c =
       omega (arith, c.less.ensures, e.additions-of.ensures.1, r.wide2.ensures.1, r.wide2.ensures.0),
     )
 
-pub selections-of-spec : {M : Type 1} → statement M
-selections-of-spec =
+pub selections_of_spec : {M : Type 1} → statement M
+selections_of_spec =
     tie.close
     (tie.spec
     number-requires

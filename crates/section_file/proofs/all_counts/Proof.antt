@@ -3,15 +3,15 @@
 use mathlib.Core.Path.{◌∙◌, ap}
 use Prim.Native.Nat.{◌+◌, ◌-◌}
 use lib.ListN.{get_or}
-use Rattle.trellis.specs.Bounds.{mostWords}
+use Rattle.trellis.specs.Bounds.{most_words}
 use Rattle.trellis.specs.Lists.{within}
-use Rattle.edges.proofs.Tests.{Passed, passed_start, passed-next, passed-fails, passed-all}
+use Rattle.edges.proofs.Tests.{Passed, passed_start, passed_next, passed_fails, passed_all}
 use borrow.Author.Rules.{rules}
 use Rattle.section_file.proofs.all_counts.Statement.{statement}
 use Rattle.section_file.proofs.all_counts.Tie as tie
 
 abbrev invariant-loop : tie.invariant-loop
-invariant-loop l at count t₀ t = Passed (λ t. within 1 mostWords (get_or l (at + t) 0)) count t
+invariant-loop l at count t₀ t = Passed (λ t. within 1 most_words (get_or l (at + t) 0)) count t
 
 abbrev decreases-loop : tie.decreases-loop
 decreases-loop l at count t₀ t = count - t
@@ -30,8 +30,8 @@ is-within-requires c κs = search rules
 
 returns : tie.Need-returns invariant-loop decreases-loop
 returns c =
-    passed-fails c.before.before.before.before.loop.invariant (search rules)
-    (c.before.is_Within.ensures ∙ ap (within 1 mostWords) c.before.before.number.ensures) c.if1.true
+    passed_fails c.before.before.before.before.loop.invariant (search rules)
+    (c.before.is_Within.ensures ∙ ap (within 1 most_words) c.before.before.number.ensures) c.if1.true
 
 add-t : tie.Need-overflow-add-t invariant-loop decreases-loop
 add-t c = search rules
@@ -41,14 +41,14 @@ loop-less c = search rules
 
 loop-again : tie.Need-loop-preserved invariant-loop decreases-loop
 loop-again c =
-    passed-next c.before.before.before.before.loop.invariant (search rules)
-    (c.before.is_Within.ensures ∙ ap (within 1 mostWords) c.before.before.number.ensures) c.if1.false
+    passed_next c.before.before.before.before.loop.invariant (search rules)
+    (c.before.is_Within.ensures ∙ ap (within 1 most_words) c.before.before.number.ensures) c.if1.false
 
 returns-2 : tie.Need-returns-2 invariant-loop decreases-loop
-returns-2 c = passed-all c.before.loop.invariant (search rules)
+returns-2 c = passed_all c.before.loop.invariant (search rules)
 
-pub all-counts-spec : {M : Type 1} → statement M
-all-counts-spec =
+pub all_counts_spec : {M : Type 1} → statement M
+all_counts_spec =
     tie.close
     (tie.spec
     invariant-loop

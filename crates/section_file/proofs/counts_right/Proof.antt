@@ -1,5 +1,5 @@
 -- `section_file::counts_right` meets its contract: the vertex counts decide, and else the edge counts.
-use Rattle.section_file.proofs.Reading.{vertices-wrong, counts-by-edges}
+use Rattle.section_file.proofs.Reading.{vertices_wrong, counts_by_edges}
 use borrow.Author.Rules.{rules}
 use Rattle.section_file.proofs.counts_right.Statement.{statement}
 use Rattle.section_file.proofs.counts_right.Tie as tie
@@ -11,7 +11,7 @@ all-counts-requires : tie.Need-all-counts-requires
 all-counts-requires c κs = search rules
 
 returns : tie.Need-returns
-returns c = search (rules, vertices-wrong)
+returns c = search (rules, vertices_wrong)
 
 add-all-counts-2 : tie.Need-overflow-add-all-counts-2
 add-all-counts-2 c = search rules
@@ -20,10 +20,10 @@ all-counts-requires-2 : tie.Need-all-counts-requires-2
 all-counts-requires-2 c κs = search rules
 
 returns-2 : tie.Need-returns-2
-returns-2 c = search (rules, counts-by-edges)
+returns-2 c = search (rules, counts_by_edges)
 
-pub counts-right-spec : {M : Type 1} → statement M
-counts-right-spec =
+pub counts_right_spec : {M : Type 1} → statement M
+counts_right_spec =
     tie.close
     (tie.spec
     add-all-counts

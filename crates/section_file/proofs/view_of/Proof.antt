@@ -1,5 +1,5 @@
 -- `section_file::view_of` meets its contract: each place is the one before it and the length of what stands between.
-use Rattle.section_file.proofs.Reading.{view-is}
+use Rattle.section_file.proofs.Reading.{view_is}
 use borrow.Author.Rules.{rules}
 use Rattle.section_file.proofs.view_of.Statement.{statement}
 use Rattle.section_file.proofs.view_of.Tie as tie
@@ -50,10 +50,10 @@ add-end : tie.Need-overflow-add-end
 add-end c = search rules
 
 returns : tie.Need-returns
-returns c = search (rules, view-is)
+returns c = search (rules, view_is)
 
-pub view-of-spec : {M : Type 1} → statement M
-view-of-spec =
+pub view_of_spec : {M : Type 1} → statement M
+view_of_spec =
     tie.close
     (tie.spec
     number-requires

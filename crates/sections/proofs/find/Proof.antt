@@ -2,10 +2,10 @@
 -- sections before i are usable, and their views and places are known. The measure is how many are left.
 use borrow.Author.Rules.{rules}
 use Prim.Native.Nat.{◌-◌}
-use Rattle.trellis.specs.Bounds.{mostSections}
-use Rattle.numbers.proofs.Bounds.{within-to}
-use Rattle.sections.proofs.Sections.{InSections, sections-start, sections-found, sections-fit, sections-more}
-use Rattle.sections.proofs.Sections.{looked-many, looked-short, looked-all}
+use Rattle.trellis.specs.Bounds.{most_sections}
+use Rattle.numbers.proofs.Bounds.{within_to}
+use Rattle.sections.proofs.Sections.{InSections, sections_start, sections_found, sections_fit, sections_more}
+use Rattle.sections.proofs.Sections.{looked_many, looked_short, looked_all}
 use Rattle.sections.proofs.find.Statement.{statement}
 use Rattle.sections.proofs.find.Tie as tie
 
@@ -22,43 +22,43 @@ is-within-requires : tie.Need-is-within-requires invariant-loop decreases-loop
 is-within-requires c κs = search rules
 
 returns : tie.Need-returns invariant-loop decreases-loop
-returns c = looked-many c.before.is_Within.ensures c.if1.true
+returns c = looked_many c.before.is_Within.ensures c.if1.true
 
 loop-holds : tie.Need-loop-init invariant-loop decreases-loop
-loop-holds c = sections-start _
+loop-holds c = sections_start _
 
 view-at-requires : tie.Need-view-at-requires invariant-loop decreases-loop
 view-at-requires c κs = search rules
 
 returns-2 : tie.Need-returns-2 invariant-loop decreases-loop
 returns-2 c =
-    let view-at = c.before.before in
-    let turn = view-at.before in
+    let view_at = c.before.before in
+    let turn = view_at.before in
     let head = turn.before in
     let within = head.before in
-    looked-short within.before.is_Within.ensures within.if1.false
-    (sections-found head.loop.invariant view-at.view-at.ensures c.if2.true)
+    looked_short within.before.is_Within.ensures within.if1.false
+    (sections_found head.loop.invariant view_at.view-at.ensures c.if2.true)
     turn.loop-test.true
 
 mul-views : tie.Need-overflow-mul-views invariant-loop decreases-loop
 mul-views c =
     let head = c.before.before.before.before in
     let within = head.before in
-    let f = within-to 1 mostSections _ within.before.is_Within.ensures within.if1.false in
+    let f = within_to 1 most_sections _ within.before.is_Within.ensures within.if1.false in
     search rules
 
 array-set-from-views : tie.Need-array-set-from-views invariant-loop decreases-loop
 array-set-from-views c =
     let head = c.before.before.before.before in
     let within = head.before in
-    let f = within-to 1 mostSections _ within.before.is_Within.ensures within.if1.false in
+    let f = within_to 1 most_sections _ within.before.is_Within.ensures within.if1.false in
     search rules
 
 add_at : tie.Need-overflow-add-at invariant-loop decreases-loop
 add_at c =
-    let view-at = c.before.before.before in
-    let head = view-at.before.before in
-    search (rules, sections-fit head.loop.invariant view-at.view-at.ensures c.before.if2.false)
+    let view_at = c.before.before.before in
+    let head = view_at.before.before in
+    search (rules, sections_fit head.loop.invariant view_at.view-at.ensures c.before.if2.false)
 
 add-i : tie.Need-overflow-add-i invariant-loop decreases-loop
 add-i c = search rules
@@ -67,14 +67,14 @@ mul-starts : tie.Need-overflow-mul-starts invariant-loop decreases-loop
 mul-starts c =
     let head = c.before.before.before.before.before in
     let within = head.before in
-    let f = within-to 1 mostSections _ within.before.is_Within.ensures within.if1.false in
+    let f = within_to 1 most_sections _ within.before.is_Within.ensures within.if1.false in
     search rules
 
 array-write-starts : tie.Need-array-write-starts invariant-loop decreases-loop
 array-write-starts c =
     let head = c.before.before.before.before.before in
     let within = head.before in
-    let f = within-to 1 mostSections _ within.before.is_Within.ensures within.if1.false in
+    let f = within_to 1 most_sections _ within.before.is_Within.ensures within.if1.false in
     search rules
 
 loop-less : tie.Need-loop-smaller invariant-loop decreases-loop
@@ -82,18 +82,18 @@ loop-less c = search rules
 
 loop-again : tie.Need-loop-preserved invariant-loop decreases-loop
 loop-again c =
-    let view-at = c.before.before.before in
-    let turn = view-at.before in
+    let view_at = c.before.before.before in
+    let turn = view_at.before in
     let head = turn.before in
     let within = head.before in
-    sections-more head.loop.invariant view-at.view-at.ensures c.before.if2.false
-    (within-to 1 mostSections _ within.before.is_Within.ensures within.if1.false) turn.loop-test.true
+    sections_more head.loop.invariant view_at.view-at.ensures c.before.if2.false
+    (within_to 1 most_sections _ within.before.is_Within.ensures within.if1.false) turn.loop-test.true
 
 returns-3 : tie.Need-returns-3 invariant-loop decreases-loop
 returns-3 c =
     let head = c.before in
     let within = head.before in
-    looked-all within.before.is_Within.ensures within.if1.false head.loop.invariant (search rules)
+    looked_all within.before.is_Within.ensures within.if1.false head.loop.invariant (search rules)
 
 pub find_spec : {M : Type 1} → statement M
 find_spec =

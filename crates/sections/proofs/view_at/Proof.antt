@@ -1,6 +1,6 @@
 -- `sections::view_at` takes the view out of the answer.
 use borrow.Author.Rules.{rules}
-use Rattle.sections.proofs.Sections.{view-read}
+use Rattle.sections.proofs.Sections.{view_read}
 use Rattle.sections.proofs.view_at.Statement.{statement}
 use Rattle.sections.proofs.view_at.Tie as tie
 
@@ -11,7 +11,7 @@ view-in-requires : tie.Need-view-in-requires
 view-in-requires c κs = search rules
 
 returns : tie.Need-returns
-returns c = view-read _ c.before.Usable-at.ensures c.view_in.ensures
+returns c = view_read _ c.before.Usable-at.ensures c.view_in.ensures
 
-pub view-at-spec : {M : Type 1} → statement M
-view-at-spec = tie.close (tie.spec usable-at-requires view-in-requires returns)
+pub view_at_spec : {M : Type 1} → statement M
+view_at_spec = tie.close (tie.spec usable-at-requires view-in-requires returns)

@@ -1,7 +1,7 @@
 -- `settled::settled` adds the difference of the two remainders; what it asks says that the sum fits.
 use borrow.Author.Rules.{rules}
 use mathlib.Core.Path.{◌∙◌}
-use Rattle.settled.proofs.Cost.{settled-by, settled-fits}
+use Rattle.settled.proofs.Cost.{settled_by, settled_fits}
 use Rattle.settled.proofs.settled.Statement.{statement}
 use Rattle.settled.proofs.settled.Tie as tie
 
@@ -33,14 +33,14 @@ add-result-2 : tie.Need-overflow-add-result-2
 add-result-2 c =
     let widened = c.before in
     let entry = widened.before.before in
-    let e = settled-fits _ _ entry.requires.1 (widened.widened.ensures.0 ∙ widened.before.goal-of.ensures) in
+    let e = settled_fits _ _ entry.requires.1 (widened.widened.ensures.0 ∙ widened.before.goal-of.ensures) in
     search (rules, e)
 
 returns : tie.Need-returns
-returns c = let widened = c.before in settled-by _ _ (widened.widened.ensures.0 ∙ widened.before.goal-of.ensures)
+returns c = let widened = c.before in settled_by _ _ (widened.widened.ensures.0 ∙ widened.before.goal-of.ensures)
 
-pub settled-spec : {M : Type 1} → statement M
-settled-spec =
+pub settled_spec : {M : Type 1} → statement M
+settled_spec =
     tie.close
     (tie.spec
     goal-of-requires

@@ -1,17 +1,17 @@
 -- `settling::copy_row` copies number by number. The loop's invariant: those passed are copied. The measure is how many are left.
 use borrow.Author.Rules.{rules}
 use Prim.Native.Nat.{◌-◌, ◌≤◌}
-use Rattle.trellis.specs.Bounds.{mostStates}
-use Rattle.settling.specs.inner.Settled.{RowCopied}
-use Rattle.settling.proofs.Settling.{copy_start, copy_more, copy-end}
+use Rattle.trellis.specs.Bounds.{most_states}
+use Rattle.settling.specs.Inner.Settled.{RowCopied}
+use Rattle.settling.proofs.Settling.{copy_start, copy_more, copy_end}
 use Rattle.settling.proofs.copy_row.Statement.{statement}
 use Rattle.settling.proofs.copy_row.Tie as tie
 
 abbrev invariant-loop : tie.invariant-loop
-invariant-loop row place₀ s₀ place s = RowCopied row place₀ place s × (s ≤ mostStates)
+invariant-loop row place₀ s₀ place s = RowCopied row place₀ place s × (s ≤ most_states)
 
 abbrev decreases-loop : tie.decreases-loop
-decreases-loop row place₀ s₀ place s = mostStates - s
+decreases-loop row place₀ s₀ place s = most_states - s
 
 loop-holds : tie.Need-loop-init invariant-loop decreases-loop
 loop-holds c = (copy_start (search rules), search rules)
@@ -38,10 +38,10 @@ loop-again : tie.Need-loop-preserved invariant-loop decreases-loop
 loop-again c = (copy_more c.before.before.loop.invariant.0 (search rules), search rules)
 
 returns : tie.Need-returns invariant-loop decreases-loop
-returns c = copy-end c.before.loop.invariant.0 (search rules) c.before.loop.invariant.1
+returns c = copy_end c.before.loop.invariant.0 (search rules) c.before.loop.invariant.1
 
-pub copy-row-spec : {M : Type 1} → statement M
-copy-row-spec =
+pub copy_row_spec : {M : Type 1} → statement M
+copy_row_spec =
     tie.close
     (tie.spec
     invariant-loop

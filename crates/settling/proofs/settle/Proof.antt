@@ -6,7 +6,7 @@ use native.Mathlib.Omega.{arith}
 use lib.ListN.{length}
 use Rattle.cost_table.proofs.Rows.{one_below, row_inside, row_back}
 use Rattle.cost_table.proofs.Tables.{block_at}
-use Rattle.settling.proofs.Settling.{InSettle, settle-start, last-is, row_fits, settle-more, settle-end}
+use Rattle.settling.proofs.Settling.{InSettle, settle_start, last_is, row_fits, settle_more, settle_end}
 use Rattle.settling.proofs.settle.Statement.{statement}
 use Rattle.settling.proofs.settle.Tie as tie
 
@@ -23,7 +23,7 @@ copy-row-requires : tie.Need-copy-row-requires invariant-loop decreases-loop
 copy-row-requires c κs = search rules
 
 loop-holds : tie.Need-loop-init invariant-loop decreases-loop
-loop-holds c = settle-start c.copy-row.ensures
+loop-holds c = settle_start c.copy-row.ensures
 
 sub-b : tie.Need-overflow-sub-b invariant-loop decreases-loop
 sub-b c = search rules
@@ -140,8 +140,8 @@ settle-block-requires c κs =
     let entry = head.before.before.before.before.before.before.before in
     let S = entry.requires in (
       (block_at S.ready (one_below head.loop.invariant.b-le turn.loop-test.true) widened.widened.ensures.0).seen.sound,
-      row_fits head.loop.invariant turn.loop-test.true S.long S.chain S.blocksIs S.cheap
-          (last-is S.blocksIs S.endsAs head.before.copy-row.ensures) S.noted,
+      row_fits head.loop.invariant turn.loop-test.true S.long S.chain S.blocks_is S.cheap
+          (last_is S.blocks_is S.ends_as head.before.copy-row.ensures) S.noted,
     )
 
 loop-less : tie.Need-loop-smaller invariant-loop decreases-loop
@@ -151,27 +151,27 @@ loop-less c =
 
 loop-again : tie.Need-loop-preserved invariant-loop decreases-loop
 loop-again c =
-    let settle-block = c.before.before in
-    let widened = settle-block.before.before.before.before.before in
+    let settle_block = c.before.before in
+    let widened = settle_block.before.before.before.before.before in
     let turn = widened.before.before in
     let head = turn.before in
     let entry = head.before.before.before.before.before.before.before in
     let S = entry.requires in
     let I = head.loop.invariant in
     let h = turn.loop-test.true in
-    let E = settle-block.settle-block.ensures in
+    let E = settle_block.settle-block.ensures in
     let A = block_at S.ready (one_below I.b-le h) widened.widened.ensures.0 in
-    settle-more I h S.long refl S.unrooted A.part-is E
+    settle_more I h S.long refl S.unrooted A.part-is E
     (row_back E.settled.long (row_inside I.b-le h I.long S.long))
 
 same_length : tie.Need-same-length invariant-loop decreases-loop
 same_length c = c.before.loop.invariant.long
 
 returns : tie.Need-returns invariant-loop decreases-loop
-returns c = settle-end c.before.before.copy-row.ensures c.before.loop.invariant (search rules)
+returns c = settle_end c.before.before.copy-row.ensures c.before.loop.invariant (search rules)
 
-pub settle-spec : {M : Type 1} → statement M
-settle-spec =
+pub settle_spec : {M : Type 1} → statement M
+settle_spec =
     tie.close
     (tie.spec
     invariant-loop

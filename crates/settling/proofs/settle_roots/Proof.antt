@@ -3,8 +3,8 @@
 use borrow.Author.Rules.{rules}
 use mathlib.Core.Path.{sym, ◌∙◌}
 use Prim.Native.Nat.{◌-◌, ◌≤◌}
-use Rattle.settling.specs.inner.Settled.{RootsSettled}
-use Rattle.settling.proofs.Settling.{RootsRead, counts-there, roots-read, roots-start, state-lt, still-fits, roots-more, roots-end}
+use Rattle.settling.specs.Inner.Settled.{RootsSettled}
+use Rattle.settling.proofs.Settling.{RootsRead, counts_there, roots_read, roots_start, state_lt, still_fits, roots_more, roots_end}
 use Rattle.settling.proofs.settle_roots.Statement.{statement}
 use Rattle.settling.proofs.settle_roots.Tie as tie
 
@@ -15,7 +15,7 @@ abbrev decreases-loop : tie.decreases-loop
 decreases-loop l behind row₀ roots count v₀ row v = count - v
 
 shared-slice-read-wide : tie.Need-shared-slice-read-wide invariant-loop decreases-loop
-shared-slice-read-wide c = search (rules, counts-there c.before.before.before.requires.0)
+shared-slice-read-wide c = search (rules, counts_there c.before.before.before.requires.0)
 
 wide-requires : tie.Need-wide-requires invariant-loop decreases-loop
 wide-requires c κs = search rules
@@ -27,7 +27,7 @@ add-roots : tie.Need-overflow-add-roots invariant-loop decreases-loop
 add-roots c = search rules
 
 shared-slice-read-wide-2 : tie.Need-shared-slice-read-wide-2 invariant-loop decreases-loop
-shared-slice-read-wide-2 c = search (rules, counts-there c.before.before.before.before.before.requires.0)
+shared-slice-read-wide-2 c = search (rules, counts_there c.before.before.before.before.before.requires.0)
 
 wide-requires-2 : tie.Need-wide-requires-2 invariant-loop decreases-loop
 wide-requires-2 c κs = search rules
@@ -36,7 +36,7 @@ loop-holds : tie.Need-loop-init invariant-loop decreases-loop
 loop-holds c =
     let wide = c.before.before in
     let entry = wide.before.before.before.before in
-    (roots-start entry.requires.1, search rules, roots-read entry.requires.0 wide.wide.ensures.0 c.wide2.ensures.0)
+    (roots_start entry.requires.1, search rules, roots_read entry.requires.0 wide.wide.ensures.0 c.wide2.ensures.0)
 
 add_wide : tie.Need-overflow-add-wide invariant-loop decreases-loop
 add_wide c = search (rules, c.before.loop.invariant.2.near)
@@ -54,14 +54,14 @@ mul-settled : tie.Need-overflow-mul-settled invariant-loop decreases-loop
 mul-settled c =
     let turn = c.before.before in
     let I = turn.before.loop.invariant in
-    search (rules, state-lt I.2 I.0 turn.loop-test.true c.wide3.ensures.0)
+    search (rules, state_lt I.2 I.0 turn.loop-test.true c.wide3.ensures.0)
 
 slice-read-settled : tie.Need-slice-read-settled invariant-loop decreases-loop
 slice-read-settled c =
     let wide = c.before in
     let turn = wide.before.before in
     let I = turn.before.loop.invariant in
-    search (rules, state-lt I.2 I.0 turn.loop-test.true wide.wide3.ensures.0, I.0.long)
+    search (rules, state_lt I.2 I.0 turn.loop-test.true wide.wide3.ensures.0, I.0.long)
 
 settled-requires : tie.Need-settled-requires invariant-loop decreases-loop
 settled-requires c κs =
@@ -70,21 +70,21 @@ settled-requires c κs =
     let head = turn.before in
     let I = head.loop.invariant in
     let O = head.before.before.before.before.before.before.before.requires.1 in
-    (O.behindLong, still-fits I.2 I.0 turn.loop-test.true wide.wide3.ensures.0 O)
+    (O.behind_long, still_fits I.2 I.0 turn.loop-test.true wide.wide3.ensures.0 O)
 
 mul-row : tie.Need-overflow-mul-row invariant-loop decreases-loop
 mul-row c =
     let wide = c.before.before in
     let turn = wide.before.before in
     let I = turn.before.loop.invariant in
-    search (rules, state-lt I.2 I.0 turn.loop-test.true wide.wide3.ensures.0)
+    search (rules, state_lt I.2 I.0 turn.loop-test.true wide.wide3.ensures.0)
 
 slice-write-row : tie.Need-slice-write-row invariant-loop decreases-loop
 slice-write-row c =
     let wide = c.before.before in
     let turn = wide.before.before in
     let I = turn.before.loop.invariant in
-    search (rules, state-lt I.2 I.0 turn.loop-test.true wide.wide3.ensures.0, I.0.long)
+    search (rules, state_lt I.2 I.0 turn.loop-test.true wide.wide3.ensures.0, I.0.long)
 
 add-v : tie.Need-overflow-add-v invariant-loop decreases-loop
 add-v c = search rules
@@ -97,7 +97,7 @@ loop-again c =
     let wide = c.before.before in
     let turn = wide.before.before in
     let I = turn.before.loop.invariant in (
-      roots-more I.2 I.0 turn.loop-test.true wide.wide3.ensures.0 c.settled.ensures,
+      roots_more I.2 I.0 turn.loop-test.true wide.wide3.ensures.0 c.settled.ensures,
       search rules,
       I.2,
     )
@@ -106,10 +106,10 @@ same_length : tie.Need-same-length invariant-loop decreases-loop
 same_length c = c.before.loop.invariant.0.long ∙ sym c.before.before.before.before.before.before.before.before.requires.1.long
 
 returns : tie.Need-returns invariant-loop decreases-loop
-returns c = let I = c.before.loop.invariant in roots-end I.2 I.0 (search rules) I.1
+returns c = let I = c.before.loop.invariant in roots_end I.2 I.0 (search rules) I.1
 
-pub settle-roots-spec : {M : Type 1} → statement M
-settle-roots-spec =
+pub settle_roots_spec : {M : Type 1} → statement M
+settle_roots_spec =
     tie.close
     (tie.spec
     invariant-loop

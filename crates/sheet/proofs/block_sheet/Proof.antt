@@ -1,6 +1,6 @@
 -- `sheet::block_sheet` makes the text in a buffer of its own, which has room for every sheet, and copies it from there.
 use native.Mathlib.Omega.{arith}
-use Rattle.listing.proofs.Outcomes.{end-inside, end-taken}
+use Rattle.listing.proofs.Outcomes.{end_inside, end_taken}
 use Rattle.sheet.proofs.Whole.{copied}
 use borrow.Author.Rules.{rules}
 use Rattle.sheet.proofs.block_sheet.Statement.{statement}
@@ -14,11 +14,11 @@ put-sheet-requires c κs = search rules
 
 array-share-prefix-made : tie.Need-array-share-prefix-made
 array-share-prefix-made c = let m = c.before.put-sheet.ensures in
-    end-inside m.put (omega (arith, m.short))
+    end_inside m.put (omega (arith, m.short))
 
 slice-aggregate-put-whole : tie.Need-slice-aggregate-put-whole
 slice-aggregate-put-whole c = let m = c.before.before.put-sheet.ensures in
-    end-taken m.put (omega (arith, m.short))
+    end_taken m.put (omega (arith, m.short))
 
 put-whole-requires : tie.Need-put-whole-requires
 put-whole-requires c κs = search rules
@@ -33,8 +33,8 @@ returns c =
     let a = m.before.before.before.before in
     copied a.args.input.now a.args.text.now m.put-sheet.ensures (search rules) w.put_whole.ensures
 
-pub block-sheet-spec : {M : Type 1} → statement M
-block-sheet-spec =
+pub block_sheet_spec : {M : Type 1} → statement M
+block_sheet_spec =
     tie.close
     (tie.spec
     slice-aggregate-put-sheet

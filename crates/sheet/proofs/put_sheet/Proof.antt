@@ -1,7 +1,7 @@
 -- `sheet::put_sheet` puts the line of the refusal where there is one, and else the lines of the records that it made from what was read.
-use Rattle.sheet_records.specs.Sheet.{recordsOf}
-use Rattle.sheet_lines.proofs.Lines.{lines-put}
-use Rattle.sheet.proofs.Whole.{made-refused, drawn, blocks-inside, few-asked, made-lines}
+use Rattle.sheet_records.specs.Sheet.{records_of}
+use Rattle.sheet_lines.proofs.Lines.{lines_put}
+use Rattle.sheet.proofs.Whole.{made_refused, drawn, blocks_inside, few_asked, made_lines}
 use borrow.Author.Rules.{rules}
 use Rattle.sheet.proofs.put_sheet.Statement.{statement}
 use Rattle.sheet.proofs.put_sheet.Tie as tie
@@ -20,8 +20,8 @@ returns c =
     let p = c.before.before in
     let t = p.before.before in
     let r = t.before.before.before in
-    made-refused r.before.before.before.args.input.now r.read.ensures t.if1.true
-    (p.put-refusal.ensures _ r.read.ensures.outcomeIs.holds)
+    made_refused r.before.before.before.args.input.now r.read.ensures t.if1.true
+    (p.put-refusal.ensures _ r.read.ensures.outcome_is.holds)
 
 block-count-requires : tie.Need-block-count-requires
 block-count-requires c κs = search rules
@@ -38,7 +38,7 @@ put-blocks-requires c κs =
     let b = m.before in
     let t = b.before.before.before in
     let r = t.before.before.before in
-    blocks-inside r.before.before.before.args.input.now r.read.ensures t.if1.false b.block-count.ensures.0
+    blocks_inside r.before.before.before.args.input.now r.read.ensures t.if1.false b.block-count.ensures.0
     m.make-records.ensures
 
 put-total-requires : tie.Need-put-total-requires
@@ -48,8 +48,8 @@ put-total-requires c κs =
     let t = b.before.before.before in
     let r = t.before.before.before in
     let input = r.before.before.before.args.input.now in (
-      blocks-inside input r.read.ensures t.if1.false b.block-count.ensures.0 m.make-records.ensures,
-      few-asked input r.read.ensures t.if1.false b.block-count.ensures.0,
+      blocks_inside input r.read.ensures t.if1.false b.block-count.ensures.0 m.make-records.ensures,
+      few_asked input r.read.ensures t.if1.false b.block-count.ensures.0,
     )
 
 same-length-2 : tie.Need-same-length-2
@@ -64,11 +64,11 @@ returns-2 c =
     let t = b.before.before.before in
     let r = t.before.before.before in
     let input = r.before.before.before.args.input.now in
-    made-lines input r.read.ensures t.if1.false
-    (lines-put (recordsOf input) m.make-records.ensures p.put-blocks.ensures e.put-total.ensures)
+    made_lines input r.read.ensures t.if1.false
+    (lines_put (records_of input) m.make-records.ensures p.put-blocks.ensures e.put-total.ensures)
 
-pub put-sheet-spec : {M : Type 1} → statement M
-put-sheet-spec =
+pub put_sheet_spec : {M : Type 1} → statement M
+put_sheet_spec =
     tie.close
     (tie.spec
     read-requires

@@ -1,12 +1,12 @@
 -- `sheet_input::input_buffer` meets its contract: a list of so many zeros is so long, which is a law and is not counted out.
 use Prim.Native.Nat.{ℕ}
 use lib.ListN.{length-replicate}
-use Rattle.input_parts.specs.Input.{mostInput}
+use Rattle.input_parts.specs.Input.{most_input}
 use Rattle.sheet_input.proofs.input_buffer.Statement.{statement}
 use Rattle.sheet_input.proofs.input_buffer.Tie as tie
 
 returns : tie.Need-returns
-returns c = length-replicate {A = ℕ} mostInput 0
+returns c = length-replicate {A = ℕ} most_input 0
 
-pub input-buffer-spec : {M : Type 1} → statement M
-input-buffer-spec = tie.close (tie.spec returns)
+pub input_buffer_spec : {M : Type 1} → statement M
+input_buffer_spec = tie.close (tie.spec returns)

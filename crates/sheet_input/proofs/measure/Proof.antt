@@ -1,5 +1,5 @@
 -- `sheet_input::measure` takes the answer 7 for a section's, whose counts stand in the sizes, and any other for the table's own refusal.
-use Rattle.sheet_input.proofs.Measuring.{measured-refused, measured-accepted}
+use Rattle.sheet_input.proofs.Measuring.{measured_refused, measured_accepted}
 use borrow.Author.Rules.{rules}
 use Rattle.sheet_input.proofs.measure.Statement.{statement}
 use Rattle.sheet_input.proofs.measure.Tie as tie
@@ -21,7 +21,7 @@ returns c =
     let o = c.before.before in
     let m = o.before.before.before in
     let a = m.before.before.before.before in
-    measured-refused a.args.file.now a.requires m.measure.ensures o.outcome.ensures c.if1.true
+    measured_refused a.args.file.now a.requires m.measure.ensures o.outcome.ensures c.if1.true
 
 no-value-requires : tie.Need-no-value-requires
 no-value-requires c κs = search rules
@@ -52,11 +52,11 @@ returns-2 c =
     let o = t.before.before in
     let m = o.before.before.before in
     let a = m.before.before.before.before in
-    measured-accepted a.args.file.now a.requires m.measure.ensures o.outcome.ensures t.if1.false
+    measured_accepted a.args.file.now a.requires m.measure.ensures o.outcome.ensures t.if1.false
     z.no_value.ensures e.additions-of.ensures.0 c.selections-of.ensures.0
 
-pub measure-spec : {M : Type 1} → statement M
-measure-spec =
+pub measure_spec : {M : Type 1} → statement M
+measure_spec =
     tie.close
     (tie.spec
     slice-aggregate-measure

@@ -2,8 +2,8 @@
 use mathlib.Core.List.{List}
 use Prim.Native.Nat.{ℕ, ◌-◌}
 use lib.ListN.{length, take, drop}
-use Rattle.input_parts.proofs.Parts.{part-taken, part-few}
-use Rattle.sheet_input.proofs.Tables.{InTables, tables_start, sections-few, tables-refused, tables-next, tables-all}
+use Rattle.input_parts.proofs.Parts.{part_taken, part_few}
+use Rattle.sheet_input.proofs.Tables.{InTables, tables_start, sections_few, tables_refused, tables_next, tables_all}
 use borrow.Author.Rules.{rules}
 use Rattle.sheet_input.proofs.measure_tables.Statement.{statement}
 use Rattle.sheet_input.proofs.measure_tables.Tie as tie
@@ -37,13 +37,13 @@ slice-aggregate-measure : tie.Need-slice-aggregate-measure invariant-loop decrea
 slice-aggregate-measure c =
     let p = c.before in
     let l = p.before.before.before in
-    part-taken (rest l.before.before.args.input.now l.loop.at) p.part_length.ensures.0
+    part_taken (rest l.before.before.args.input.now l.loop.at) p.part_length.ensures.0
 
 measure-requires : tie.Need-measure-requires invariant-loop decreases-loop
 measure-requires c κs =
     let p = c.before in
     let l = p.before.before.before in
-    part-few (rest l.before.before.args.input.now l.loop.at) p.part_length.ensures.0 p.part_length.ensures.1
+    part_few (rest l.before.before.args.input.now l.loop.at) p.part_length.ensures.0 p.part_length.ensures.1
 
 returns : tie.Need-returns invariant-loop decreases-loop
 returns c =
@@ -51,31 +51,31 @@ returns c =
     let p = m.before.before in
     let t = p.before.before in
     let l = t.before in
-    tables-refused l.loop.invariant l.before.before.requires t.loop-test.true p.part_length.ensures.0 m.measure.ensures
+    tables_refused l.loop.invariant l.before.before.requires t.loop-test.true p.part_length.ensures.0 m.measure.ensures
     c.if1.true
 
 mul-additions : tie.Need-overflow-mul-additions invariant-loop decreases-loop
 mul-additions c =
     let l = c.before.before.before.before.before.before.before.before in
-    let f = sections-few l.before.before.requires in
+    let f = sections_few l.before.before.requires in
     search rules
 
 array-write-additions : tie.Need-array-write-additions invariant-loop decreases-loop
 array-write-additions c =
     let l = c.before.before.before.before.before.before.before.before in
-    let f = sections-few l.before.before.requires in
+    let f = sections_few l.before.before.requires in
     search rules
 
 mul-selections : tie.Need-overflow-mul-selections invariant-loop decreases-loop
 mul-selections c =
     let l = c.before.before.before.before.before.before.before.before in
-    let f = sections-few l.before.before.requires in
+    let f = sections_few l.before.before.requires in
     search rules
 
 array-write-selections : tie.Need-array-write-selections invariant-loop decreases-loop
 array-write-selections c =
     let l = c.before.before.before.before.before.before.before.before in
-    let f = sections-few l.before.before.requires in
+    let f = sections_few l.before.before.requires in
     search rules
 
 add_at : tie.Need-overflow-add-at invariant-loop decreases-loop
@@ -84,7 +84,7 @@ add_at c =
     let p = m.before.before in
     let t = p.before.before in
     let l = t.before in
-    let n = tables-next l.loop.invariant l.before.before.requires t.loop-test.true p.part_length.ensures.0 m.measure.ensures in
+    let n = tables_next l.loop.invariant l.before.before.requires t.loop-test.true p.part_length.ensures.0 m.measure.ensures in
     let f = (n c.if1.false).inside in
     search rules
 
@@ -100,18 +100,18 @@ loop-again c =
     let p = m.before.before in
     let t = p.before.before in
     let l = t.before in
-    tables-next l.loop.invariant l.before.before.requires t.loop-test.true p.part_length.ensures.0 m.measure.ensures
+    tables_next l.loop.invariant l.before.before.requires t.loop-test.true p.part_length.ensures.0 m.measure.ensures
     c.if1.false
 
 left-over-requires : tie.Need-left-over-requires invariant-loop decreases-loop
-left-over-requires c κs = sections-few c.before.before.before.requires
+left-over-requires c κs = sections_few c.before.before.before.requires
 
 returns-2 : tie.Need-returns-2 invariant-loop decreases-loop
 returns-2 c = let l = c.before.before in
-    tables-all l.loop.invariant l.before.before.requires c.before.loop-test.false c.left_over.ensures
+    tables_all l.loop.invariant l.before.before.requires c.before.loop-test.false c.left_over.ensures
 
-pub measure-tables-spec : {M : Type 1} → statement M
-measure-tables-spec =
+pub measure_tables_spec : {M : Type 1} → statement M
+measure_tables_spec =
     tie.close
     (tie.spec
     invariant-loop

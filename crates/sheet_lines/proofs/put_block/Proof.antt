@@ -1,5 +1,5 @@
 -- `sheet_lines::put_block` puts the line of the record's four numbers.
-use Rattle.sheet_lines.proofs.Lines.{block-put}
+use Rattle.sheet_lines.proofs.Lines.{block_put}
 use borrow.Author.Rules.{rules}
 use Rattle.sheet_lines.proofs.put_block.Statement.{statement}
 use Rattle.sheet_lines.proofs.put_block.Tie as tie
@@ -30,10 +30,10 @@ same_length c = search rules
 
 returns : tie.Need-returns
 returns c = let p = c.before.before in
-    block-put p.before.before.before.before.before.before.before.before.before.args.block p.put-line.ensures
+    block_put p.before.before.before.before.before.before.before.before.before.args.block p.put-line.ensures
 
-pub put-block-spec : {M : Type 1} → statement M
-put-block-spec =
+pub put_block_spec : {M : Type 1} → statement M
+put_block_spec =
     tie.close
     (tie.spec
     cast-t6

@@ -2,9 +2,9 @@
 -- is how many are left.
 use Prim.Native.Nat.{◌-◌}
 use lib.ListN.{take}
-use Rattle.text.proofs.Putting.{Pieces, pieces-start}
+use Rattle.text.proofs.Putting.{Pieces, pieces_start}
 use Rattle.sheet_records.specs.Sheet.{block_line}
-use Rattle.sheet_lines.proofs.Lines.{block-next, blocks-all}
+use Rattle.sheet_lines.proofs.Lines.{block_next, blocks_all}
 use borrow.Author.Rules.{rules}
 use Rattle.sheet_lines.proofs.put_blocks.Statement.{statement}
 use Rattle.sheet_lines.proofs.put_blocks.Tie as tie
@@ -16,7 +16,7 @@ abbrev decreases-loop : tie.decreases-loop
 decreases-loop text₀ blocks items end₀ b₀ text end b = blocks - b
 
 loop-holds : tie.Need-loop-init invariant-loop decreases-loop
-loop-holds c = pieces-start
+loop-holds c = pieces_start
 
 mul-put-block : tie.Need-overflow-mul-put-block invariant-loop decreases-loop
 mul-put-block c = search rules
@@ -39,17 +39,17 @@ loop-again c =
     let t = p.before.before.before in
     let l = t.before in
     let a = l.before.before in
-    block-next a.args.t2 a.requires l.loop.invariant t.loop-test.true p.put-block.ensures
+    block_next a.args.t2 a.requires l.loop.invariant t.loop-test.true p.put-block.ensures
 
 same_length : tie.Need-same-length invariant-loop decreases-loop
 same_length c = c.before.loop.invariant.put.len
 
 returns : tie.Need-returns invariant-loop decreases-loop
 returns c = let l = c.before in
-    blocks-all l.before.before.args.t2 l.before.before.requires l.loop.invariant c.loop-test.false
+    blocks_all l.before.before.args.t2 l.before.before.requires l.loop.invariant c.loop-test.false
 
-pub put-blocks-spec : {M : Type 1} → statement M
-put-blocks-spec =
+pub put_blocks_spec : {M : Type 1} → statement M
+put_blocks_spec =
     tie.close
     (tie.spec
     invariant-loop

@@ -1,5 +1,5 @@
 -- `sheet_lines::put_total` puts the sums that counting gives; so few records are never too many for it.
-use Rattle.sheet_lines.proofs.Lines.{total-put, not-many}
+use Rattle.sheet_lines.proofs.Lines.{total_put, not_many}
 use borrow.Author.Rules.{rules}
 use Rattle.sheet_lines.proofs.put_total.Statement.{statement}
 use Rattle.sheet_lines.proofs.put_total.Tie as tie
@@ -31,16 +31,16 @@ returns c =
     let s = p.before.before.before.before.before in
     let n = s.before.before in
     let a = n.before.before in
-    total-put a.args.items a.requires.0 a.requires.1 _ n.count-first.ensures s.sums.given.1 p.put-line.ensures
+    total_put a.args.items a.requires.0 a.requires.1 _ n.count-first.ensures s.sums.given.1 p.put-line.ensures
 
 returns-2 : tie.Need-returns-2
 returns-2 c =
     let n = c.before.before.before in
     let a = n.before.before in
-    absurd (not-many a.args.items a.requires.0 a.requires.1 _ n.count-first.ensures c.before.count.given.1)
+    absurd (not_many a.args.items a.requires.0 a.requires.1 _ n.count-first.ensures c.before.count.given.1)
 
-pub put-total-spec : {M : Type 1} → statement M
-put-total-spec =
+pub put_total_spec : {M : Type 1} → statement M
+put_total_spec =
     tie.close
     (tie.spec
     count-first-requires

@@ -3,16 +3,16 @@
 use mathlib.Core.Path.{◌≡◌, sym, ◌∙◌}
 use Prim.Native.Nat.{◌-◌, ◌<◌}
 use lib.ListN.{length, take}
-use Rattle.trellis.specs.Bounds.{mostPaths}
+use Rattle.trellis.specs.Bounds.{most_paths}
 use Rattle.paths.specs.Chain.{unreached}
-use Rattle.one_step.proofs.Limits.{unlimited, stepped-enough, bound-less}
+use Rattle.one_step.proofs.Limits.{unlimited, stepped_enough, bound_less}
 use borrow.Author.Rules.{rules}
 use Rattle.step_limits.proofs.keep_step.Statement.{statement}
 use Rattle.step_limits.proofs.keep_step.Tie as tie
 
 abbrev invariant-loop : tie.invariant-loop
 invariant-loop pairs symbols edges each rows prices t old have limit k items₀ bound₀ items bound =
-    (length items ≡ mostPaths) × (bound < unreached)
+    (length items ≡ most_paths) × (bound < unreached)
 
 abbrev decreases-loop : tie.decreases-loop
 decreases-loop pairs symbols edges each rows prices t old have limit k items₀ bound₀ items bound = unreached - 1 - bound
@@ -32,18 +32,18 @@ is-enough-requires c κs = search rules
 
 returns : tie.Need-returns invariant-loop decreases-loop
 returns c = let e = c.before in let w = e.before in let h = w.before.before in let s = start h in let a = s.args in
-    stepped-enough h.loop.bound s.pre.1.few (sym e.is-enough.ensures ∙ c.if1.true)
+    stepped_enough h.loop.bound s.pre.1.few (sym e.is-enough.ensures ∙ c.if1.true)
     (unlimited a.rows.now a.prices.now a.t s.pre.0 (take a.have a.old.now)) w.step-within.ensures
 
 loop-less : tie.Need-loop-smaller invariant-loop decreases-loop
 loop-less c = let e = c.before in let h = e.before.before.before in
-    bound-less _ _ h.loop.bound h.loop.invariant.1 (sym e.is-enough.ensures ∙ c.if1.false)
+    bound_less _ _ h.loop.bound h.loop.invariant.1 (sym e.is-enough.ensures ∙ c.if1.false)
 
 loop-again : tie.Need-loop-preserved invariant-loop decreases-loop
 loop-again c = (c.before.before.step-within.ensures.kept.long, search rules)
 
-pub keep-step-spec : {M : Type 1} → statement M
-keep-step-spec =
+pub keep_step_spec : {M : Type 1} → statement M
+keep_step_spec =
     tie.close
     (tie.spec
     invariant-loop

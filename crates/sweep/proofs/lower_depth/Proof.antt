@@ -1,12 +1,12 @@
 -- `sweep::lower_depth` lends the edges of the step from where they begin: they are there, since the section is, and what they give the
 -- cleared row is the row of the depth.
 use borrow.Author.Rules.{rules}
-use Rattle.sweep.proofs.Sweeping.{StepNear, near_by, vertices-few, step-asked, depth-done}
+use Rattle.sweep.proofs.Sweeping.{StepNear, near_by, vertices_few, step_asked, depth_done}
 use Rattle.sweep.proofs.lower_depth.Statement.{statement}
 use Rattle.sweep.proofs.lower_depth.Tie as tie
 
 near : (s : tie.Start) → StepNear s.args.l.now s.args.at s.args.t s.args.before
-near s = near_by s.requires.0 s.requires.1.inside s.requires.1.beforeIs
+near s = near_by s.requires.0 s.requires.1.inside s.requires.1.before_is
 
 mul-pairs : tie.Need-overflow-mul-pairs
 mul-pairs c = search (rules, near c.before.before)
@@ -35,7 +35,7 @@ wide-requires c κs = search rules
 clear-requires : tie.Need-clear-requires
 clear-requires c κs =
     let s = c.before.before.before.before.before.before.before in
-    (vertices-few s.requires.0 (search (rules, s.requires.1.inside)) c.before.wide.ensures.0, s.requires.1.rowLong)
+    (vertices_few s.requires.0 (search (rules, s.requires.1.inside)) c.before.wide.ensures.0, s.requires.1.row_long)
 
 mul-lower : tie.Need-overflow-mul-lower
 mul-lower c = search (rules, near c.before.before.before.before.before.before.before.before)
@@ -95,7 +95,7 @@ lower-requires c κs =
     let wide2 = c.before.before in
     let clear = wide2.before.before.before.before.before in
     let entry = clear.before.before.before.before.before.before.before.before in
-    step-asked entry.requires.0 entry.requires.1 wide2.wide2.ensures.0 clear.clear.ensures.long
+    step_asked entry.requires.0 entry.requires.1 wide2.wide2.ensures.0 clear.clear.ensures.long
 
 returns : tie.Need-returns
 returns c =
@@ -103,11 +103,11 @@ returns c =
     let clear = wide2.before.before.before.before.before in
     let wide = clear.before.before in
     let entry = wide.before.before.before.before.before.before in
-    depth-done entry.requires.0 entry.requires.1 wide.wide.ensures.0 clear.clear.ensures wide2.wide2.ensures.0
+    depth_done entry.requires.0 entry.requires.1 wide.wide.ensures.0 clear.clear.ensures wide2.wide2.ensures.0
     c.lower.ensures
 
-pub lower-depth-spec : {M : Type 1} → statement M
-lower-depth-spec =
+pub lower_depth_spec : {M : Type 1} → statement M
+lower_depth_spec =
     tie.close
     (tie.spec
     mul-pairs

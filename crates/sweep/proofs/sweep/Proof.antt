@@ -2,7 +2,7 @@
 -- measure is t.
 use borrow.Author.Rules.{rules}
 use Rattle.section_file.proofs.Seen.{header}
-use Rattle.sweep.proofs.Sweeping.{InSweep, sweep-start, sweep-fits, sweep-asked, sweep-more, sweep-end}
+use Rattle.sweep.proofs.Sweeping.{InSweep, sweep_start, sweep_fits, sweep_asked, sweep_more, sweep_end}
 use Rattle.sweep.proofs.sweep.Statement.{statement}
 use Rattle.sweep.proofs.sweep.Tie as tie
 
@@ -13,7 +13,7 @@ abbrev decreases-loop : tie.decreases-loop
 decreases-loop l at prices even₀ odd₀ n t₀ before₀ even odd t before = t
 
 loop-holds : tie.Need-loop-init invariant-loop decreases-loop
-loop-holds c = sweep-start c.before.before.requires.0 c.before.before.requires.1
+loop-holds c = sweep_start c.before.before.requires.0 c.before.before.requires.1
 
 sub-t : tie.Need-overflow-sub-t invariant-loop decreases-loop
 sub-t c = search rules
@@ -38,7 +38,7 @@ sub-before c =
     let turn = c.before.before in
     let head = turn.before in
     let entry = head.before.before.before in
-    sweep-fits entry.requires.0 entry.requires.1 head.loop.invariant turn.loop-test.true c.wide.ensures.0
+    sweep_fits entry.requires.0 entry.requires.1 head.loop.invariant turn.loop-test.true c.wide.ensures.0
 
 lower-side-requires : tie.Need-lower-side-requires invariant-loop decreases-loop
 lower-side-requires c κs =
@@ -48,9 +48,9 @@ lower-side-requires c κs =
     let entry = head.before.before.before in
     let I = head.loop.invariant in (
       entry.requires.0,
-      sweep-asked entry.requires.0 entry.requires.1 I turn.loop-test.true wide.wide.ensures.0,
-      I.evenLong,
-      I.oddLong,
+      sweep_asked entry.requires.0 entry.requires.1 I turn.loop-test.true wide.wide.ensures.0,
+      I.even_long,
+      I.odd_long,
     )
 
 loop-less : tie.Need-loop-smaller invariant-loop decreases-loop
@@ -63,13 +63,13 @@ loop-again c =
     let head = turn.before in
     let entry = head.before.before.before in
     let E = c.lower-side.ensures in
-    sweep-more entry.requires.0 entry.requires.1 head.loop.invariant turn.loop-test.true wide.wide.ensures.0 E.0 E.1 E.2
+    sweep_more entry.requires.0 entry.requires.1 head.loop.invariant turn.loop-test.true wide.wide.ensures.0 E.0 E.1 E.2
 
 returns : tie.Need-returns invariant-loop decreases-loop
-returns c = sweep-end c.before.loop.invariant (search rules)
+returns c = sweep_end c.before.loop.invariant (search rules)
 
-pub sweep-spec : {M : Type 1} → statement M
-sweep-spec =
+pub sweep_spec : {M : Type 1} → statement M
+sweep_spec =
     tie.close
     (tie.spec
     invariant-loop

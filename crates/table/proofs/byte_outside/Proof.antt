@@ -16,6 +16,6 @@ is-outside-requires c κs = search rules
 returns : tie.Need-returns
 returns c = c.is-outside.ensures ∙ simp c.before.byte_at.ensures
 
-pub byte-outside-spec : {M : Type 1} → statement M
-byte-outside-spec =
+pub byte_outside_spec : {M : Type 1} → statement M
+byte_outside_spec =
     tie.close (tie.spec byte-at-requires cast-is-outside is-outside-requires returns)

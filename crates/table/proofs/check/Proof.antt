@@ -1,7 +1,7 @@
 -- `table::check` meets its contract: the definition tries the same checks in the same order, so each way out is the case of the definition
 -- that the tests before it leave.
 use mathlib.Core.Path.{sym, ◌∙◌}
-use Rattle.table.proofs.Checks.{SizesRight, WordsRight, out-length, out-size, out-word, out-order, out-table}
+use Rattle.table.proofs.Checks.{SizesRight, WordsRight, out_length, out_size, out_word, out_order, out_table}
 use borrow.Author.Rules.{rules}
 use Rattle.table.proofs.check.Statement.{statement}
 use Rattle.table.proofs.check.Tie as tie
@@ -10,7 +10,7 @@ use Rattle.table.proofs.check.Tie as tie
 sizes : (e : tie.Else2) → SizesRight e.before.before.before.before.before.args.file.now
 sizes e =
     let l = e.before.before in
-    record { lengthRight = sym l.before.length-bad.ensures ∙ l.if1.false; inside = search rules }
+    record { length_right = sym l.before.length-bad.ensures ∙ l.if1.false; inside = search rules }
 
 words : (e : tie.Else3) → WordsRight e.before.before.before.before.before.before.before.before.args.file.now
 words e = record { sizes = sizes e.before.before.before; right = search rules }
@@ -19,7 +19,7 @@ length-bad-requires : tie.Need-length-bad-requires
 length-bad-requires c κs = search rules
 
 returns : tie.Need-returns
-returns c = out-length _ c.before.length-bad.ensures c.if1.true
+returns c = out_length _ c.before.length-bad.ensures c.if1.true
 
 first-size-requires : tie.Need-first-size-requires
 first-size-requires c κs = search rules
@@ -27,7 +27,7 @@ first-size-requires c κs = search rules
 returns-2 : tie.Need-returns-2
 returns-2 c =
     let l = c.before.before in
-    out-size _ (sym l.before.length-bad.ensures ∙ l.if1.false) c.before.first-size.ensures c.if2.true
+    out_size _ (sym l.before.length-bad.ensures ∙ l.if1.false) c.before.first-size.ensures c.if2.true
 
 word-count-requires : tie.Need-word-count-requires
 word-count-requires c κs = search rules
@@ -41,7 +41,7 @@ cast-t9 c = search rules
 returns-3 : tie.Need-returns-3
 returns-3 c =
     let b = c.before in
-    out-word _ (sizes b.before.before) b.before.word_count.ensures b.first-bad.ensures c.if3.true
+    out_word _ (sizes b.before.before) b.before.word_count.ensures b.first-bad.ensures c.if3.true
 
 first-not-above-requires : tie.Need-first-not-above-requires
 first-not-above-requires c κs = search rules
@@ -53,7 +53,7 @@ returns-4 : tie.Need-returns-4
 returns-4 c =
     let f = c.before in
     let w = f.before.before.before in
-    out-order _ (words f.before) w.word_count.ensures f.first-not-above.ensures c.if4.true
+    out_order _ (words f.before) w.word_count.ensures f.first-not-above.ensures c.if4.true
 
 byte-at-requires : tie.Need-byte-at-requires
 byte-at-requires c κs = search rules
@@ -69,11 +69,11 @@ returns-5 c =
     let e = c.before.before.before in
     let f = e.before in
     let w = f.before.before.before in
-    out-table _ (words f.before) w.word_count.ensures f.first-not-above.ensures e.if4.false
+    out_table _ (words f.before) w.word_count.ensures f.first-not-above.ensures e.if4.false
     c.before.before.byte_at.ensures c.before.byte-at2.ensures c.byte-at3.ensures
 
-pub check-spec : {M : Type 1} → statement M
-check-spec =
+pub check_spec : {M : Type 1} → statement M
+check_spec =
     tie.close
     (tie.spec
     length-bad-requires

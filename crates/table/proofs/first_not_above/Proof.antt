@@ -2,7 +2,7 @@
 -- last one passed. Word 0 has none before it, so the loop starts behind it, and a file of no words is settled before.
 use Prim.Native.Nat.{◌-◌}
 use borrow.Author.Rules.{rules}
-use Rattle.table.proofs.Checks.{Ascending, no_words, ascending-start, ascending-next, ascending-found, ascending-all}
+use Rattle.table.proofs.Checks.{Ascending, no_words, ascending_start, ascending_next, ascending_found, ascending_all}
 use Rattle.table.proofs.first_not_above.Statement.{statement}
 use Rattle.table.proofs.first_not_above.Tie as tie
 
@@ -22,7 +22,7 @@ word-through-requires : tie.Need-word-through-requires invariant-loop decreases-
 word-through-requires c κs = search rules
 
 loop-holds : tie.Need-loop-init invariant-loop decreases-loop
-loop-holds c = ascending-start (search rules) c.word-through.ensures
+loop-holds c = ascending_start (search rules) c.word-through.ensures
 
 word-through-requires-2 : tie.Need-word-through-requires-2 invariant-loop decreases-loop
 word-through-requires-2 c κs = search rules
@@ -32,7 +32,7 @@ is-before-requires c κs = search rules
 
 returns-2 : tie.Need-returns-2 invariant-loop decreases-loop
 returns-2 c =
-    ascending-found c.before.before.before.before.loop.invariant (search rules)
+    ascending_found c.before.before.before.before.loop.invariant (search rules)
     c.before.before.word-through2.ensures c.before.is-before.ensures c.if2.true
 
 add-i : tie.Need-overflow-add-i invariant-loop decreases-loop
@@ -43,14 +43,14 @@ loop-less c = search rules
 
 loop-again : tie.Need-loop-preserved invariant-loop decreases-loop
 loop-again c =
-    ascending-next c.before.before.before.before.loop.invariant (search rules)
+    ascending_next c.before.before.before.before.loop.invariant (search rules)
     c.before.before.word-through2.ensures c.before.is-before.ensures c.if2.false
 
 returns-3 : tie.Need-returns-3 invariant-loop decreases-loop
-returns-3 c = ascending-all c.before.loop.invariant (search rules)
+returns-3 c = ascending_all c.before.loop.invariant (search rules)
 
-pub first-not-above-spec : {M : Type 1} → statement M
-first-not-above-spec =
+pub first_not_above_spec : {M : Type 1} → statement M
+first_not_above_spec =
     tie.close
     (tie.spec
     invariant-loop

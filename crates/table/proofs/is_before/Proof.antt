@@ -1,7 +1,7 @@
 -- `table::is_before` meets its contract: the code compares root, label and goal in the order of the definition, and labels compare as
 -- numbers.
 use borrow.Author.Rules.{rules}
-use Rattle.table.proofs.Order.{first_below, first_above, second_below, second_above, by-third}
+use Rattle.table.proofs.Order.{first_below, first_above, second_below, second_above, by_third}
 use Rattle.table.proofs.is_before.Statement.{statement}
 use Rattle.table.proofs.is_before.Tie as tie
 
@@ -17,13 +17,13 @@ precedes-requires c κs = search rules
 returns-3 : tie.Need-returns-3
 returns-3 c =
     let e = c.before.before in
-    second_below _ _ _ _ _ _ e.before.before.before.if1.false e.if2.false c.before.precedes.ensures.asNumbers c.if3.true
+    second_below _ _ _ _ _ _ e.before.before.before.if1.false e.if2.false c.before.precedes.ensures.as_numbers c.if3.true
 
 returns-4 : tie.Need-returns-4
 returns-4 c =
     let f = c.before.before.before in
     let e = f.before.before in
-    second_above _ _ _ _ _ _ e.before.before.before.if1.false e.if2.false f.before.precedes.ensures.asNumbers f.if3.false
+    second_above _ _ _ _ _ _ e.before.before.before.if1.false e.if2.false f.before.precedes.ensures.as_numbers f.if3.false
     c.if4.true
 
 returns-5 : tie.Need-returns-5
@@ -31,9 +31,9 @@ returns-5 c =
     let g = c.before.before in
     let f = g.before.before.before in
     let e = f.before.before in
-    by-third _ _ _ _ _ _ e.before.before.before.if1.false e.if2.false f.before.precedes.ensures.asNumbers f.if3.false
+    by_third _ _ _ _ _ _ e.before.before.before.if1.false e.if2.false f.before.precedes.ensures.as_numbers f.if3.false
     g.if4.false
 
-pub is-before-spec : {M : Type 1} → statement M
-is-before-spec =
+pub is_before_spec : {M : Type 1} → statement M
+is_before_spec =
     tie.close (tie.spec returns returns-2 precedes-requires returns-3 returns-4 returns-5)

@@ -1,7 +1,7 @@
 -- `takers::arc_at` gives the numbers of the word's edge: what it reads are the places that the definition names.
 use mathlib.Core.Path.{refl}
 use native.Mathlib.Omega.{arith}
-use Rattle.takers.proofs.Scanning.{arc-from, arc-symbol, arc-is}
+use Rattle.takers.proofs.Scanning.{arc_from, arc_symbol, arc_is}
 use borrow.Author.Rules.{rules}
 use Rattle.takers.proofs.arc_at.Statement.{statement}
 use Rattle.takers.proofs.arc_at.Tie as tie
@@ -49,7 +49,7 @@ mul-t12 c =
     let entry = at_wide.before.before.before.before in
     omega (
       arith,
-      arc-from _ _ entry.requires.0 entry.requires.1 at_wide.wide.ensures.0 at_symbol.symbol.ensures
+      arc_from _ _ entry.requires.0 entry.requires.1 at_wide.wide.ensures.0 at_symbol.symbol.ensures
           c.before.wide2.ensures.0,
     )
 
@@ -60,8 +60,8 @@ add-t11 c =
     let entry = at_wide.before.before.before.before in
     omega (
       arith,
-      arc-from _ _ entry.requires.0 entry.requires.1 at_wide.wide.ensures.0 at_symbol.symbol.ensures c.before.wide2.ensures.0,
-      arc-symbol _ _ entry.requires.0 entry.requires.1 at_wide.wide.ensures.0 at_symbol.symbol.ensures
+      arc_from _ _ entry.requires.0 entry.requires.1 at_wide.wide.ensures.0 at_symbol.symbol.ensures c.before.wide2.ensures.0,
+      arc_symbol _ _ entry.requires.0 entry.requires.1 at_wide.wide.ensures.0 at_symbol.symbol.ensures
           c.before.wide2.ensures.0,
     )
 
@@ -70,10 +70,10 @@ returns c =
     let at_symbol = c.before.before in
     let at_wide = at_symbol.before.before in
     let entry = at_wide.before.before.before.before in
-    arc-is _ _ entry.requires.0 entry.requires.1 at_wide.wide.ensures.0 at_symbol.symbol.ensures c.before.wide2.ensures.0 refl
+    arc_is _ _ entry.requires.0 entry.requires.1 at_wide.wide.ensures.0 at_symbol.symbol.ensures c.before.wide2.ensures.0 refl
 
-pub arc-at-spec : {M : Type 1} → statement M
-arc-at-spec =
+pub arc_at_spec : {M : Type 1} → statement M
+arc_at_spec =
     tie.close
     (tie.spec
     add_wide

@@ -13,5 +13,5 @@ returns c = simp (le-leb _ _ c.if1.true)
 returns-2 : tie.Need-returns-2
 returns-2 c = simp (lt-leb _ _ c.if1.false)
 
-pub higher-spec : {M : Type 1} → statement M
-higher-spec = tie.close (tie.spec add-result returns returns-2)
+pub higher_spec : {M : Type 1} → statement M
+higher_spec = tie.close (tie.spec add-result returns returns-2)

@@ -23,5 +23,5 @@ returns c = rw c.if1.true (record { new_is = refl; end_is = refl })
 returns-2 : tie.Need-returns-2
 returns-2 c = rw c.if1.false wrote_none
 
-pub note-spec : {M : Type 1} → statement M
-note-spec = tie.close (tie.spec mul-buffer slice-write-buffer add-result same_length returns returns-2)
+pub note_spec : {M : Type 1} → statement M
+note_spec = tie.close (tie.spec mul-buffer slice-write-buffer add-result same_length returns returns-2)

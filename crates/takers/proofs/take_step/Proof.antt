@@ -4,19 +4,19 @@ use mathlib.Core.Path.{refl}
 use Prim.Native.Nat.{◌-◌}
 use lib.ListN.{length}
 use borrow.Author.Rules.{rules}
-use Rattle.takers.specs.inner.Takers.{rowEdge}
-use Rattle.takers.proofs.Scanning.{InTakers, takers-none, takers-more, takers-end}
+use Rattle.takers.specs.Inner.Takers.{row_edge}
+use Rattle.takers.proofs.Scanning.{InTakers, takers_none, takers_more, takers_end}
 use Rattle.takers.proofs.take_step.Statement.{statement}
 use Rattle.takers.proofs.take_step.Tie as tie
 
 abbrev invariant-loop : tie.invariant-loop
-invariant-loop labels n t map row out₀ at high₀ to₀ i₀ out high to i = InTakers (rowEdge map labels n t row) (length labels) out₀ at out high to i
+invariant-loop labels n t map row out₀ at high₀ to₀ i₀ out high to i = InTakers (row_edge map labels n t row) (length labels) out₀ at out high to i
 
 abbrev decreases-loop : tie.decreases-loop
 decreases-loop labels n t map row out₀ at high₀ to₀ i₀ out high to i = length labels - i
 
 loop-holds : tie.Need-loop-init invariant-loop decreases-loop
-loop-holds c = takers-none _ _ _ _
+loop-holds c = takers_none _ _ _ _
 
 arc-at-requires : tie.Need-arc-at-requires invariant-loop decreases-loop
 arc-at-requires c κs = search rules
@@ -53,21 +53,21 @@ loop-less c = search rules
 
 loop-again : tie.Need-loop-preserved invariant-loop decreases-loop
 loop-again c =
-    let at-note = c.before.before in
-    let at-as-high = at-note.before in
-    let at-higher = at-as-high.before.before in
-    let at-arc = at-higher.before in
-    takers-more at-arc.before.before.loop.invariant at-arc.arc-at.ensures refl at-higher.higher.ensures
-    at-as-high.as_high.ensures at-note.note.ensures (search rules)
+    let at_note = c.before.before in
+    let at_as_high = at_note.before in
+    let at_higher = at_as_high.before.before in
+    let at_arc = at_higher.before in
+    takers_more at_arc.before.before.loop.invariant at_arc.arc-at.ensures refl at_higher.higher.ensures
+    at_as_high.as_high.ensures at_note.note.ensures (search rules)
 
 same_length : tie.Need-same-length invariant-loop decreases-loop
 same_length c = search rules
 
 returns : tie.Need-returns invariant-loop decreases-loop
-returns c = takers-end c.before.loop.invariant (search rules)
+returns c = takers_end c.before.loop.invariant (search rules)
 
-pub take-step-spec : {M : Type 1} → statement M
-take-step-spec =
+pub take_step_spec : {M : Type 1} → statement M
+take_step_spec =
     tie.close
     (tie.spec
     invariant-loop

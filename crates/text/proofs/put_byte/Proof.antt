@@ -19,5 +19,5 @@ returns c = put_one c.before.args.text.now c.before.args.at c.before.args.byte c
 returns-2 : tie.Need-returns-2
 returns-2 c = put_full c.before.args.text.now c.before.args.at c.before.args.byte c.if1.false
 
-pub put-byte-spec : {M : Type 1} → statement M
-put-byte-spec = tie.close (tie.spec slice-write-text add-result same_length returns returns-2)
+pub put_byte_spec : {M : Type 1} → statement M
+put_byte_spec = tie.close (tie.spec slice-write-text add-result same_length returns returns-2)

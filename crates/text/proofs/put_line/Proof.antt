@@ -4,7 +4,7 @@ use mathlib.Core.Path.{◌∙◌}
 use Prim.Native.Nat.{◌-◌}
 use lib.ListN.{length}
 use Rattle.text.specs.Line.{spaced}
-use Rattle.text.proofs.Putting.{Pieces, pieces-start, pieces-next, line-put}
+use Rattle.text.proofs.Putting.{Pieces, pieces_start, pieces_next, line_put}
 use borrow.Author.Rules.{rules}
 use Rattle.text.proofs.put_line.Statement.{statement}
 use Rattle.text.proofs.put_line.Tie as tie
@@ -19,7 +19,7 @@ put-bytes-requires : tie.Need-put-bytes-requires invariant-loop decreases-loop
 put-bytes-requires c κs = search rules
 
 loop-holds : tie.Need-loop-init invariant-loop decreases-loop
-loop-holds c = pieces-start
+loop-holds c = pieces_start
 
 mul-put-number : tie.Need-overflow-mul-put-number invariant-loop decreases-loop
 mul-put-number c = search rules
@@ -38,7 +38,7 @@ loop-less c = search rules
 
 loop-again : tie.Need-loop-preserved invariant-loop decreases-loop
 loop-again c = let p = c.before.before in let l = p.before.before.before in
-    pieces-next 0 l.before.loop.invariant l.loop-test.true p.put-number.ensures
+    pieces_next 0 l.before.loop.invariant l.loop-test.true p.put-number.ensures
 
 put-byte-requires : tie.Need-put-byte-requires invariant-loop decreases-loop
 put-byte-requires c κs = search rules
@@ -53,10 +53,10 @@ returns : tie.Need-returns invariant-loop decreases-loop
 returns c =
     let p = c.before.before in
     let l = p.before.before in
-    line-put l.before.before.before.before.put-bytes.ensures l.before.loop.invariant l.loop-test.false p.put_byte.ensures
+    line_put l.before.before.before.before.put-bytes.ensures l.before.loop.invariant l.loop-test.false p.put_byte.ensures
 
-pub put-line-spec : {M : Type 1} → statement M
-put-line-spec =
+pub put_line_spec : {M : Type 1} → statement M
+put_line_spec =
     tie.close
     (tie.spec
     invariant-loop

@@ -29,8 +29,8 @@ returns : tie.Need-returns
 returns c = let w = c.before.before in let b = w.before.before.before.before.before.before in let s = b.before.before in
     number_put s.spell.ensures b.put_byte.ensures w.put-bytes.ensures
 
-pub put-number-spec : {M : Type 1} → statement M
-put-number-spec =
+pub put_number_spec : {M : Type 1} → statement M
+put_number_spec =
     tie.close
     (tie.spec
     spell-requires

@@ -1,12 +1,12 @@
 -- `text_buffer::put_whole` copies the text where it fits, and else leaves the buffer as it was.
-use Rattle.text_buffer.proofs.Buffer.{whole-short, whole-put}
+use Rattle.text_buffer.proofs.Buffer.{whole_short, whole_put}
 use borrow.Author.Rules.{rules}
 use Rattle.text_buffer.proofs.put_whole.Statement.{statement}
 use Rattle.text_buffer.proofs.put_whole.Tie as tie
 
 returns : tie.Need-returns
 returns c = let a = c.before.before.before in
-    whole-short a.args.made.now a.args.text.now c.if1.true
+    whole_short a.args.made.now a.args.text.now c.if1.true
 
 put-bytes-requires : tie.Need-put-bytes-requires
 put-bytes-requires c κs = search rules
@@ -19,7 +19,7 @@ returns-2 c =
     let p = c.before.before in
     let e = p.before.before in
     let a = e.before.before.before in
-    whole-put a.args.made.now a.args.text.now e.if1.false p.put-bytes.ensures
+    whole_put a.args.made.now a.args.text.now e.if1.false p.put-bytes.ensures
 
-pub put-whole-spec : {M : Type 1} → statement M
-put-whole-spec = tie.close (tie.spec returns put-bytes-requires same_length returns-2)
+pub put_whole_spec : {M : Type 1} → statement M
+put_whole_spec = tie.close (tie.spec returns put-bytes-requires same_length returns-2)

@@ -2,7 +2,7 @@
 -- the beginning of its path, and what is left of the path starts in this state. The measure is how many blocks are left.
 use borrow.Author.Rules.{rules}
 use Prim.Native.Nat.{◌-◌}
-use Rattle.passes.proofs.Chains.{InFollow, follow-start, here, follow-more, follow-end}
+use Rattle.passes.proofs.Chains.{InFollow, follow_start, here, follow_more, follow_end}
 use Rattle.traceback.proofs.follow.Statement.{statement}
 use Rattle.traceback.proofs.follow.Tie as tie
 
@@ -13,7 +13,7 @@ abbrev decreases-loop : tie.decreases-loop
 decreases-loop blocks start notes labels₀ goals₀ s₀ b₀ labels goals s b = blocks - b
 
 loop-holds : tie.Need-loop-init invariant-loop decreases-loop
-loop-holds c = follow-start c.before.before.before.requires
+loop-holds c = follow_start c.before.before.before.requires
 
 mul-note : tie.Need-overflow-mul-note invariant-loop decreases-loop
 mul-note c = search (rules, here c.before.before.before.before.before.requires c.before.loop.invariant c.loop-test.true)
@@ -68,24 +68,24 @@ loop-less c = search rules
 
 loop-again : tie.Need-loop-preserved invariant-loop decreases-loop
 loop-again c =
-    let goal-of = c.before.before in
-    let turn = goal-of.before.before in
+    let goal_of = c.before.before in
+    let turn = goal_of.before.before in
     let head = turn.before in
     let entry = head.before.before.before.before in
-    follow-more entry.requires head.loop.invariant turn.loop-test.true c.before.label_of.ensures goal-of.goal-of.ensures
+    follow_more entry.requires head.loop.invariant turn.loop-test.true c.before.label_of.ensures goal_of.goal-of.ensures
     c.widened.ensures.0
 
 same_length : tie.Need-same-length invariant-loop decreases-loop
-same_length c = c.before.loop.invariant.labelsLong
+same_length c = c.before.loop.invariant.labels_long
 
 same-length-2 : tie.Need-same-length-2 invariant-loop decreases-loop
-same-length-2 c = c.before.loop.invariant.goalsLong
+same-length-2 c = c.before.loop.invariant.goals_long
 
 returns : tie.Need-returns invariant-loop decreases-loop
-returns c = follow-end c.before.loop.invariant (search rules)
+returns c = follow_end c.before.loop.invariant (search rules)
 
-pub follow-spec : {M : Type 1} → statement M
-follow-spec =
+pub follow_spec : {M : Type 1} → statement M
+follow_spec =
     tie.close
     (tie.spec
     invariant-loop

@@ -2,16 +2,16 @@
 use Prim.Native.Nat.{◌-◌}
 use lib.Dec.{eqb}
 use Rattle.trellis.specs.Lists.{any}
-use Rattle.twins.specs.inner.Twins.{turnedIn}
+use Rattle.twins.specs.Inner.Twins.{turned_in}
 use Rattle.edges.proofs.Tests.{Passed, passed_start}
-use Rattle.twins.proofs.Marking.{covered-fails, covered_next, covered-all}
+use Rattle.twins.proofs.Marking.{covered_fails, covered_next, covered_all}
 use borrow.Author.Rules.{rules}
 use Rattle.twins.proofs.covers.Statement.{statement}
 use Rattle.twins.proofs.covers.Tie as tie
 
 abbrev invariant-loop : tie.invariant-loop
 invariant-loop pairs symbols count back vertices marks v₀ v =
-    Passed (λ v. any (λ k. eqb (turnedIn back pairs symbols k).from v) count) vertices v
+    Passed (λ v. any (λ k. eqb (turned_in back pairs symbols k).from v) count) vertices v
 
 abbrev decreases-loop : tie.decreases-loop
 decreases-loop pairs symbols count back vertices marks v₀ v = vertices - v
@@ -28,7 +28,7 @@ array-read-if1 c = search rules
 returns : tie.Need-returns invariant-loop decreases-loop
 returns c =
     let h = c.before in
-    covered-fails h.before.before.marks.ensures (search rules) h.before.loop.invariant h.loop-test.true c.if1.true
+    covered_fails h.before.before.marks.ensures (search rules) h.before.loop.invariant h.loop-test.true c.if1.true
 
 add-v : tie.Need-overflow-add-v invariant-loop decreases-loop
 add-v c = search rules
@@ -42,10 +42,10 @@ loop-again c =
     covered_next h.before.before.marks.ensures (search rules) h.before.loop.invariant h.loop-test.true c.if1.false
 
 returns-2 : tie.Need-returns-2 invariant-loop decreases-loop
-returns-2 c = covered-all c.before.before.marks.ensures c.before.loop.invariant (search rules)
+returns-2 c = covered_all c.before.before.marks.ensures c.before.loop.invariant (search rules)
 
-pub covers-spec : {M : Type 1} → statement M
-covers-spec =
+pub covers_spec : {M : Type 1} → statement M
+covers_spec =
     tie.close
     (tie.spec
     invariant-loop

@@ -16,5 +16,5 @@ add-result c = search rules
 returns-2 : tie.Need-returns-2
 returns-2 c = simp (ne_eqb _ _ c.before.if1.false, c.wide.ensures.0)
 
-pub differs-spec : {M : Type 1} → statement M
-differs-spec = tie.close (tie.spec returns wide-requires add-result returns-2)
+pub differs_spec : {M : Type 1} → statement M
+differs_spec = tie.close (tie.spec returns wide-requires add-result returns-2)

@@ -3,21 +3,21 @@
 use mathlib.Core.Path.{refl, ap}
 use native.Mathlib.Omega.{arith}
 use Prim.Native.Nat.{◌-◌}
-use Rattle.twins.specs.inner.Twins.{turnedIn}
+use Rattle.twins.specs.Inner.Twins.{turned_in}
 use Rattle.edges.specs.declared.Edge.{Edge}
-use Rattle.twins.proofs.Marking.{Marking, small_of, marking-start, marking-next, marking-all}
+use Rattle.twins.proofs.Marking.{Marking, small_of, marking_start, marking_next, marking_all}
 use borrow.Author.Rules.{rules}
 use Rattle.twins.proofs.marks.Statement.{statement}
 use Rattle.twins.proofs.marks.Tie as tie
 
 abbrev invariant-loop : tie.invariant-loop
-invariant-loop pairs symbols count back marks₀ k₀ marks k = Marking (λ k. (turnedIn back pairs symbols k).from) count marks k
+invariant-loop pairs symbols count back marks₀ k₀ marks k = Marking (λ k. (turned_in back pairs symbols k).from) count marks k
 
 abbrev decreases-loop : tie.decreases-loop
 decreases-loop pairs symbols count back marks₀ k₀ marks k = count - k
 
 loop-holds : tie.Need-loop-init invariant-loop decreases-loop
-loop-holds c = marking-start _ _ refl
+loop-holds c = marking_start _ _ refl
 
 edge-met-requires : tie.Need-edge-met-requires invariant-loop decreases-loop
 edge-met-requires c κs = search rules
@@ -39,14 +39,14 @@ loop-again : tie.Need-loop-preserved invariant-loop decreases-loop
 loop-again c =
     let h = c.before in
     let s = h.before.before.before.before in
-    marking-next h.before.loop.invariant h.loop-test.true (ap (λ (e : Edge). e.from) c.edge-met.ensures)
+    marking_next h.before.loop.invariant h.loop-test.true (ap (λ (e : Edge). e.from) c.edge-met.ensures)
     ((small_of s.args.back s.requires).ones _ h.loop-test.true)
 
 returns : tie.Need-returns invariant-loop decreases-loop
-returns c = marking-all c.before.loop.invariant (search rules)
+returns c = marking_all c.before.loop.invariant (search rules)
 
-pub marks-spec : {M : Type 1} → statement M
-marks-spec =
+pub marks_spec : {M : Type 1} → statement M
+marks_spec =
     tie.close
     (tie.spec
     invariant-loop

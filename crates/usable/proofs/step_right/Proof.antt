@@ -3,8 +3,8 @@
 use Prim.Native.Nat.{◌≤◌}
 use native.Mathlib.Nat.{le_of_lt}
 use native.Mathlib.Omega.{arith}
-use Rattle.section_file.proofs.Seen.{Near, near_of, before-in}
-use Rattle.usable.proofs.Steps.{StepRead, step-read, step-there, step_is}
+use Rattle.section_file.proofs.Seen.{Near, near_of, before_in}
+use Rattle.usable.proofs.Steps.{StepRead, step_read, step_there, step_is}
 use borrow.Author.Rules.{rules}
 use Rattle.usable.proofs.step_right.Statement.{statement}
 use Rattle.usable.proofs.step_right.Tie as tie
@@ -14,7 +14,7 @@ near : (s : tie.Start) → Near s.args.l.now s.args.at
 near s = near_of s.requires.0
 
 among : (s : tie.Start) → s.args.before ≤ s.args.at.edges
-among s = before-in s.requires.0 (le_of_lt s.requires.1) s.requires.2
+among s = before_in s.requires.0 (le_of_lt s.requires.1) s.requires.2
 
 -- what is read of the step, once its numbers are
 read : (d : tie.After-wide4) → let w3 = d.before.before.before.before.before in
@@ -24,7 +24,7 @@ read d =
     let w3 = d.before.before.before.before.before in
     let w2 = w3.before.before in
     let w = w2.before.before in
-    step-read w.before.before.before.requires w.before.number.ensures w.wide.ensures
+    step_read w.before.before.before.requires w.before.number.ensures w.wide.ensures
     w2.before.number2.ensures w2.wide2.ensures w3.before.number3.ensures w3.wide3.ensures d.wide4.ensures
 
 add-number : tie.Need-overflow-add-number
@@ -113,13 +113,13 @@ add-edges-right : tie.Need-overflow-add-edges-right
 add-edges-right c = search rules
 
 edges-right-requires : tie.Need-edges-right-requires
-edges-right-requires c κs = step-there (read c)
+edges-right-requires c κs = step_there (read c)
 
 returns : tie.Need-returns
 returns c = step_is (read c.before) c.edges-right.ensures
 
-pub step-right-spec : {M : Type 1} → statement M
-step-right-spec =
+pub step_right_spec : {M : Type 1} → statement M
+step_right_spec =
     tie.close
     (tie.spec
     add-number

@@ -3,9 +3,9 @@
 use Prim.Native.Nat.{◌-◌}
 use native.Mathlib.Nat.{le_of_lt}
 use native.Mathlib.Omega.{arith}
-use Rattle.edges.proofs.Tests.{passed-fails, passed-all}
-use Rattle.section_file.proofs.Seen.{near_of, before-in}
-use Rattle.usable.proofs.Steps.{InSteps, steps-start, steps_next}
+use Rattle.edges.proofs.Tests.{passed_fails, passed_all}
+use Rattle.section_file.proofs.Seen.{near_of, before_in}
+use Rattle.usable.proofs.Steps.{InSteps, steps_start, steps_next}
 use borrow.Author.Rules.{rules}
 use Rattle.usable.proofs.steps_right.Statement.{statement}
 use Rattle.usable.proofs.steps_right.Tie as tie
@@ -17,14 +17,14 @@ abbrev decreases-loop : tie.decreases-loop
 decreases-loop l at n before₀ t₀ before t = at.n - t
 
 loop-holds : tie.Need-loop-init invariant-loop decreases-loop
-loop-holds c = steps-start _ _
+loop-holds c = steps_start _ _
 
 step-right-requires : tie.Need-step-right-requires invariant-loop decreases-loop
-step-right-requires c κs = (c.before.before.before.requires, c.loop-test.true, c.before.loop.invariant.beforeIs)
+step-right-requires c κs = (c.before.before.before.requires, c.loop-test.true, c.before.loop.invariant.before_is)
 
 returns : tie.Need-returns invariant-loop decreases-loop
 returns c = let h = c.before.before in
-    passed-fails h.before.loop.invariant.passed h.loop-test.true c.before.step_right.ensures c.if1.true
+    passed_fails h.before.loop.invariant.passed h.loop-test.true c.before.step_right.ensures c.if1.true
 
 add-number : tie.Need-overflow-add-number invariant-loop decreases-loop
 add-number c = let N = near_of c.before.before.before.before.before.requires in record { fits = omega arith }
@@ -43,7 +43,7 @@ add-before c =
     let h = c.before.before.before.before in
     let p = h.before.before.before.requires in
     let N = near_of p in
-    let b = before-in p (le_of_lt h.loop-test.true) h.before.loop.invariant.beforeIs in
+    let b = before_in p (le_of_lt h.loop-test.true) h.before.loop.invariant.before_is in
     record { fits = omega (arith, c.wide.ensures.1) }
 
 add-t : tie.Need-overflow-add-t invariant-loop decreases-loop
@@ -58,10 +58,10 @@ loop-again c = let e = c.before.before in let h = e.before.before in
     c.before.number.ensures c.wide.ensures
 
 returns-2 : tie.Need-returns-2 invariant-loop decreases-loop
-returns-2 c = passed-all c.before.loop.invariant.passed (search rules)
+returns-2 c = passed_all c.before.loop.invariant.passed (search rules)
 
-pub steps-right-spec : {M : Type 1} → statement M
-steps-right-spec =
+pub steps_right_spec : {M : Type 1} → statement M
+steps_right_spec =
     tie.close
     (tie.spec
     invariant-loop

@@ -1,12 +1,12 @@
 -- `usable::usable_at` meets its contract: past the end of the slice there is no section, and else the section is at the front of
 -- what is left of the list.
-use Rattle.usable.proofs.Steps.{part-past, part-from}
+use Rattle.usable.proofs.Steps.{part_past, part_from}
 use borrow.Author.Rules.{rules}
 use Rattle.usable.proofs.usable_at.Statement.{statement}
 use Rattle.usable.proofs.usable_at.Tie as tie
 
 returns : tie.Need-returns
-returns c = part-past c.before.before.args.s.now c.before.before.args.at c.if1.true
+returns c = part_past c.before.before.args.s.now c.before.before.args.at c.if1.true
 
 mul-front-part : tie.Need-overflow-mul-front-part
 mul-front-part c = search rules
@@ -24,10 +24,10 @@ front-part-requires : tie.Need-front-part-requires
 front-part-requires c κs = search rules
 
 returns-2 : tie.Need-returns-2
-returns-2 c = let a = c.before.before.before.before.args in part-from a.s.now a.at c.front-part.ensures
+returns-2 c = let a = c.before.before.before.before.args in part_from a.s.now a.at c.front-part.ensures
 
-pub usable-at-spec : {M : Type 1} → statement M
-usable-at-spec =
+pub usable_at_spec : {M : Type 1} → statement M
+usable_at_spec =
     tie.close
     (tie.spec
     returns

@@ -2,8 +2,8 @@
 -- triple is the witness.
 use native.Mathlib.Omega.{arith}
 use borrow.Author.Rules.{rules}
-use Rattle.depths.proofs.Goals.{goal-row}
-use Rattle.witness.proofs.Words.{InRows, rows_none, rows-small, rows_more, rows_are, rows-witness}
+use Rattle.depths.proofs.Goals.{goal_row}
+use Rattle.witness.proofs.Words.{InRows, rows_none, rows_small, rows_more, rows_are, rows_witness}
 use Rattle.witness.proofs.find_witness.Statement.{statement}
 use Rattle.witness.proofs.find_witness.Tie as tie
 
@@ -22,7 +22,7 @@ put-goals-requires c κs = search rules
 loop-holds : tie.Need-loop-init invariant-loop decreases-loop
 loop-holds c =
     let entry = c.before.before.before.before.before.before.before in
-    rows_none entry.requires (goal-row entry.requires.held c.put_goals.ensures)
+    rows_none entry.requires (goal_row entry.requires.held c.put_goals.ensures)
 
 sub-u : tie.Need-overflow-sub-u invariant-loop decreases-loop
 sub-u c = search rules
@@ -31,7 +31,7 @@ put-firsts-requires : tie.Need-put-firsts-requires invariant-loop decreases-loop
 put-firsts-requires c κs =
     let turn = c.before.before in
     let entry = turn.before.before.before.before.before.before.before.before in
-    (omega (arith, entry.requires.held.few, entry.requires.held.labelled), rows-small entry.requires turn.loop.invariant)
+    (omega (arith, entry.requires.held.few, entry.requires.held.labelled), rows_small entry.requires turn.loop.invariant)
 
 loop-less : tie.Need-loop-smaller invariant-loop decreases-loop
 loop-less c = search rules
@@ -45,20 +45,20 @@ loop-again c =
 first-witness-requires : tie.Need-first-witness-requires invariant-loop decreases-loop
 first-witness-requires c κs =
     let turn = c.before.before.before in
-    let at-starts = turn.before.before.before in
-    let entry = at-starts.before.before.before.before.before in
-    rows_are entry.requires at-starts.put-starts.ensures turn.loop.invariant (search rules)
+    let at_starts = turn.before.before.before in
+    let entry = at_starts.before.before.before.before.before in
+    rows_are entry.requires at_starts.put-starts.ensures turn.loop.invariant (search rules)
 
 returns : tie.Need-returns invariant-loop decreases-loop
 returns c =
     let turn = c.before.before.before.before in
-    let at-starts = turn.before.before.before in
-    let entry = at-starts.before.before.before.before.before in
-    rows-witness entry.requires at-starts.put-starts.ensures turn.loop.invariant (search rules) c.first-witness.result
+    let at_starts = turn.before.before.before in
+    let entry = at_starts.before.before.before.before.before in
+    rows_witness entry.requires at_starts.put-starts.ensures turn.loop.invariant (search rules) c.first-witness.result
     c.first-witness.ensures
 
-pub find-witness-spec : {M : Type 1} → statement M
-find-witness-spec =
+pub find_witness_spec : {M : Type 1} → statement M
+find_witness_spec =
     tie.close
     (tie.spec
     invariant-loop

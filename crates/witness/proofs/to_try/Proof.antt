@@ -1,7 +1,7 @@
 -- `witness::to_try` meets its contract, by its two ways out.
 use mathlib.Core.Path.{◌∙◌}
 use borrow.Author.Rules.{rules}
-use Rattle.lacking.proofs.Passing.{try-first, try-run}
+use Rattle.lacking.proofs.Passing.{try_first, try_run}
 use Rattle.witness.proofs.to_try.Statement.{statement}
 use Rattle.witness.proofs.to_try.Tie as tie
 
@@ -15,13 +15,13 @@ wide-requires : tie.Need-wide-requires
 wide-requires c κs = search rules
 
 returns : tie.Need-returns
-returns c = try-first _ _ _ _ _ c.before.wide.ensures.0 c.if1.true
+returns c = try_first _ _ _ _ _ c.before.wide.ensures.0 c.if1.true
 
 in-run-requires : tie.Need-in-run-requires
 in-run-requires c κs = search rules
 
 returns-2 : tie.Need-returns-2
-returns-2 c = c.in-run.ensures ∙ try-run _ _ _ _ _ c.before.before.wide.ensures.0 c.before.if1.false
+returns-2 c = c.in-run.ensures ∙ try_run _ _ _ _ _ c.before.before.wide.ensures.0 c.before.if1.false
 
-pub to-try-spec : {M : Type 1} → statement M
-to-try-spec = tie.close (tie.spec mul-start element-copy-out-start wide-requires returns in-run-requires returns-2)
+pub to_try_spec : {M : Type 1} → statement M
+to_try_spec = tie.close (tie.spec mul-start element-copy-out-start wide-requires returns in-run-requires returns-2)

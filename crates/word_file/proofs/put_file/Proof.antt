@@ -1,6 +1,6 @@
 -- `word_file::put_file` meets its contract: the three pieces, one behind another, are the file.
 use native.Mathlib.Omega.{arith}
-use Rattle.word_file.proofs.Writing.{pairs_end, labels-room, file-put}
+use Rattle.word_file.proofs.Writing.{pairs_end, labels_room, file_put}
 use borrow.Author.Rules.{rules}
 use Rattle.word_file.proofs.put_file.Statement.{statement}
 use Rattle.word_file.proofs.put_file.Tie as tie
@@ -16,7 +16,7 @@ put-labels-requires c κs = let p = c.before.before.before in let z = p.before.b
     z.before.before.before.before.before in let x = a.args in let q = a.pre in (
       omega (arith, pairs_end x.s.now x.goals.now x.codes.now x.count (search rules) p.put-pairs.ensures),
       search rules,
-      labels-room x.s.now x.goals.now x.codes.now x.count (search rules) (search rules) z.put-sizes.ensures
+      labels_room x.s.now x.goals.now x.codes.now x.count (search rules) (search rules) z.put-sizes.ensures
           p.put-pairs.ensures,
       search rules,
     )
@@ -27,10 +27,10 @@ same_length c = search rules
 returns : tie.Need-returns
 returns c = let l = c.before.before in let p = l.before.before.before.before in let z = p.before.before.before.before in let a =
     z.before.before.before.before.before in let x = a.args in
-    file-put x.s.now x.goals.now x.codes.now x.count (search rules) (search rules) (search rules) z.put-sizes.ensures
+    file_put x.s.now x.goals.now x.codes.now x.count (search rules) (search rules) (search rules) z.put-sizes.ensures
     p.put-pairs.ensures l.put-labels.ensures
 
-pub put-file-spec : {M : Type 1} → statement M
-put-file-spec =
+pub put_file_spec : {M : Type 1} → statement M
+put_file_spec =
     tie.close
     (tie.spec put-sizes-requires put-pairs-requires put-labels-requires same_length returns)

@@ -2,20 +2,20 @@
 use native.Mathlib.Omega.{arith}
 use Prim.Native.Nat.{◌-◌}
 use lib.ListN.{length-set}
-use Rattle.word_file.specs.inner.Written.{labelOfCode}
-use Rattle.word_file.proofs.Writing.{Pieces, pieces-start, label_is, pieces-next, pieces-all}
+use Rattle.word_file.specs.Inner.Written.{label_of_code}
+use Rattle.word_file.proofs.Writing.{Pieces, pieces_start, label_is, pieces_next, pieces_all}
 use borrow.Author.Rules.{rules}
 use Rattle.word_file.proofs.put_labels.Statement.{statement}
 use Rattle.word_file.proofs.put_labels.Tie as tie
 
 abbrev invariant-loop : tie.invariant-loop
-invariant-loop codes count start file₀ at₀ i₀ file at i = Pieces labelOfCode file₀ start codes count file at i
+invariant-loop codes count start file₀ at₀ i₀ file at i = Pieces label_of_code file₀ start codes count file at i
 
 abbrev decreases-loop : tie.decreases-loop
 decreases-loop codes count start file₀ at₀ i₀ file at i = count - i
 
 loop-holds : tie.Need-loop-init invariant-loop decreases-loop
-loop-holds c = pieces-start
+loop-holds c = pieces_start
 
 mul-label-of : tie.Need-overflow-mul-label-of invariant-loop decreases-loop
 mul-label-of c = search rules
@@ -55,17 +55,17 @@ loop-less c = search rules
 
 loop-again : tie.Need-loop-preserved invariant-loop decreases-loop
 loop-again c = let b = c.before in let w = b.before in let l = w.before in let h = l.before.before in
-    pieces-next h.before.loop.invariant h.loop-test.true (search rules)
+    pieces_next h.before.loop.invariant h.loop-test.true (search rules)
     (label_is _ l.label_of.ensures w.wide.ensures b.byte.ensures c.byte2.ensures)
 
 same_length : tie.Need-same-length invariant-loop decreases-loop
 same_length c = c.before.loop.invariant.len
 
 returns : tie.Need-returns invariant-loop decreases-loop
-returns c = pieces-all c.before.loop.invariant (search rules)
+returns c = pieces_all c.before.loop.invariant (search rules)
 
-pub put-labels-spec : {M : Type 1} → statement M
-put-labels-spec =
+pub put_labels_spec : {M : Type 1} → statement M
+put_labels_spec =
     tie.close
     (tie.spec
     invariant-loop

@@ -2,20 +2,20 @@
 use native.Mathlib.Omega.{arith}
 use Prim.Native.Nat.{◌-◌}
 use lib.ListN.{length-set}
-use Rattle.word_file.specs.inner.Written.{pairOfCode}
-use Rattle.word_file.proofs.Writing.{Pieces, pieces-start, pair_is, pieces-next, pieces-all}
+use Rattle.word_file.specs.Inner.Written.{pair_of_code}
+use Rattle.word_file.proofs.Writing.{Pieces, pieces_start, pair_is, pieces_next, pieces_all}
 use borrow.Author.Rules.{rules}
 use Rattle.word_file.proofs.put_pairs.Statement.{statement}
 use Rattle.word_file.proofs.put_pairs.Tie as tie
 
 abbrev invariant-loop : tie.invariant-loop
-invariant-loop goals codes count file₀ at₀ i₀ file at i = Pieces (pairOfCode goals) file₀ 5 codes count file at i
+invariant-loop goals codes count file₀ at₀ i₀ file at i = Pieces (pair_of_code goals) file₀ 5 codes count file at i
 
 abbrev decreases-loop : tie.decreases-loop
 decreases-loop goals codes count file₀ at₀ i₀ file at i = count - i
 
 loop-holds : tie.Need-loop-init invariant-loop decreases-loop
-loop-holds c = pieces-start
+loop-holds c = pieces_start
 
 mul-c : tie.Need-overflow-mul-c invariant-loop decreases-loop
 mul-c c = search rules
@@ -56,17 +56,17 @@ loop-less c = search rules
 loop-again : tie.Need-loop-preserved invariant-loop decreases-loop
 loop-again c = let v = c.before in let b = v.before in let r = b.before in let h = r.before.before in
     let a = h.before.before.before.before.args in
-    pieces-next h.before.loop.invariant h.loop-test.true (search rules)
+    pieces_next h.before.loop.invariant h.loop-test.true (search rules)
     (pair_is a.goals.now _ r.root-of.ensures b.byte.ensures v.vertex-of.ensures c.byte_at.ensures)
 
 same_length : tie.Need-same-length invariant-loop decreases-loop
 same_length c = c.before.loop.invariant.len
 
 returns : tie.Need-returns invariant-loop decreases-loop
-returns c = pieces-all c.before.loop.invariant (search rules)
+returns c = pieces_all c.before.loop.invariant (search rules)
 
-pub put-pairs-spec : {M : Type 1} → statement M
-put-pairs-spec =
+pub put_pairs_spec : {M : Type 1} → statement M
+put_pairs_spec =
     tie.close
     (tie.spec
     invariant-loop

@@ -1,7 +1,7 @@
 -- `word_file::put_sizes` meets its contract: five bytes, one behind another.
 use native.Mathlib.Omega.{arith}
 use lib.ListN.{length-set}
-use Rattle.word_file.proofs.Writing.{sizes-put}
+use Rattle.word_file.proofs.Writing.{sizes_put}
 use borrow.Author.Rules.{rules}
 use Rattle.word_file.proofs.put_sizes.Statement.{statement}
 use Rattle.word_file.proofs.put_sizes.Tie as tie
@@ -42,11 +42,11 @@ same_length c = search rules
 returns : tie.Need-returns
 returns c = let b4 = c.before in let b3 = b4.before in let b2 = b3.before in let b1 = b2.before in let a =
     b1.before.before.before.args in
-    sizes-put a.file.now a.s.now a.count b1.byte_at.ensures b2.byte-at2.ensures b3.byte-at3.ensures
+    sizes_put a.file.now a.s.now a.count b1.byte_at.ensures b2.byte-at2.ensures b3.byte-at3.ensures
     b4.byte.ensures c.byte2.ensures
 
-pub put-sizes-spec : {M : Type 1} → statement M
-put-sizes-spec =
+pub put_sizes_spec : {M : Type 1} → statement M
+put_sizes_spec =
     tie.close
     (tie.spec
     byte-at-requires

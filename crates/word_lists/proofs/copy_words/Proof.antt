@@ -3,7 +3,7 @@ use mathlib.Core.Path.{ap}
 use Prim.Native.Nat.{◌-◌}
 use borrow.Author.Rules.{rules}
 use Rattle.fields.specs.declared.Word.{Word}
-use Rattle.word_lists.proofs.Copying.{InCopy, copy-none, copy_more, copy-end}
+use Rattle.word_lists.proofs.Copying.{InCopy, copy_none, copy_more, copy_end}
 use Rattle.word_lists.proofs.copy_words.Statement.{statement}
 use Rattle.word_lists.proofs.copy_words.Tie as tie
 
@@ -14,7 +14,7 @@ abbrev decreases-loop : tie.decreases-loop
 decreases-loop file count roots₀ labels₀ goals₀ i₀ roots labels goals i = count - i
 
 loop-holds : tie.Need-loop-init invariant-loop decreases-loop
-loop-holds c = copy-none _ _ (search rules)
+loop-holds c = copy_none _ _ (search rules)
 
 wide-requires : tie.Need-wide-requires invariant-loop decreases-loop
 wide-requires c κs = search rules
@@ -48,10 +48,10 @@ loop-again c =
     (ap (λ (w : Word). w.root) e) (ap (λ (w : Word). w.label) e) (ap (λ (w : Word). w.goal) e) (search rules)
 
 returns : tie.Need-returns invariant-loop decreases-loop
-returns c = copy-end c.before.loop.invariant (search rules)
+returns c = copy_end c.before.loop.invariant (search rules)
 
-pub copy-words-spec : {M : Type 1} → statement M
-copy-words-spec =
+pub copy_words_spec : {M : Type 1} → statement M
+copy_words_spec =
     tie.close
     (tie.spec
     invariant-loop

@@ -1,6 +1,6 @@
 -- `answers::decode::outcome` has each case of the answer as its outcome.
 use mathlib.Core.Path.{ap}
-use Rattle.answers.specs.Answers.{decodedOutcome}
+use Rattle.answers.specs.Answers.{decoded_outcome}
 use Rattle.outcomes.proofs.Held.{holds_by}
 use borrow.Author.Rules.{rules}
 use Rattle.answers.proofs.decode.outcome.Statement.{statement}
@@ -40,22 +40,22 @@ no-value-requires : tie.Need-no-value-requires
 no-value-requires c κs = search rules
 
 returns : tie.Need-returns
-returns c = holds_by (ap decodedOutcome c.before.before.answer.given.1) c.one_value.ensures
+returns c = holds_by (ap decoded_outcome c.before.before.answer.given.1) c.one_value.ensures
 
 returns-2 : tie.Need-returns-2
-returns-2 c = holds_by (ap decodedOutcome c.before.before.answer2.given.1) c.one-value2.ensures
+returns-2 c = holds_by (ap decoded_outcome c.before.before.answer2.given.1) c.one-value2.ensures
 
 returns-3 : tie.Need-returns-3
-returns-3 c = holds_by (ap decodedOutcome c.before.before.answer3.given.1) c.one-value3.ensures
+returns-3 c = holds_by (ap decoded_outcome c.before.before.answer3.given.1) c.one-value3.ensures
 
 returns-4 : tie.Need-returns-4
-returns-4 c = holds_by (ap decodedOutcome c.before.before.answer4.given.1) c.one-value4.ensures
+returns-4 c = holds_by (ap decoded_outcome c.before.before.answer4.given.1) c.one-value4.ensures
 
 returns-5 : tie.Need-returns-5
-returns-5 c = holds_by (ap decodedOutcome c.before.enum_told.given.1) c.no_value.ensures
+returns-5 c = holds_by (ap decoded_outcome c.before.enum_told.given.1) c.no_value.ensures
 
-pub outcome-spec : {M : Type 1} → statement M
-outcome-spec =
+pub outcome_spec : {M : Type 1} → statement M
+outcome_spec =
     tie.close
     (tie.spec
     enum-known-answer

@@ -1,6 +1,6 @@
 -- `answers::merge::outcome` has each case of the answer as its outcome.
 use mathlib.Core.Path.{ap}
-use Rattle.answers.specs.Answers.{mergedOutcome}
+use Rattle.answers.specs.Answers.{merged_outcome}
 use Rattle.outcomes.proofs.Held.{holds_by}
 use borrow.Author.Rules.{rules}
 use Rattle.answers.proofs.merge.outcome.Statement.{statement}
@@ -55,31 +55,31 @@ one-value-requires-7 : tie.Need-one-value-requires-7
 one-value-requires-7 c κs = search rules
 
 returns : tie.Need-returns
-returns c = holds_by (ap mergedOutcome c.before.before.answer.given.1) c.one_value.ensures
+returns c = holds_by (ap merged_outcome c.before.before.answer.given.1) c.one_value.ensures
 
 returns-2 : tie.Need-returns-2
-returns-2 c = holds_by (ap mergedOutcome c.before.before.answer2.given.1) c.one-value2.ensures
+returns-2 c = holds_by (ap merged_outcome c.before.before.answer2.given.1) c.one-value2.ensures
 
 returns-3 : tie.Need-returns-3
-returns-3 c = holds_by (ap mergedOutcome c.before.before.answer3.given.1) c.one-value3.ensures
+returns-3 c = holds_by (ap merged_outcome c.before.before.answer3.given.1) c.one-value3.ensures
 
 returns-4 : tie.Need-returns-4
-returns-4 c = holds_by (ap mergedOutcome c.before.before.answer4.given.1) c.one-value4.ensures
+returns-4 c = holds_by (ap merged_outcome c.before.before.answer4.given.1) c.one-value4.ensures
 
 returns-5 : tie.Need-returns-5
-returns-5 c = holds_by (ap mergedOutcome c.before.before.answer5.given.1) c.one-value5.ensures
+returns-5 c = holds_by (ap merged_outcome c.before.before.answer5.given.1) c.one-value5.ensures
 
 returns-6 : tie.Need-returns-6
-returns-6 c = holds_by (ap mergedOutcome c.before.before.answer6.given.1) c.one-value6.ensures
+returns-6 c = holds_by (ap merged_outcome c.before.before.answer6.given.1) c.one-value6.ensures
 
 returns-7 : tie.Need-returns-7
-returns-7 c = holds_by (ap mergedOutcome c.before.before.answer7.given.1) c.four-values.ensures
+returns-7 c = holds_by (ap merged_outcome c.before.before.answer7.given.1) c.four-values.ensures
 
 returns-8 : tie.Need-returns-8
-returns-8 c = holds_by (ap mergedOutcome c.before.before.answer8.given.1) c.one-value7.ensures
+returns-8 c = holds_by (ap merged_outcome c.before.before.answer8.given.1) c.one-value7.ensures
 
-pub outcome-spec : {M : Type 1} → statement M
-outcome-spec =
+pub outcome_spec : {M : Type 1} → statement M
+outcome_spec =
     tie.close
     (tie.spec
     enum-known-answer

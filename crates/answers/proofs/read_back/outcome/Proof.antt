@@ -1,6 +1,6 @@
 -- `answers::read_back::outcome` has each case of the answer as its outcome.
 use mathlib.Core.Path.{ap}
-use Rattle.answers.specs.Answers.{readBackOutcome}
+use Rattle.answers.specs.Answers.{read_back_outcome}
 use Rattle.outcomes.proofs.Held.{holds_by}
 use borrow.Author.Rules.{rules}
 use Rattle.answers.proofs.read_back.outcome.Statement.{statement}
@@ -31,19 +31,19 @@ one-value-requires-3 : tie.Need-one-value-requires-3
 one-value-requires-3 c κs = search rules
 
 returns : tie.Need-returns
-returns c = holds_by (ap readBackOutcome c.before.before.answer.given.1) c.one_value.ensures
+returns c = holds_by (ap read_back_outcome c.before.before.answer.given.1) c.one_value.ensures
 
 returns-2 : tie.Need-returns-2
-returns-2 c = holds_by (ap readBackOutcome c.before.enum_told.given.1) c.one-value2.ensures
+returns-2 c = holds_by (ap read_back_outcome c.before.enum_told.given.1) c.one-value2.ensures
 
 returns-3 : tie.Need-returns-3
-returns-3 c = holds_by (ap readBackOutcome c.before.enum-told2.given.1) c.no_value.ensures
+returns-3 c = holds_by (ap read_back_outcome c.before.enum-told2.given.1) c.no_value.ensures
 
 returns-4 : tie.Need-returns-4
-returns-4 c = holds_by (ap readBackOutcome c.before.before.answer2.given.1) c.one-value3.ensures
+returns-4 c = holds_by (ap read_back_outcome c.before.before.answer2.given.1) c.one-value3.ensures
 
-pub outcome-spec : {M : Type 1} → statement M
-outcome-spec =
+pub outcome_spec : {M : Type 1} → statement M
+outcome_spec =
     tie.close
     (tie.spec
     enum-known-answer

@@ -1,6 +1,6 @@
 -- `answers::same_section::outcome` has each case of the answer as its outcome.
 use mathlib.Core.Path.{ap}
-use Rattle.answers.specs.Answers.{sameSectionOutcome}
+use Rattle.answers.specs.Answers.{same_section_outcome}
 use Rattle.outcomes.proofs.Held.{holds_by}
 use borrow.Author.Rules.{rules}
 use Rattle.answers.proofs.same_section.outcome.Statement.{statement}
@@ -25,16 +25,16 @@ one-value-requires-3 : tie.Need-one-value-requires-3
 one-value-requires-3 c κs = search rules
 
 returns : tie.Need-returns
-returns c = holds_by (ap sameSectionOutcome c.before.enum_told.given.1) c.one_value.ensures
+returns c = holds_by (ap same_section_outcome c.before.enum_told.given.1) c.one_value.ensures
 
 returns-2 : tie.Need-returns-2
-returns-2 c = holds_by (ap sameSectionOutcome c.before.enum-told2.given.1) c.one-value2.ensures
+returns-2 c = holds_by (ap same_section_outcome c.before.enum-told2.given.1) c.one-value2.ensures
 
 returns-3 : tie.Need-returns-3
-returns-3 c = holds_by (ap sameSectionOutcome c.before.before.answer.given.1) c.one-value3.ensures
+returns-3 c = holds_by (ap same_section_outcome c.before.before.answer.given.1) c.one-value3.ensures
 
-pub outcome-spec : {M : Type 1} → statement M
-outcome-spec =
+pub outcome_spec : {M : Type 1} → statement M
+outcome_spec =
     tie.close
     (tie.spec
     enum_told

@@ -1,11 +1,11 @@
 -- `section_file::states::is_higher` meets its contract: the first vertex has none before it.
-use Rattle.section_file.proofs.Reading.{no-vertex-before, higher-is}
+use Rattle.section_file.proofs.Reading.{no_vertex_before, higher_is}
 use borrow.Author.Rules.{rules}
 use Rattle.section_file.proofs.states.is_higher.Statement.{statement}
 use Rattle.section_file.proofs.states.is_higher.Tie as tie
 
 returns : tie.Need-returns
-returns c = no-vertex-before c.before.args.states.now c.if1.true
+returns c = no_vertex_before c.before.args.states.now c.if1.true
 
 sub-result : tie.Need-overflow-sub-result
 sub-result c = search rules
@@ -23,10 +23,10 @@ shared-slice-read-result-2 : tie.Need-shared-slice-read-result-2
 shared-slice-read-result-2 c = search rules
 
 returns-2 : tie.Need-returns-2
-returns-2 c = search (rules, higher-is)
+returns-2 c = search (rules, higher_is)
 
-pub is-higher-spec : {M : Type 1} → statement M
-is-higher-spec =
+pub is_higher_spec : {M : Type 1} → statement M
+is_higher_spec =
     tie.close
     (tie.spec
     returns

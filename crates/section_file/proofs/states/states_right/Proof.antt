@@ -1,7 +1,7 @@
 -- `section_file::states::states_right` meets its contract: the root states decide, and else the goal states.
 use native.Mathlib.Omega.{arith}
 use Rattle.section_file.proofs.Seen.{near_of}
-use Rattle.section_file.proofs.Reading.{roots-there, roots-wrong, goals-there, states-by-goals}
+use Rattle.section_file.proofs.Reading.{roots_there, roots_wrong, goals_there, states_by_goals}
 use borrow.Author.Rules.{rules}
 use Rattle.section_file.proofs.states.states_right.Statement.{statement}
 use Rattle.section_file.proofs.states.states_right.Tie as tie
@@ -31,14 +31,14 @@ is-rising-requires : tie.Need-is-rising-requires
 is-rising-requires c κs =
     let m = c.before in
     let n = m.before.before in
-    roots-there _ n.before.before.requires n.number.ensures m.number2.ensures c.wide.ensures
+    roots_there _ n.before.before.requires n.number.ensures m.number2.ensures c.wide.ensures
 
 returns : tie.Need-returns
 returns c =
     let w = c.before.before in
     let m = w.before in
     let n = m.before.before in
-    roots-wrong _ n.before.before.requires n.number.ensures m.number2.ensures w.wide.ensures c.before.is-rising.ensures
+    roots_wrong _ n.before.before.requires n.number.ensures m.number2.ensures w.wide.ensures c.before.is-rising.ensures
     c.if1.true
 
 mul-is-rising-2 : tie.Need-overflow-mul-is-rising-2
@@ -69,7 +69,7 @@ is-rising-requires-2 c κs =
     let m = c.before in
     let e = m.before.before.before in
     let n = e.before.before.before.before.before in
-    goals-there _ n.before.before.requires n.number.ensures m.number3.ensures c.wide2.ensures
+    goals_there _ n.before.before.requires n.number.ensures m.number3.ensures c.wide2.ensures
 
 returns-2 : tie.Need-returns-2
 returns-2 c =
@@ -78,11 +78,11 @@ returns-2 c =
     let w = e.before.before in
     let m = w.before in
     let n = m.before.before in
-    states-by-goals _ n.before.before.requires n.number.ensures m.number2.ensures w.wide.ensures e.before.is-rising.ensures
+    states_by_goals _ n.before.before.requires n.number.ensures m.number2.ensures w.wide.ensures e.before.is-rising.ensures
     e.if1.false v.before.number3.ensures v.wide2.ensures c.is-rising2.ensures
 
-pub states-right-spec : {M : Type 1} → statement M
-states-right-spec =
+pub states_right_spec : {M : Type 1} → statement M
+states_right_spec =
     tie.close
     (tie.spec
     number-requires
