@@ -57,6 +57,11 @@ def main():
                 if not re.match(r" ?(tie|goal)\.", m[3]):
                     declared.add(m[2])
             bound |= set(BOUND.findall(t))
+    # A field with a dash is turned behind a dot too; what else stands there is a step or a goal.
+    fields = set()
+    for p, t in text.items():
+        for m in re.finditer(r"(?m)^( *)(?:\w+ )*record [^\n]*where\n((?:\1 +[^\n]*\n|\n)*)", t):
+            fields |= {d[2] for d in DECLARED.finditer(m[2])}
     rust = set()
     for p, t in text.items():
         if p.endswith(".rt"):
@@ -91,7 +96,7 @@ def main():
     # In a comment a dash is mostly English, so there only camelCase is turned.
     def put(m):
         to = turned.get(m[2])
-        return m[1] + to if to and not (m[1] and "-" in m[2]) else m[0]
+        return m[1] + to if to and not (m[1] and "-" in m[2] and m[2] not in fields) else m[0]
 
     def put_comment(m):
         return m[0] if "-" in m[2] else put(m)

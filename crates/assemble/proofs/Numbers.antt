@@ -40,7 +40,7 @@ numbers_more {source} {old} {new} {count} {at} {i} {v} c e h = record {
 pub numbers_end : {source old new : List ℕ} {count at i : ℕ} → InNumbers source count old at new i → count ≤ i
     → Wrote old at (first_numbers source count) new (at + count)
 numbers_end {source} {old} {new} {count} {at} {i} c h =
-    let e : i ≡ count = omega (arith, c.i-le) in
+    let e : i ≡ count = omega (arith, c.i_le) in
     subst (λ k. Wrote old at (first_numbers source k) new (at + k)) e c.wrote
 
 -- numbers written from the front on are the first of the buffer

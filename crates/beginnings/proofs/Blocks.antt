@@ -152,7 +152,7 @@ module _ {words : ℕ → List Word} {ends : ℕ → Bool} {dist : ℕ → Word 
       unfolding goal_state
       leavable = record {
         inside = λ j h. let P = parts l in
-            omega (arith, (item_in j h).within, P.pairs-at, P.symbols-at, P.end-at, W.block.sound.whole);
+            omega (arith, (item_in j h).within, P.pairs_at, P.symbols_at, P.end_at, W.block.sound.whole);
         of = λ j h. omega (arith, (item_in j h).of, S.few);
         small = λ j h. goal_lt W (code_vertex (code_in (get_or new j 0))) (item_in j h).within;
       }
@@ -195,7 +195,7 @@ module _ {words : ℕ → List Word} {ends : ℕ → Bool} {dist : ℕ → Word 
 
         state_next : (j : ℕ) → j < count → state_at new_back first (suc b) j ≡ goal_state l (vertex j)
         unfolding state_at
-        state_next j h = (noted j h).vertex-is
+        state_next j h = (noted j h).vertex_is
 
         begun_next : (j : ℕ) → j < count → standing (item_at j) ≡ begun_at new_back first rest_next new_slots (suc b) j
         unfolding leaving_with renamed opened paid_for begun_at trail state_at
@@ -207,13 +207,13 @@ module _ {words : ℕ → List Word} {ends : ℕ → Bool} {dist : ℕ → Word 
             let t = trail_same back new_back b first same S.noted.proper b (from j) (omega arith) f in
             let s = state_same back new_back b first same S.noted.proper b (from j) (omega arith) f in
             let c : cost_in (item_at j) - row_at rows (n_of l) (vertex j) ≡ cost_in (get_or new_slots j 0) - rest_next g
-            = ap₂ (λ x y. x - y) (sym (slot_parts j h).cost-is) (row_goal W (vertex j) (item_in j h).within) in
+            = ap₂ (λ x y. x - y) (sym (slot_parts j h).cost_is) (row_goal W (vertex j) (item_in j h).within) in
             ap₂ (λ (a : List Word) (x : ℕ). start (a ++ (word x (spelt j) g ∷ [])) g (cost_in (item_at j) - row_at rows (n_of l) (vertex j)))
             (sym t) (sym s)
             ∙ ap (start (trail new_back first b (from j) ++ (word (state_at new_back first b (from j)) (spelt j) g ∷ [])) g) c
             ∙ sym (λ i. start (trail new_back first b (C.root_is i)
-            ++ (word (state_at new_back first b (C.root_is i)) (C.Label-is i) (C.vertex-is i) ∷ [])) (C.vertex-is i)
-            (cost_in (get_or new_slots j 0) - rest_next (C.vertex-is i)))
+            ++ (word (state_at new_back first b (C.root_is i)) (C.Label-is i) (C.vertex_is i) ∷ [])) (C.vertex_is i)
+            (cost_in (get_or new_slots j 0) - rest_next (C.vertex_is i)))
 
         -- the slots behind the block are the beginnings kept there
         pub slots_next : Slots new_back first rest_next new_slots (suc b) count
@@ -226,9 +226,9 @@ module _ {words : ℕ → List Word} {ends : ℕ → Bool} {dist : ℕ → Word 
               ∙ each_same _ _ count count refl begun_next;
           coded = λ j h. slot_code j h ∙ ap (λ s. code j s 0) (sym (state_next j h));
           state_lt = λ j h. subst (λ s. s < most_states) (sym (state_next j h)) (goal_small j h);
-          low = λ j h. omega (arith, (slot_parts j h).cost-is, (item_in j h).low);
+          low = λ j h. omega (arith, (slot_parts j h).cost_is, (item_in j h).low);
           paid = λ j h.
               let e : rest_next (state_at new_back first (suc b) j) ≡ row_at rows (n_of l) (vertex j)
               = ap rest_next (state_next j h) ∙ sym (row_goal W (vertex j) (item_in j h).within) in
-              omega (arith, (slot_parts j h).cost-is, (item_in j h).paid);
+              omega (arith, (slot_parts j h).cost_is, (item_in j h).paid);
         }

@@ -80,5 +80,5 @@ module _ {s : List ℕ} (goals : ℕ) {items : List ℕ} {b count : ℕ} {slots 
   noted_well N = record {
     long = L.long_back;
     proper = everywhere (λ c. code_root c < most_paths) N.proper (λ j h. omega (arith, (noted_parts j h).root_is, A.of j h));
-    small = everywhere (λ c. code_vertex c < most_states) N.small (λ j h. omega (arith, (noted_parts j h).vertex-is, A.small j h));
+    small = everywhere (λ c. code_vertex c < most_states) N.small (λ j h. omega (arith, (noted_parts j h).vertex_is, A.small j h));
   }

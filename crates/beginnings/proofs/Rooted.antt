@@ -29,7 +29,7 @@ pub slot_state : {back : List ℕ} {first : ℕ} {rest : ℕ → ℕ} {slots : L
     → Slots back first rest slots b have kept → (j : ℕ) → j < have → code_vertex (code_in (get_or slots j 0)) ≡ state_at back first b j
 slot_state {back} {first} {rest} {slots} {b} {have} S j h =
     ap code_vertex (S.coded j h)
-    ∙ (coded_of j (state_at back first b j) 0 (omega (arith, S.few)) (omega (arith, S.state-lt j h)) (omega arith)).vertex-is
+    ∙ (coded_of j (state_at back first b j) 0 (omega (arith, S.few)) (omega (arith, S.state_lt j h)) (omega arith)).vertex_is
 
 none_listed : (l : List ℕ) (s : ℕ) → ((v : ℕ) → v < vertex_count_of l 0 → root_state l v ≡ s → ⊥) → (v : ℕ) → v ∈ roots_of l
     → root_state l v ≡ s → ⊥

@@ -60,7 +60,7 @@ module _ {words : ℕ → List Word} {dist : ℕ → Word → ℕ} {b : ℕ} {l 
       roots_ascend_lem = run_ordered (λ v. v) 0 (vertex_count_of l 0) (λ j k a c. S.roots_ascend j k a (omega arith));
       same_cost = λ v p m.
           let P = whole_fits (step_edges l) (n_of l) (vertex_count_of l (n_of l)) (bounded S) S.n_from v p m in
-          f (word_of (root_state l) (goal_state l) v p) ∙ cost_packed cost (n_of l) P.symbols-fit 0 0 (zero-add (n_of l));
+          f (word_of (root_state l) (goal_state l) v p) ∙ cost_packed cost (n_of l) P.symbols_fit 0 0 (zero-add (n_of l));
     };
   }
 
@@ -88,7 +88,7 @@ prepared {words} {ends} {dist} {m} {b} {l} {cost} B P R = record {
     short = B.sound.n_to;
     row_is = R.at;
     price_is = λ t a h k. ap (λ p. p / distance_unit) (P.at t a h k) ∙ cost_ranked (n_of l) cost t a h B.sound.n_to k;
-    symbol_lt = (bounded B.sound).symbol-lt;
+    symbol_lt = (bounded B.sound).symbol_lt;
     to_lt = to_below_lem B.sound;
     counts_le = B.sound.vertices_to;
   };

@@ -77,16 +77,16 @@ module _ {edges : ℕ → List Edge} {n : ℕ} {counts : ℕ → ℕ} {cost : �
       → opened rows t x ≡ start (record { of = r; label = l }) v (c - row_at rows t v)
   unfolding opened paid_for
   opened_by t P =
-      λ i. start (record { of = P.root_is i; label = P.label_is i }) (P.vertex-is i) (P.cost-is i - row_at rows t (P.vertex-is i))
+      λ i. start (record { of = P.root_is i; label = P.label_is i }) (P.vertex_is i) (P.cost_is i - row_at rows t (P.vertex_is i))
 
   pub item_by : (t : ℕ) {x c r v l : ℕ} → Parts x c r v l → r < have → c < unreached → v < counts t → l < 4 ^ t → row_at rows t v ≤ c
       → Item counts rows have t x
   item_by t {x} P o a b d e = record {
-    low = omega (arith, P.cost-is);
-    within = subst (λ w. w < counts t) (sym P.vertex-is) b;
+    low = omega (arith, P.cost_is);
+    within = subst (λ w. w < counts t) (sym P.vertex_is) b;
     spelled = subst (λ w. w < 4 ^ t) (sym P.label_is) d;
     of = subst (λ w. w < have) (sym P.root_is) o;
-    paid = subst (λ w. row_at rows t w ≤ cost_in x) (sym P.vertex-is) (omega (arith, P.cost-is));
+    paid = subst (λ w. row_at rows t w ≤ cost_in x) (sym P.vertex_is) (omega (arith, P.cost_is));
   }
 
   -- ---- one edge
@@ -110,12 +110,12 @@ module _ {edges : ℕ → List Edge} {n : ℕ} {counts : ℕ → ℕ} {cost : �
 
     total_is : total ≡ paid_so_far + cost t e.symbol + row_at rows (suc t) e.to
     unfolding total_of
-    total_is = ap (λ p. paid_so_far + p + row_at rows (suc t) e.to) (F.price-is t e.symbol h (F.symbol-lt t h e listed))
+    total_is = ap (λ p. paid_so_far + p + row_at rows (suc t) e.to) (F.price-is t e.symbol h (F.symbol_lt t h e listed))
 
     next_rated : rated_at (suc t) next ≡ min unreached total
     unfolding edge_rated rated opened plus section_least further
     next_rated =
-        ap (λ y. min unreached (paid_so_far + cost t e.symbol + y)) (sym (F.row_is (suc t) e.to h (F.to-lt t h e listed)))
+        ap (λ y. min unreached (paid_so_far + cost t e.symbol + y)) (sym (F.row_is (suc t) e.to h (F.to_lt t h e listed)))
         ∙ ap (min unreached) (sym total_is)
 
     same_life : ltb (rated_at (suc t) next) unreached ≡ ltb total unreached
@@ -127,16 +127,16 @@ module _ {edges : ℕ → List Edge} {n : ℕ} {counts : ℕ → ℕ} {cost : �
             lt-ltb (rated_at (suc t) next) unreached (omega (arith, next_rated)) ∙ sym (lt-ltb total unreached (omega arith))
 
     label_fits : appended (code_label (code_in x)) e.symbol ≡ code_label (code_in x) * 4 + e.symbol
-    label_fits = appended_is t (code_label (code_in x)) e.symbol I.spelled (omega (arith, F.short)) (F.symbol-lt t h e listed)
+    label_fits = appended_is t (code_label (code_in x)) e.symbol I.spelled (omega (arith, F.short)) (F.symbol_lt t h e listed)
 
     label_short : appended (code_label (code_in x)) e.symbol < 4 ^ suc t
-    label_short = appended_short t (code_label (code_in x)) e.symbol I.spelled (omega (arith, F.short)) (F.symbol-lt t h e listed)
+    label_short = appended_short t (code_label (code_in x)) e.symbol I.spelled (omega (arith, F.short)) (F.symbol_lt t h e listed)
 
     next_parts : Parts next_item total (code_root (code_in x)) e.to (appended (code_label (code_in x)) e.symbol)
     next_parts =
         let g : suc t ≤ most_symbols = omega (arith, F.short) in
         let q : 4 ^ suc t ≤ 4 ^ most_symbols = pow-le-pow_right (lit< tt) g in
-        let v = F.to-lt t h e listed in
+        let v = F.to_lt t h e listed in
         let w = F.counts-le (suc t) h in
         parts_of total (code_root (code_in x)) e.to (appended (code_label (code_in x)) e.symbol) (root_small x) (omega arith)
         (lt_of_lt_of_le label_short q)
@@ -152,7 +152,7 @@ module _ {edges : ℕ → List Edge} {n : ℕ} {counts : ℕ → ℕ} {cost : �
 
     next_item_lem : total < unreached → Item counts rows have (suc t) next_item
     next_item_lem l =
-        let a = total_is in item_by (suc t) next_parts I.of l (F.to-lt t h e listed) label_short (omega arith)
+        let a = total_is in item_by (suc t) next_parts I.of l (F.to_lt t h e listed) label_short (omega arith)
 
     -- one edge: nothing, or one candidate
     one_candidate : live (rated_at (suc t)) unreached (next ∷ [])

@@ -34,7 +34,7 @@ prices_start {n} h =
     }
 
 pub step_inside : {n received erased weight t : ℕ} {prices : List ℕ} → InPrices n received erased prices weight t → 0 < t → t - 1 < n
-step_inside I h = omega (arith, I.t-le)
+step_inside I h = omega (arith, I.t_le)
 
 -- four places written, one behind another
 abbrev four : List ℕ → ℕ → ℕ → ℕ → ℕ → ℕ → List ℕ
@@ -102,7 +102,7 @@ pub prices_more : {n received erased t weight c₀ c₁ c₂ c₃ w x y z : ℕ}
 unfolding ranked_cost
 prices_more {n} {received} {erased} {t} {weight} {w = w} {x} {y} {z} {prices} few I h c₀-is a c₁-is b c₂-is c c₃-is d =
     record {
-      t_le = omega (arith, I.t-le);
+      t_le = omega (arith, I.t_le);
       room = record { long = simp length-set I.room.long; small = small };
       weight_is = weights;
       light = lighter;
@@ -110,14 +110,14 @@ prices_more {n} {received} {erased} {t} {weight} {w = w} {x} {y} {z} {prices} fe
     }
   where
     inside : 4 * (t - 1) + 3 < length prices
-    inside = omega (arith, I.room.long, I.t-le)
+    inside = omega (arith, I.room.long, I.t_le)
 
     small : (i : ℕ) → get_or (four prices (4 * (t - 1)) w x y z) i 0 ≤ top_rank
     small i = four_all (λ k. k ≤ top_rank) prices (4 * (t - 1)) w x y z I.room.small a.1 b.1 c.1 d.1 i
 
     weights : weight * 4 ≡ 4 ^ (n - (t - 1)) * label_unit
     weights =
-        let e : n - (t - 1) ≡ suc (n - t) = omega (arith, I.t-le) in
+        let e : n - (t - 1) ≡ suc (n - t) = omega (arith, I.t_le) in
         omega (arith, I.weight_is, ap (λ k. 4 ^ k) e, pow-suc 4 (n - t))
 
     lighter : weight * 4 ≤ distance_unit

@@ -97,7 +97,7 @@ module _ {H : HeldBlocks} {ends old mid notes left new_left prices new_prices ev
   B = subst (λ x. BlockFilled x (get_or H.received (b - 1) 0) (get_or H.erased (b - 1) 0) left new_left row) p F
 
   below : b - 1 < length H.indices
-  below = one_below I.b-le h
+  below = one_below I.b_le h
 
   next : b ≡ suc (b - 1)
   next = omega arith
@@ -135,7 +135,7 @@ module _ {H : HeldBlocks} {ends old mid notes left new_left prices new_prices ev
 
   pub fill_more : InFill H ends old notes new_left new_prices new_even new_odd (b - 1)
   fill_more = record {
-    b_le = omega (arith, I.b-le);
+    b_le = omega (arith, I.b_le);
     long = P.long ∙ I.long;
     working = W;
     kept = λ i k. P.kept i (inr (omega (arith, below))) ∙ I.kept i k;

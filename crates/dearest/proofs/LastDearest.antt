@@ -147,7 +147,7 @@ looked_more {items} {count} {at} {here} {i} {there} {r} {cost} L h e W = ⊎_eli
 
 pub looked_all : {items : List ℕ} {count at cost i : ℕ} → Looked items count at cost i → count ≤ i → LastDearest items count at
 looked_all {items} {count} {at} {cost} {i} L h =
-    let e : i ≡ count = omega (arith, L.i-le) in
+    let e : i ≡ count = omega (arith, L.i_le) in
     subst (λ k. LastDearest items k at) e L.found
 
 -- ---- as it is found going back from a place behind it

@@ -41,7 +41,7 @@ module _ {f : Frame} {starts : List ℕ} {views : List View} {ends to_pay costs 
   unfolding found
   ends_none e S =
       let is : left no_path (over (table_of f) costs) labels goals masks ≡ found f costs labels goals masks none = refl in
-      past_room f costs labels goals masks R.none-short
+      past_room f costs labels goals masks R.none_short
       (ap (λ c. left no_path c labels goals masks) (table_over K E R.for_costs F S) ∙ is
       ∙ sym (ap (found f costs labels goals masks) (best_none K E R.for_costs F e)))
 
@@ -120,7 +120,7 @@ module _ {f : Frame} {starts : List ℕ} {views : List View} {ends to_pay costs 
         pub ends_path : left (success (get_or to_pay f.start 0)) new new_labels new_goals new_masks ≡ fitted f costs labels goals masks
         unfolding found
         ends_path =
-            past_room f costs labels goals masks R.none-short
+            past_room f costs labels goals masks R.none_short
             (whole (table_over K E R.for_costs F S)
             (put (λ w. w.label) labels new_labels R.for_labels T.labels_long Z.label_at Z.labels_kept refl)
             (put (λ w. w.goal) goals new_goals R.for_goals T.goals_long Z.goal_at Z.goals_kept refl)

@@ -54,7 +54,7 @@ module _ {f : Frame} {starts : List ℕ} {views : List View} (K : FrameChecked f
 
   -- so every block's section is usable
   pub sound_at : (b : ℕ) → Sound (block_section f b)
-  sound_at b = usable_sound (block_section f b) (K.sections_found.found.usable-before (get_or f.indices b 0) (index_below_lem b))
+  sound_at b = usable_sound (block_section f b) (K.sections_found.found.usable_before (get_or f.indices b 0) (index_below_lem b))
 
   place_is : (b : ℕ) → get_or starts (get_or f.indices b 0) 0 ≡ section_start f.sections (get_or f.indices b 0)
   place_is b = K.sections_found.found.at (get_or f.indices b 0) (omega (arith, index_below_lem b))

@@ -93,13 +93,13 @@ module _ {a b : List ℕ} {at : View} (B : BothSeen a b at) where
   M = subst (λ k. Neat k (shape_of b)) (front_n B.front) (neat B.there.sound)
 
   n_is : at.n ≡ n_of a
-  n_is = (viewed B.here.is).n-is
+  n_is = (viewed B.here.is).n_is
 
   pub roots_order : at.roots ≤ at.goals
-  roots_order = omega (arith, (near_of (laid_of B.here)).roots-to)
+  roots_order = omega (arith, (near_of (laid_of B.here)).roots_to)
 
   pub roots_few : at.goals - at.roots ≤ most_words
-  roots_few = omega (arith, (near_of (laid_of B.here)).roots-to, B.here.sound.vertices_to 0 (omega arith))
+  roots_few = omega (arith, (near_of (laid_of B.here)).roots_to, B.here.sound.vertices_to 0 (omega arith))
 
   pub depth_start : {matched : List ℕ} → (length matched ≡ most_words) × ((v : ℕ) → v < at.goals - at.roots → get_or matched v 0 ≡ v + 1)
       → Depth a b matched at.pairs at.symbols 0
@@ -109,7 +109,7 @@ module _ {a b : List ℕ} {at : View} (B : BothSeen a b at) where
     here = places_start B.here;
     there = places_start B.there;
     f = λ u v. v;
-    held = λ v h. O.1 v (omega (arith, (near_of (laid_of B.here)).roots-to));
+    held = λ v h. O.1 v (omega (arith, (near_of (laid_of B.here)).roots_to));
     roots = λ v h. refl;
     low = λ u v k h. let e : u ≡ 0 = omega arith in
         subst (λ w. v < vertex_count_of b w) (sym e)
@@ -284,13 +284,13 @@ last_inner h k = omega arith
 
 module _ {a b : List ℕ} {at : View} (B : BothSeen a b at) where
   pub next_inner : {t : ℕ} → t < at.n - 1 → suc t < n_of a
-  next_inner h = omega (arith, (viewed B.here.is).n-is)
+  next_inner h = omega (arith, (viewed B.here.is).n_is)
 
   module _ {matched : List ℕ} {pairs symbols t : ℕ} (d : Depth a b matched pairs symbols t) (h : at.n - 1 ≤ t) where
     pub at_last : suc t ≡ n_of a
-    at_last = omega (arith, (viewed B.here.is).n-is, d.inside)
+    at_last = omega (arith, (viewed B.here.is).n_is, d.inside)
 
     pub last_count : {y : ℕ} → y ≡ get_or a (4 + at.n + (at.n - 1)) 0 → y ≡ get_or a (4 + at.n + t) 0
     last_count e =
-        let q : at.n - 1 ≡ t = omega (arith, (viewed B.here.is).n-is, d.inside) in
+        let q : at.n - 1 ≡ t = omega (arith, (viewed B.here.is).n_is, d.inside) in
         e ∙ ap (λ u. get_or a (4 + at.n + u) 0) q

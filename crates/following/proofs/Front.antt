@@ -148,7 +148,7 @@ module _ {a b : List ℕ} (P : SameParts a b) where
   at_roots : (k : ℕ) → k < vertex_count_of a 0 → Agree a b (roots_place a + k)
   unfolding root_state
   at_roots k h =
-      let e : roots_place b ≡ roots_place a = omega (arith, P.n, (parts a).roots-at, (parts b).roots-at) in
+      let e : roots_place b ≡ roots_place a = omega (arith, P.n, (parts a).roots_at, (parts b).roots_at) in
       sym (ap (λ i. get_or b (i + k) 0) e) ∙ P.roots k h
 
   at_goals : (k : ℕ) → k < vertex_count_of a (n_of a) → Agree a b (goals_place a + k)
@@ -169,8 +169,8 @@ module _ {a b : List ℕ} (P : SameParts a b) where
       go i h (yes c) d e f = at_size i c
       go i h (no c) (yes d) e f = from 3 i (omega arith) (at_vertices (i - 3) (omega arith))
       go i h (no c) (no d) (yes e) f =
-          from (4 + n_of a) i (omega arith) (at_edges (i - (4 + n_of a)) (omega (arith, (parts a).roots-at)))
+          from (4 + n_of a) i (omega arith) (at_edges (i - (4 + n_of a)) (omega (arith, (parts a).roots_at)))
       go i h (no c) (no d) (no e) (yes f) =
-          from (roots_place a) i (omega arith) (at_roots (i - roots_place a) (omega (arith, (parts a).goals-at)))
+          from (roots_place a) i (omega arith) (at_roots (i - roots_place a) (omega (arith, (parts a).goals_at)))
       go i h (no c) (no d) (no e) (no f) =
-          from (goals_place a) i (omega arith) (at_goals (i - goals_place a) (omega (arith, (parts a).pairs-at)))
+          from (goals_place a) i (omega arith) (at_goals (i - goals_place a) (omega (arith, (parts a).pairs_at)))

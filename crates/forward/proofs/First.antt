@@ -66,7 +66,7 @@ slots_start slots {rest} {s} {x} {back} S low below l N = record {
     slot = get_or-set_same slots 0 x 0 (omega (arith, l))
 
     cost : cost_in (get_or (set slots 0 x) 0 0) ≡ rest s
-    cost = ap cost_in slot ∙ S.cost-is
+    cost = ap cost_in slot ∙ S.cost_is
 
     none : rest s - rest s ≡ 0
     none = omega arith

@@ -53,7 +53,7 @@ module _ {sections starts : List ℕ} {views : List View} {indices received eras
       (h : b < length indices) (e : i ≡ get_or indices b 0) (L : LeftBehind costs ends (length indices) b left) (few : k ≤ most_paths)
       (K : KeptAt f k b have slots back) where
     lent_is : lent i ≡ block_section f b
-    lent_is = (held_at h e).part-is ∙ part_is C.checks b
+    lent_is = (held_at h e).part_is ∙ part_is C.checks b
 
     E_end : EndRow end ends
     E_end = subst (λ x. EndRow x ends) q E

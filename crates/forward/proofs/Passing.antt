@@ -26,15 +26,15 @@ module _ {l : List ℕ} {at : View} (S : Seen l at) where
   pub outer : Outer l at
   outer =
       let r = roots_at S in
-      record { order = r.le; inside = omega (arith, r.count-is, r.inside); few = omega (arith, r.count-is, r.few) }
+      record { order = r.le; inside = omega (arith, r.count_is_lem, r.inside); few = omega (arith, r.count_is_lem, r.few) }
 
   pub enterable_at : {slots : List ℕ} {have : ℕ} → Enterable l (roots_place l) (vertex_count_of l 0) slots have
       → Enterable l at.roots (at.goals - at.roots) slots have
   enterable_at {slots} {have} E =
-      subst₂ (λ r c. Enterable l r c slots have) (sym (viewed S.is).roots-is) (sym (roots_at S).count-is) E
+      subst₂ (λ r c. Enterable l r c slots have) (sym (viewed S.is).roots_is) (sym (roots_at S).count_is_lem) E
 
   pub leavable_at : {new : List ℕ} {count : ℕ} → Leavable l (goals_place l) new count → Leavable l at.goals new count
-  leavable_at {new} {count} L = subst (λ g. Leavable l g new count) (sym (viewed S.is).goals-is) L
+  leavable_at {new} {count} L = subst (λ g. Leavable l g new count) (sym (viewed S.is).goals_is) L
 
   pub through_of : {received mask : ℕ} {left : List ℕ} {k have : ℕ} {slots prices rows items new : List ℕ} {count : ℕ}
       → Prices at.n received mask prices → RowsPut l prices left rows
@@ -42,9 +42,9 @@ module _ {l : List ℕ} {at : View} (S : Seen l at) where
       → Gone (step_edges l) rows prices k (n_of l) have items new count
       → Through l received mask left k have slots prices rows items new count
   through_of {received} {mask} {have = have} {slots} {prices} {items = items} P R E G = record {
-    priced = subst (λ n. Prices n received mask prices) (viewed S.is).n-is P;
+    priced = subst (λ n. Prices n received mask prices) (viewed S.is).n_is P;
     rows_are = R;
-    entered = subst₂ (λ r c. AllEntered l r c slots items have) (viewed S.is).roots-is (roots_at S).count-is E;
+    entered = subst₂ (λ r c. AllEntered l r c slots items have) (viewed S.is).roots_is (roots_at S).count_is_lem E;
     gone = G;
   }
 
@@ -59,5 +59,5 @@ module _ {l : List ℕ} {at : View} (S : Seen l at) where
     items = items;
     new = new;
     through = T;
-    left_by = subst (λ g. Left (state_from l g) new b count new_slots back new_back) (viewed S.is).goals-is L;
+    left_by = subst (λ g. Left (state_from l g) new b count new_slots back new_back) (viewed S.is).goals_is L;
   }

@@ -126,7 +126,7 @@ module _ {views : List View} {k : ℕ} {indices received erased : List ℕ} {b i
       let f = frame sections k indices received erased start end in
       sym (first_is (block_bad f) (length indices) b
       (record {
-        most = I.b-le;
+        most = I.b_le;
         hit = λ l. holds (bad sections starts start end F);
         miss = λ c l t. fails (I.none sections starts start end F c l) t;
       }))
@@ -155,7 +155,7 @@ pub blocks_none : {views : List View} {k : ℕ} {indices received erased : List 
 blocks_none {k = k} {indices} {received} {erased} {b} I h sections starts start end F =
     let f = frame sections k indices received erased start end in
     sym (first_is (block_bad f) (length indices) b
-    (record { most = I.b-le; hit = λ l. absurd (omega arith); miss = λ c l t. fails (I.none sections starts start end F c l) t }))
+    (record { most = I.b_le; hit = λ l. absurd (omega arith); miss = λ c l t. fails (I.none sections starts start end F c l) t }))
 
 -- ---- no fault 9
 
@@ -205,6 +205,6 @@ views_of {sections} A = record {
   long = A.found.views_long;
   short = λ j h.
       let e = ap (λ (w : View). w.n) (A.found.view j h) in
-      let s = (usable_sound (section_at sections j) (A.found.usable-before j h)).n_to in
+      let s = (usable_sound (section_at sections j) (A.found.usable_before j h)).n_to in
       omega arith;
 }

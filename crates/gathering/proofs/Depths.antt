@@ -40,14 +40,14 @@ module _ {s : List ℕ} {at : View} (S : Seen s at) where
   near = near_of (laid_of S)
 
   pub roots_first : at.roots ≤ at.goals
-  roots_first = omega (arith, near.roots-to)
+  roots_first = omega (arith, near.roots_to)
 
   roots_count : at.goals - at.roots ≡ vertex_count_of s 0
-  roots_count = omega (arith, near.roots-to)
+  roots_count = omega (arith, near.roots_to)
 
   root_is : (v : ℕ) → get_or s (at.roots + v) 0 ≡ root_state s v
   unfolding root_state
-  root_is v = ap (λ k. get_or s (k + v) 0) at_is.roots-is
+  root_is v = ap (λ k. get_or s (k + v) 0) at_is.roots_is
 
   pub roots_level : FirstLevel s at.roots (at.goals - at.roots)
   roots_level = let N = near in let c = roots_count in record {
@@ -66,7 +66,7 @@ module _ {s : List ℕ} {at : View} (S : Seen s at) where
     filled =
         let a : each (λ v. code (get_or s (at.roots + v) 0) v 0) (at.goals - at.roots)
         ≡ each (λ v. code (root_state s v) v 0) (vertex_count_of s 0) =
-        ap₂ (λ k m. each (λ v. code (get_or s (k + v) 0) v 0) m) at_is.roots-is roots_count in
+        ap₂ (λ k m. each (λ v. code (get_or s (k + v) 0) v 0) m) at_is.roots_is roots_count in
         r.filled ∙ a ∙ sym (map-map coded (λ v. begun (root_state s v) 0 v) (each (λ v. v) (vertex_count_of s 0))
         ∙ map_run (λ v. code (root_state s v) v 0) (λ v. v) 0 (vertex_count_of s 0));
     count = roots_count ∙ sym
@@ -76,7 +76,7 @@ module _ {s : List ℕ} {at : View} (S : Seen s at) where
 
   module _ {codes : List ℕ} {have pairs symbols t : ℕ} (d : Depth s codes have pairs symbols t) (h : t < at.n) where
     deep : t < n_of s
-    deep = omega (arith, at_is.n-is)
+    deep = omega (arith, at_is.n_is)
 
     module _ {y count : ℕ} (y_is : y ≡ get_or s (4 + at.n + t) 0) (count_is_lem : (count ≡ y) × (count < 65536)) where
       abbrev edges : List Edge
@@ -111,7 +111,7 @@ module _ {s : List ℕ} {at : View} (S : Seen s at) where
 
   pub depth_all : {codes : List ℕ} {have pairs symbols t : ℕ} → Depth s codes have pairs symbols t → at.n ≤ t → Gathered s codes have
   depth_all {codes} {have} {pairs} {symbols} {t} d h =
-      let e : t ≡ n_of s = omega (arith, d.inside, at_is.n-is) in
+      let e : t ≡ n_of s = omega (arith, d.inside, at_is.n_is) in
       record {
         long = d.long;
         filled = λ b. d.filled ∙ ap (λ k. map coded (level s k)) e;

@@ -127,9 +127,9 @@ module _ {m labels : List ℕ} {n : ℕ} {words counts : List ℕ}
       → at + size * count ≤ length new
   all_room {count} q r =
       let k : lo + count ≤ length (joined_up (step_takers m labels n) n) =
-      omega (arith, q, K.counted t h, c.lo-is, joined_rise (step_takers m labels n) t n h) in
+      omega (arith, q, K.counted t h, c.lo_is, joined_rise (step_takers m labels n) t n h) in
       let j : size * (lo + count) ≤ size * length (joined_up (step_takers m labels n) n) = mul-le-mul_left size k in
-      omega (arith, c.at-is, c.len, mul-add size lo count)
+      omega (arith, c.at_is, c.len, mul-add size lo count)
 
   pub all_more : {new' : List ℕ} {end count : ℕ} → count ≡ get_or counts t 0 → Wrote new at (piece t) new' end
       → length (piece t) ≡ size * length (step_takers m labels n t)
@@ -137,16 +137,16 @@ module _ {m labels : List ℕ} {n : ℕ} {words counts : List ℕ}
   unfolding joined_up
   all_more {new'} {end} {count} q W s = rw (add-one t) (record {
     t_le = h;
-    lo_is = omega (arith, c.lo-is, q, K.counted t h, length-append (joined_up (step_takers m labels n) t) (step_takers m labels n t));
+    lo_is = omega (arith, c.lo_is, q, K.counted t h, length-append (joined_up (step_takers m labels n) t) (step_takers m labels n t));
     wrote = wrote_then c.wrote W;
-    at_is = omega (arith, W.end_is, s, c.at-is, mul-add size lo count, ap (λ k. size * k) (q ∙ K.counted t h));
+    at_is = omega (arith, W.end_is, s, c.at_is, mul-add size lo count, ap (λ k. size * k) (q ∙ K.counted t h));
     len = wrote_length W ∙ c.len;
   })
 
 pub all_end : {m labels : List ℕ} {n : ℕ} {piece : ℕ → List ℕ} {size start : ℕ} {old new : List ℕ} {at lo t : ℕ}
     → InAll m labels n piece size start old new at lo t
     → n ≤ t → Wrote old start (joined_up piece n) new at
-all_end {m} {labels} {n} {piece} {size} {start} {old} {new} {at} {lo} {t} c h = let e : t ≡ n = omega (arith, c.t-le) in
+all_end {m} {labels} {n} {piece} {size} {start} {old} {new} {at} {lo} {t} c h = let e : t ≡ n = omega (arith, c.t_le) in
     subst (λ k. Wrote old start (joined_up piece k) new at) e c.wrote
 
 pub row_more : (words : ℕ) {row : ℕ} (t : ℕ) → row ≡ t * words → row + words ≡ (t + 1) * words
@@ -190,11 +190,11 @@ module _ {m labels : List ℕ} {n : ℕ} {words counts : List ℕ}
       → InAll m labels n (step_pairs m labels n) 2 start old new' end (lo + count) (t + 1)
   pairs_more {row} c h q r W =
       all_more K c h q (subst (λ vs. Wrote new at vs new' end)
-      (ap (pairs_of m (length labels) row) (step_part K h c.lo-is q) ∙ pairs_are m labels n t row r) W) (pairs_size m labels n t)
+      (ap (pairs_of m (length labels) row) (step_part K h c.lo_is q) ∙ pairs_are m labels n t row r) W) (pairs_size m labels n t)
 
   pub symbols_more : InAll m labels n (step_symbols m labels n) 1 start old new at lo t → t < n → count ≡ get_or counts t 0
       → Wrote new at (symbols_of labels n t (part words lo (lo + count - lo))) new' end
       → InAll m labels n (step_symbols m labels n) 1 start old new' end (lo + count) (t + 1)
   symbols_more c h q W =
       all_more K c h q (subst (λ vs. Wrote new at vs new' end)
-      (ap (symbols_of labels n t) (step_part K h c.lo-is q) ∙ symbols_are m labels n t) W) (symbols_size m labels n t)
+      (ap (symbols_of labels n t) (step_part K h c.lo_is q) ∙ symbols_are m labels n t) W) (symbols_size m labels n t)

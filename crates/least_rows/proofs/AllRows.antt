@@ -41,13 +41,13 @@ save_asked {t = t} S h c r s k = record {
 -- the goals are counted like the vertices of every other depth
 pub goals_count : {l : List ℕ} {at : View} → Seen l at → at.pairs - at.goals ≡ get_or l (3 + at.n) 0
 unfolding vertex_count_of
-goals_count {l} S = (goals_at S).count-is ∙ ap (vertex_count_of l) (sym (header S).n-is)
+goals_count {l} S = (goals_at S).count_is_lem ∙ ap (vertex_count_of l) (sym (header S).n_is)
 
 pub last_asked : {l left rows : List ℕ} {at : View} (even odd : List ℕ) → Seen l at
     → GoalsRanked l left (side (n_of l) even odd) (vertex_count_of l (n_of l)) → length rows ≡ rows_long
     → SaveAsked at.n (at.pairs - at.goals) (side at.n even odd) rows
 last_asked {l} {left} {rows} {at} even odd S G h =
-    let e = (header S).n-is in
+    let e = (header S).n_is in
     let R : GoalsRanked l left (side at.n even odd) (vertex_count_of l at.n)
     = subst (λ t. GoalsRanked l left (side t even odd) (vertex_count_of l t)) (sym e) G in
     save_asked S (omega arith) (goals_count S) R.long R.small h
@@ -68,7 +68,7 @@ pub record RowsFrom (l prices old_even old_odd rows : List ℕ) (t : ℕ) : Type
 -- there are none behind the last
 pub rows_none : {l prices even odd rows : List ℕ} {at : View} → Seen l at → length rows ≡ rows_long
     → RowsFrom l prices even odd rows (suc at.n)
-rows_none S h = let e = (header S).n-is in record { long = h; at = λ cost number P R u v i j k. absurd (omega arith) }
+rows_none S h = let e = (header S).n_is in record { long = h; at = λ cost number P R u v i j k. absurd (omega arith) }
 
 pub rows_more : {l prices old_even old_odd even odd rows new : List ℕ} {t d before count : ℕ}
     → InSweep l prices old_even old_odd even odd t before → RowsFrom l prices old_even old_odd rows d

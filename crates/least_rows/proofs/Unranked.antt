@@ -120,8 +120,8 @@ module _ {edges : ℕ → List Edge} {n goals : ℕ} (B : Bounded edges n goals)
       (all_unrank (suc k) (across edges (ranked_cost n cost) top_rank number k t) (across edges cost unreached left_at k t)
       (leaving v (edges t))
       (λ e m. let i = listed_of v (edges t) e m in
-      edge_unranks k t h e (B.symbol-lt t (omega arith) e i)
-      (unranks k (suc t) e.to (omega arith) (λ z. B.goal-lt t (omega arith) e i))))
+      edge_unranks k t h e (B.symbol_lt t (omega arith) e i)
+      (unranks k (suc t) e.to (omega arith) (λ z. B.goal_lt t (omega arith) e i))))
 
   -- the least rank has the least cost
   pub unranked : (k t v : ℕ) → t + k ≡ n → (k ≡ 0 → v < goals) → rank_from k t v / distance_unit ≡ cost_from k t v

@@ -47,7 +47,7 @@ depths_next {l} {old} {now} {new} {n} {at} {end} {far} {t} {x} {v} {e} D h x_is 
 pub depths_all : {l old now : List ℕ} {n at end t : ℕ}
     → Depths l n old at now end t → n < t → Put old at (joined_up (depth_line l) (suc n)) now end
 depths_all {l} {old} {now} {n} {at} {end} {t} D h =
-    let e : t ≡ suc n = omega (arith, D.t-le) in
+    let e : t ≡ suc n = omega (arith, D.t_le) in
     subst (λ k. Put old at (joined_up (depth_line l) k) now end) e D.put
 
 pub sums_put : (l : List ℕ) {old mid new : List ℕ} {at m end a s : ℕ} → a ≡ additions (n_of l) (edge_count_of l)

@@ -99,7 +99,7 @@ edge_fits {pairs} {symbols} {behind = behind} {k = k} {e = d} A h q =
     let e = ap (λ j. get_or behind j 0) R.to_is in
     record {
       from_lt = omega (arith, R.from_is);
-      symbol_lt = omega (arith, A.prices_in, R.symbol-is);
+      symbol_lt = omega (arith, A.prices_in, R.symbol_is);
       to_lt = omega (arith, R.to_is);
       fits = omega arith;
     }
@@ -123,7 +123,7 @@ lower_more {pairs} {symbols} {prices} {behind} {old} {row} {count} {k} {x} {d} A
     e = edge_in pairs symbols k
 
     given : get_or prices d.symbol 0 + get_or behind d.to 0 ≡ through prices behind e
-    given = ap₂ (λ a g. get_or prices a 0 + get_or behind g 0) R.symbol-is R.to_is
+    given = ap₂ (λ a g. get_or prices a 0 + get_or behind g 0) R.symbol_is R.to_is
 
     es : List Edge
     es = run (edge_in pairs symbols) (k + 1) (count - (k + 1))

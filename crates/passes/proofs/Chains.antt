@@ -94,9 +94,9 @@ module _ (C : Chain) where
         record {
           small = K.small;
           none = λ i. o ∙ K.none i;
-          goal_lt = K.goal-lt;
+          goal_lt = K.goal_lt;
           remainder = λ i. K.remainder i ∙ sym (ap (λ x. x % note_cycle) o);
-          adds_up = λ i. o ∙ K.adds-up i ∙ ap (λ x. x + rest (note_goal (get_or notes s 0))) (sym (U.price_is (note_word s (get_or notes s 0))));
+          adds_up = λ i. o ∙ K.adds_up i ∙ ap (λ x. x + rest (note_goal (get_or notes s 0))) (sym (U.price_is (note_word s (get_or notes s 0))));
           path = λ i. ap (λ j. path_to j s) more
               ∙ trace_block C.words C.ends C.price unreached k b s
               (ap₂ (λ ws p. first_over ws p unreached rest s) U.words_are prices_are ∙ K.first (subst (λ x. x < unreached) o i));
@@ -136,7 +136,7 @@ record Onward (C : Chain) (b s note : ℕ) : Type 0 where
 
 onward_of : {C : Chain} {b s note : ℕ} → least_from C b s < unreached → NoteAt C b s note → Onward C b s note
 onward_of {C} {b} {s} {note} o K =
-    record { named = named; goal_lt = K.goal-lt named; onward = let a = K.adds-up named in omega arith }
+    record { named = named; goal_lt = K.goal_lt named; onward = let a = K.adds_up named in omega arith }
   where
     named : note < unreached
     named = go (dec_lt note unreached)
@@ -173,7 +173,7 @@ module _ {C : Chain} {start : ℕ} where
           labels_kept = λ i k. get_or-set_other new_labels b i label 0 (λ j. absurd (omega arith)) ∙ Z.labels_kept i (omega arith);
           goals_kept = λ i k. get_or-set_other new_goals b i goal 0 (λ j. absurd (omega arith)) ∙ Z.goals_kept i (omega arith);
         };
-        state = subst (λ u. u < most_states) (sym g) O.goal-lt;
+        state = subst (λ u. u < most_states) (sym g) O.goal_lt;
         rest = rest;
         onward = subst (λ u. least_from C (suc b) u < unreached) (sym g) O.onward;
       })
@@ -231,7 +231,7 @@ follow_start F = record {
   b_le = omega arith;
   labels_long = refl;
   goals_long = refl;
-  words = λ C e P o. words_start F.start-lt o;
+  words = λ C e P o. words_start F.start_lt o;
 }
 
 -- what is read of the notes
@@ -266,14 +266,14 @@ module _ {blocks start : ℕ} {notes labels new_labels goals new_goals : List �
         b_le = omega arith;
         labels_long = simp length-set I.labels_long;
         goals_long = simp length-set I.goals_long;
-        words = λ C i P o. words_more P (I.words C i P o) (omega arith) H.labels-lt H.goals-lt l g;
+        words = λ C i P o. words_more P (I.words C i P o) (omega arith) H.labels_lt H.goals_lt l g;
       })
 
 pub follow_end : {blocks start : ℕ} {notes labels new_labels goals new_goals : List ℕ} {b s : ℕ}
     → InFollow blocks start notes labels new_labels goals new_goals b s → blocks ≤ b
     → FollowedTo blocks start notes labels new_labels goals new_goals
 follow_end {blocks} {start} {labels = labels} {new_labels} {goals} {new_goals} {b} I h =
-    let z : b ≡ blocks = omega (arith, I.b-le) in
+    let z : b ≡ blocks = omega (arith, I.b_le) in
     record {
       labels_long = I.labels_long;
       goals_long = I.goals_long;

@@ -33,7 +33,7 @@ pub record StateRead (l : List ℕ) (first v s : ℕ) : Type 0 where
 pub state_read : {l : List ℕ} {first next count v s : ℕ} {state : ℕ → ℕ} → States l first next count state → v < next - first
     → s ≡ get_or l (first + v) 0 → StateRead l first v s
 state_read {v = v} A h e =
-    let c = A.count-is in
+    let c = A.count_is_lem in
     let i = A.inside in
     let f = A.few in
     let k = A.small v (omega arith) in
@@ -58,12 +58,12 @@ goals_more {l} {left} {row} {at} {g} {s} {x} S I h p q r = record {
     A = goals_at S
 
     g_lt : g < length row
-    g_lt = omega (arith, I.long, A.few, A.count-is)
+    g_lt = omega (arith, I.long, A.few, A.count_is_lem)
 
 pub goals_end : {l left row : List ℕ} {at : View} {g : ℕ} → Seen l at → GoalsRanked l left row g → at.pairs - at.goals ≤ g
     → GoalsRanked l left row (vertex_count_of l (n_of l))
 goals_end S I h =
-    let c = (goals_at S).count-is in
+    let c = (goals_at S).count_is_lem in
     record { long = I.long; at = λ u k. I.at u (omega arith); small = λ u k. I.small u (omega arith) }
 
 -- ---- the states of the roots
@@ -77,10 +77,10 @@ module _ {l : List ℕ} {at : View} {v s : ℕ} (S : Seen l at) (h : v < at.goal
   root_is = p ∙ A.at v
 
   pub root_lt : s < most_states
-  root_lt = (state_read A h p).s-lt
+  root_lt = (state_read A h p).s_lt
 
   pub root_alone : (u : ℕ) → u < v → root_state l u ≡ s → ⊥
-  root_alone u k z = let m = S.sound.roots_ascend u v k (omega (arith, A.count-is)) in omega (arith, root_is)
+  root_alone u k z = let m = S.sound.roots_ascend u v k (omega (arith, A.count_is_lem)) in omega (arith, root_is)
 
   pub root_more : (P : ℕ → ℕ → Type 0) (row : List ℕ) (x : ℕ) → length row ≡ most_states → P v x
       → ((u : ℕ) → u < v → P u (get_or row (root_state l u) 0)) → (u : ℕ) → u < v + 1 → P u (get_or (set row s x) (root_state l u) 0)
@@ -124,7 +124,7 @@ roots_more {l} {row} {left} {notes} {at} {v} {s} {rank} {cost} {note} S I h p r 
 -- behind the last root
 pub roots_all : {l : List ℕ} {at : View} {v : ℕ} → Seen l at → at.goals - at.roots ≤ v → v ≤ at.goals - at.roots
     → v ≡ vertex_count_of l 0
-roots_all S h k = let c = (roots_at S).count-is in omega arith
+roots_all S h k = let c = (roots_at S).count_is_lem in omega arith
 
 pub roots_end : {l row left notes : List ℕ} {at : View} {v : ℕ} → Seen l at → RootsPut l row left notes v → at.goals - at.roots ≤ v
     → v ≤ at.goals - at.roots → RootsPut l row left notes (vertex_count_of l 0)
@@ -135,9 +135,9 @@ roots_end {l} {row} {left} {notes} S I h k = subst (RootsPut l row left notes) (
 module _ {l left : List ℕ} {at : View} {g : ℕ} (S : Seen l at) where
   pub goals_even : {even : List ℕ} (odd : List ℕ) → at.n % 2 ≡ 0 → GoalsRanked l left even g → GoalsRanked l left (side (n_of l) even odd) g
   goals_even {even} odd e I =
-      subst (λ r. GoalsRanked l left r g) (sym (side_even (n_of l) even odd (ap (λ n. n % 2) (sym (header S).n-is) ∙ e))) I
+      subst (λ r. GoalsRanked l left r g) (sym (side_even (n_of l) even odd (ap (λ n. n % 2) (sym (header S).n_is) ∙ e))) I
 
   pub goals_odd : (even : List ℕ) {odd : List ℕ} → (at.n % 2 ≡ 0 → ⊥) → GoalsRanked l left odd g
       → GoalsRanked l left (side (n_of l) even odd) g
   goals_odd even {odd} e I =
-      subst (λ r. GoalsRanked l left r g) (sym (side_odd (n_of l) even odd (λ z. e (ap (λ n. n % 2) (header S).n-is ∙ z)))) I
+      subst (λ r. GoalsRanked l left r g) (sym (side_odd (n_of l) even odd (λ z. e (ap (λ n. n % 2) (header S).n_is ∙ z)))) I

@@ -45,7 +45,7 @@ module _ {l : List ℕ} (S : Sound l) (cost : ℕ → ℕ → ℕ) where
     roots_ascend_lem = run_ordered (λ v. v) 0 (vertex_count_of l 0) (λ j k a c. S.roots_ascend j k a (omega arith));
     same_cost = λ v p m.
         let P = whole_fits (step_edges l) (n_of l) (vertex_count_of l (n_of l)) (bounded S) S.n_from v p m in
-        cost_packed cost (n_of l) P.symbols-fit 0 0 (zero-add (n_of l));
+        cost_packed cost (n_of l) P.symbols_fit 0 0 (zero-add (n_of l));
   }
 
   rankable : Rankable (step_edges l) (n_of l) (vertex_count_of l (n_of l)) roots (root_state l) (goal_state l)

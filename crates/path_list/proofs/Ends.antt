@@ -60,7 +60,7 @@ module _ {f : Frame} {starts : List ℕ} {views : List View} {paths : ℕ} {ends
   pub ends_none : get_or to_pay f.start 0 ≡ unreached
       → left no_path new distances labels goals ≡ fitted f paths costs distances labels goals
   ends_none e =
-      past_room f paths costs distances labels goals R.none-short
+      past_room f paths costs distances labels goals R.none_short
       (ap (λ c. left no_path c distances labels goals) (table_over K E R.for_costs F S)
       ∙ sym (found_none f paths costs distances labels goals (list_of f paths) (first_of f paths W ∙ best_none K E R.for_costs F e)))
 
@@ -68,7 +68,7 @@ module _ {f : Frame} {starts : List ℕ} {views : List View} {paths : ℕ} {ends
       → PathsListed f paths r distances new_distances labels new_labels goals new_goals
       → left (success r) new new_distances new_labels new_goals ≡ fitted f paths costs distances labels goals
   ends_paths {r} {new_distances} {new_labels} {new_goals} n P =
-      past_room f paths costs distances labels goals R.none-short
+      past_room f paths costs distances labels goals R.none_short
       (whole P.many (table_over K E R.for_costs F S) P.distances_are P.labels_are P.goals_are
       ∙ sym (found_some f paths costs distances labels goals (list_of f paths) (first_of f paths W ∙ best_some K E R.for_costs F n)))
     where

@@ -133,11 +133,11 @@ module _ (edges : ℕ → List Edge) (n goals : ℕ) (B : Bounded edges n goals)
       let l = listed_of v (edges t) e z.listed in
       let q : p ≡ along e (stop e.to) = Memᴰ.eq_of_singleton z.holds in
       subst (PathFits 1 goals) (sym q)
-      (record { symbols_fit = one_more (B.symbol-lt t (omega arith) e l) no_more; end_fits = B.goal-lt t (omega arith) e l })
+      (record { symbols_fit = one_more (B.symbol_lt t (omega arith) e l) no_more; end_fits = B.goal_lt t (omega arith) e l })
   paths_fit (suc k) t v h p m =
       let z = of_flat_map (λ e. map (along e) (paths_from edges (suc k) (suc t) e.to)) (leaving v (edges t)) p m in
       let e = z.source in
       let x = Memᴰ.of_map (along e) (paths_from edges (suc k) (suc t) e.to) z.holds in
       let F = paths_fit k (suc t) e.to (omega arith) x.0 x.1 in
-      let l = B.symbol-lt t (omega arith) e (listed_of v (edges t) e z.listed) in
-      subst (PathFits (suc (suc k)) goals) x.2 (record { symbols_fit = one_more l F.symbols-fit; end_fits = F.end_fits })
+      let l = B.symbol_lt t (omega arith) e (listed_of v (edges t) e z.listed) in
+      subst (PathFits (suc (suc k)) goals) x.2 (record { symbols_fit = one_more l F.symbols_fit; end_fits = F.end_fits })

@@ -67,7 +67,7 @@ module _ {cost : ℕ → ℕ → ℕ} {state : ℕ → ℕ} {dist : Word → ℕ
   on_path : (p : Path) → p ∈ paths_from edges n 0 v → on_word (spell p) ≡ capped top (path_offer cost final 0 p)
   unfolding final path_offer
   on_path p m =
-      ap₂ (plus top) (S.same-cost p m) (ap rest (S.same-goal p) ∙ sym (capped_known top (rest (state p.end)) (bound (state p.end))))
+      ap₂ (plus top) (S.same_cost p m) (ap rest (S.same_goal p) ∙ sym (capped_known top (rest (state p.end)) (bound (state p.end))))
       ∙ sym (capped_extend top (cost_from cost 0 p.symbols) (λ u. p) (final p.end))
 
   number_is_lem : (g : ℕ) → rest (state g) ≡ capped top (final g)
@@ -93,7 +93,7 @@ module _ {cost : ℕ → ℕ → ℕ} {state : ℕ → ℕ} {dist : Word → ℕ
       let H = capped_had top a (omega arith) in
       let o : a ≡ some c H.what = H.is ∙ ap (λ x. some x H.what) i in
       let C = all_chosen (path_offer cost final 0) (paths_from edges n 0 v) o in
-      let q : H.what ≡ C.member = (extended _ _ _ C.offers).path-is in
+      let q : H.what ≡ C.member = (extended _ _ _ C.offers).path_is in
       first_map (λ w. eqb (on_word w) c) spell (paths_from edges n 0 v) C.member
       (chosen_first top (path_offer cost final 0) (λ p. on_word (spell p)) on_path C h)
       ∙ ap (λ p. just (spell p)) (sym (section_trace_lem edges cost final top (λ g. rest (state g)) number_is_lem n 0 v o h ∙ q))

@@ -30,7 +30,7 @@ module _ {ws : List Word} {price : Word → ℕ} {edges : ℕ → List Edge} {n 
     {cost : ℕ → ℕ → ℕ} (U : Uses ws price edges n roots root_of goal_of cost) where
   pub spells : (v : ℕ) → Spells cost goal_of price (word_of root_of goal_of v) (paths_from edges n 0 v)
   unfolding word_of
-  spells v = record { same_cost = U.same-cost v; same_goal = λ p. refl }
+  spells v = record { same_cost = U.same_cost v; same_goal = λ p. refl }
 
   pub rooted : (v : ℕ) → v ∈ roots → rooted_at (root_of v) ws ≡ map (word_of root_of goal_of v) (paths_from edges n 0 v)
   rooted v m = ap (rooted_at (root_of v)) U.words_are ∙ rooted_words edges n root_of goal_of roots U.roots-ascend v m

@@ -57,13 +57,13 @@ module _ (words : ℕ → List Word) (ends : ℕ → Bool) (dist : ℕ → Word 
   behind_by : (k b : ℕ) {c : ℕ} {w : Word} {ws : List Word} (v : Word)
       → Extended (dist b v) (λ vs. v ∷ vs) (best_path words ends dist k (suc b) v.goal) c (w ∷ ws) → Behind k b c w ws
   behind_by k b {c} {w} {ws} v X =
-      let p = X.path-is in
+      let p = X.path_is in
       let i : w ≡ v = cc in
       let j : ws ≡ X.path = cc in
       record {
         rest = X.cost;
         best_is = ap (λ x. best_path words ends dist k (suc b) x.goal) i ∙ X.had ∙ ap (some X.cost) (sym j);
-        adds_up = X.cost-is ∙ ap (λ x. dist b x + X.cost) (sym i);
+        adds_up = X.cost_is ∙ ap (λ x. dist b x + X.cost) (sym i);
       }
 
   pub behind : (k b s : ℕ) {c : ℕ} {w : Word} {ws : List Word} → best_path words ends dist (suc k) b s ≡ some c (w ∷ ws) → Behind k b c w ws

@@ -117,8 +117,8 @@ module _ {ws : List Word} {price : Word → ℕ} {edges : ℕ → List Edge} {n 
   unfolding word_of
   spells_ranked v =
       record {
-        same_cost = λ p m. ap (λ d. d * distance_unit + pack_onto 0 p.symbols * label_unit) (U.same-cost v p m)
-            ∙ sym (ranked_from n cost (whole_fits edges n goals R.fits R.some v p m).symbols-fit 0 (omega arith));
+        same_cost = λ p m. ap (λ d. d * distance_unit + pack_onto 0 p.symbols * label_unit) (U.same_cost v p m)
+            ∙ sym (ranked_from n cost (whole_fits edges n goals R.fits R.some v p m).symbols_fit 0 (omega arith));
         same_goal = λ p. refl;
       }
 
@@ -138,7 +138,7 @@ module _ {ws : List Word} {price : Word → ℕ} {edges : ℕ → List Edge} {n 
       let P = whole_fits edges n goals R.fits R.some v x.0 x.1 in
       let h : 4 ^ n ≤ 4 ^ 8 = pow-le-pow_right (lit< tt) R.short in
       subst (Mine v) x.2
-      (record { root_is = refl; label_lt = lt_of_lt_of_le (pack_fits P.symbols-fit) h; goal_lt = R.small x.0.end P.end_fits })
+      (record { root_is = refl; label_lt = lt_of_lt_of_le (pack_fits P.symbols_fit) h; goal_lt = R.small x.0.end P.end_fits })
 
   abbrev on_word : Word → ℕ
   on_word w = onward_cost ws price unreached left w
@@ -156,7 +156,7 @@ module _ {ws : List Word} {price : Word → ℕ} {edges : ℕ → List Edge} {n 
   mine_ranks v w m =
       let M = mine_is v w m in
       subst (λ x. Ranks (on_word w) (uncut_cost w) x (key w)) (plus_capped top_rank (price_ranked w) (ranked_left (left w.goal) w.goal))
-      (ranks left (price w) w.label w.goal (bound w.goal) M.label-lt (omega (arith, M.goal-lt)))
+      (ranks left (price w) w.label w.goal (bound w.goal) M.label_lt (omega (arith, M.goal_lt)))
 
   -- the words of a vertex ascend by label and goal
   mine_ascend : (v : ℕ) → v ∈ roots → Ordered (λ x y. key x < key y) (mine v)
@@ -168,7 +168,7 @@ module _ {ws : List Word} {price : Word → ℕ} {edges : ℕ → List Edge} {n 
     where
       rises : (x y : Word) → Mine v x → Mine v y → Before x y → key x < key y
       rises x y X Y (by_first p) = let i = X.root_is in let j = Y.root_is in absurd (omega arith)
-      rises x y X Y (by_second p q) = let i = X.goal-lt in omega arith
+      rises x y X Y (by_second p q) = let i = X.goal_lt in omega arith
       rises x y X Y (by_third p q r) = omega arith
 
   -- the least number from vertex v
@@ -206,11 +206,11 @@ module _ {ws : List Word} {price : Word → ℕ} {edges : ℕ → List Edge} {n 
       let K = mine_ranks v w R.listed in
       let e : rank_from v ≡ on_rank w = sym (rank_is v) ∙ R.is in
       let below : on_rank w < top_rank = subst (λ x. x < top_rank) e h in
-      let N = reads (on_word w) w.label w.goal (e ∙ K.whole below) M.label-lt M.goal-lt in
+      let N = reads (on_word w) w.label w.goal (e ∙ K.whole below) M.label_lt M.goal_lt in
       record {
         word_of_lem = w;
-        same = λ i. word (M.root_is i) (N.label_is i) (N.goal-is i);
-        goal_lt = M.goal-lt;
+        same = λ i. word (M.root_is i) (N.label_is i) (N.goal_is i);
+        goal_lt = M.goal_lt;
         adds_up = sym (ranked_least v m) ∙ ap (λ x. x / distance_unit) e ∙ K.front ∙ K.uncut below;
       }
 
@@ -250,10 +250,10 @@ module _ {ws : List Word} {price : Word → ℕ} {edges : ℕ → List Edge} {n 
           reads c w.label w.goal
           (sym (rank_is v) ∙ least_first (mine_ascend v m) (mine_ranks v) c h least w
           (mine_ranks v w (of_first (λ x. eqb (on_word x) c) (mine v) named).0).small named)
-          M.label-lt M.goal-lt
+          M.label_lt M.goal_lt
 
       same : w ≡ note_word (root_of v) (rank_from v % note_unit)
-      same = λ i. word (root_of v) (N.label_is i) (N.goal-is i)
+      same = λ i. word (root_of v) (N.label_is i) (N.goal_is i)
 
   pub ranked_note : (v : ℕ) → v ∈ roots → Noted ws price left (root_of v) (rank_from v % note_unit)
   ranked_note v m = record {
@@ -261,12 +261,12 @@ module _ {ws : List Word} {price : Word → ℕ} {edges : ℕ → List Edge} {n 
     none = none;
     goal_lt = λ h. goal_lt (own_word v m (note_below v h));
     remainder = λ h. let e = ranked_least v m in omega arith;
-    adds_up = λ h. let O = own_word v m (note_below v h) in O.adds-up ∙ ap uncut_cost O.same;
+    adds_up = λ h. let O = own_word v m (note_below v h) in O.adds_up ∙ ap uncut_cost O.same;
     first = first_named v m;
   }
     where
       goal_lt : OwnWord v → note_goal (rank_from v % note_unit) < most_states
-      goal_lt O = subst (λ w. w.goal < most_states) O.same O.goal-lt
+      goal_lt O = subst (λ w. w.goal < most_states) O.same O.goal_lt
 
       none : unreached ≤ rank_from v % note_unit → least_over ws price unreached left (root_of v) ≡ unreached
       none h = go (dec_le top_rank (rank_from v))

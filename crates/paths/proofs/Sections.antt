@@ -80,7 +80,7 @@ module _ (edges : ℕ → List Edge) (cost : ℕ → ℕ → ℕ) (final : ℕ �
     section_trace_lem k t v e h = trace_best (section_prices edges cost final) top number last_number stop stopped k t v (ahead_is k t v ∙ e) h
       where
         stopped : (u w d : ℕ) (q : Path) → ahead (section_prices edges cost final) zero u w ≡ some d q → stop w ≡ q
-        stopped u w d q o = sym (extended 0 (λ x. stop w) (final w) (sym (last_is u w) ∙ o)).path-is
+        stopped u w d q o = sym (extended 0 (λ x. stop w) (final w) (sym (last_is u w) ∙ o)).path_is
 
 -- ---- one step
 

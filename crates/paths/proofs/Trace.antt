@@ -105,6 +105,6 @@ module _ {E P : Type 0} {G : Graph E P} (Q : Prices G) (top : ℕ) (final : ℕ 
   trace_best stop s (suc k) t v {c} {p} e h =
       let O = onward_cost k t v e h in
       let B = O.behind in
-      let l = B.cost-is in
+      let l = B.cost_is in
       ap (or_stop (stop v) _) O.found ∙ ap (G.onto O.edge) (trace_best stop s k (suc t) (G.to O.edge) B.had (omega arith))
-      ∙ sym B.path-is
+      ∙ sym B.path_is

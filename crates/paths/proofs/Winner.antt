@@ -79,8 +79,8 @@ module _ (words : ℕ → List Word) (ends : ℕ → Bool) where
   unfolding cost_table paid_or
   first_drops dist k b s {w = w} e r =
       let B = behind words ends dist k b s e in
-      ap (λ u. paid_or unreached (best_path words ends dist (suc k) b u)) r ∙ ap (paid_or unreached) e ∙ B.adds-up
-      ∙ sym (ap (λ o. dist b w + paid_or unreached o) B.best-is)
+      ap (λ u. paid_or unreached (best_path words ends dist (suc k) b u)) r ∙ ap (paid_or unreached) e ∙ B.adds_up
+      ∙ sym (ap (λ o. dist b w + paid_or unreached o) B.best_is)
 
   -- ---- in word order, where the words of each block are
 
@@ -133,7 +133,7 @@ module _ (words : ℕ → List Word) (ends : ℕ → Bool) where
       (omega arith) (omega arith)
       (first_drops dist k b s e (best_right dist (suc k) b s e).linked.1)
   table_drops dist (suc k) b s {p = w ∷ ws} e (suc i) j m h l =
-      table_drops dist k (suc b) w.goal (behind words ends dist k b s e).best-is i j m (omega arith) (omega arith)
+      table_drops dist k (suc b) w.goal (behind words ends dist k b s e).best_is i j m (omega arith) (omega arith)
 
 -- ---- a path's distance is the sum of its words' distances
 

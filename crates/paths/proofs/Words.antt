@@ -83,7 +83,7 @@ module _ (edges : ℕ → List Edge) (n goals : ℕ) (B : Bounded edges n goals)
           → Before (word_of root_of goal_of v p) (word_of root_of goal_of v q)
       labels v p q P Q e =
           ⊎_elim (by_second refl) (λ w. by_third refl w.0 (rises p.end q.end w.1 Q.end_fits))
-          (pack_before P.symbols-fit Q.symbols-fit 0 e)
+          (pack_before P.symbols_fit Q.symbols_fit 0 e)
 
       each : (v : ℕ) → Ordered Before (map (word_of root_of goal_of v) (paths_from edges n 0 v))
       each v =

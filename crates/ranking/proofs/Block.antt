@@ -145,7 +145,7 @@ module _ (words : ℕ → List Word) (ends : ℕ → Bool) (dist : ℕ → Word 
   unfolding finish further word_of
   word_made x v e p m =
       ap₂ (λ r c. start (words_had x r (pack_onto 0 p.symbols) (goal_of p.end)) (goal_of p.end) (x.paid + c)) (sym e)
-      (sym (U.same-cost v p m))
+      (sym (U.same_cost v p m))
 
   one_entered : (x : Begun) → flat_map coming (entering roots root_of x) ≡ one_word words ends dist b x
   unfolding entering one_word extended flat_map

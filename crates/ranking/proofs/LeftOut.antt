@@ -139,7 +139,7 @@ module _ {A : Type 0} (cost : A → ℕ) where
           record {
             new_front = a ∷ R.new_front;
             new_back = R.new_back;
-            with_z = rw e (ap (λ l. a ∷ l) R.with-z);
+            with_z = rw e (ap (λ l. a ∷ l) R.with_z);
             without = rw f (ap (λ l. a ∷ l) R.without);
             same = omega arith;
             fewer = omega arith;
@@ -179,7 +179,7 @@ module _ {A : Type 0} (cost : A → ℕ) where
       other R r =
           let n = R.same in
           let f = R.fewer in
-          ap (cuts cost (suc m)) R.with-z ∙ r (omega arith) (omega arith) ∙ ap (cuts cost m) (sym R.without)
+          ap (cuts cost (suc m)) R.with_z ∙ r (omega arith) (omega arith) ∙ ap (cuts cost m) (sym R.without)
 
   -- a member with k others before it may be left out
   pub keep_without : (k : ℕ) (front : List A) (z : A) (back : List A) → k ≤ ahead front z back

@@ -59,7 +59,7 @@ module _ {s : List ℕ} (g : Sound s) where
   unfolding file_of_codes table_bytes
   file_is_lem goals {codes} {count} e G h =
       let full : take count codes ≡ map coded (level s (n_of s)) = G.filled h in
-      let size : count ≡ length (section_words s) = G.count-is h ∙ sym (words_count s) in
+      let size : count ≡ length (section_words s) = G.count_is_lem h ∙ sym (words_count s) in
       let pairs : flat_map (pair_of_code goals) (take count codes) ≡ flat_map pair_bytes (section_words s) =
       ap (flat_map (pair_of_code goals)) full ∙ flat_map_map (pair_of_code goals) coded (level s (n_of s))
       ∙ flat_map_same _ _ (level s (n_of s)) (pair_of goals e)
@@ -88,7 +88,7 @@ module _ (s f : List ℕ) {at : View} (S : Seen s at × (is_section s ≡ true))
 
   module _ (h : count ≤ most_words) where
     count_words : count ≡ length (section_words s)
-    count_words = G.count-is h ∙ sym (words_count s)
+    count_words = G.count_is_lem h ∙ sym (words_count s)
 
     pub ends_short : length f < 5 + 4 * count → left (short_buffer (5 + 4 * count)) f ≡ reading_back s f
     unfolding reading_back
@@ -107,7 +107,7 @@ module _ (s f : List ℕ) {at : View} (S : Seen s at × (is_section s ≡ true))
         let d = le-ltb most_words (length (section_words s)) (omega (arith, count_words)) in
         let m = le-ltb (length f) (5 + 4 * length (section_words s)) (omega (arith, count_words)) in
         let z = file_is_lem S.0.sound (take (length s - at.goals) (drop at.goals s))
-        (λ v i. numbers_from s (viewed S.0.is).goals-is i v) G h in
+        (λ v i. numbers_from s (viewed S.0.is).goals_is i v) G h in
         let o : over (table_bytes (q_of s) (n_of s) (states_of s) (section_words s)) f ≡ table_bytes (q_of s) (n_of s) (states_of s)
         (section_words s) ++ drop (5 + 4 * length (section_words s)) f
         = ap (λ k. table_bytes (q_of s) (n_of s) (states_of s) (section_words s) ++ drop k f)

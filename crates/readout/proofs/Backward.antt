@@ -77,7 +77,7 @@ module _ {back : List ℕ} {blocks slot at : ℕ} {labels goals : List ℕ} wher
       → p ≡ code_root c
       → Backward back blocks slot at labels (set new_labels (at + (b - 1)) l) goals (set new_goals (at + (b - 1)) g) p (b - 1)
   backward_more {new_labels} {new_goals} {j} {b} {c} {l} {v} {g} {p} B h N ll lg ec el ev eg ep = record {
-    b_le = omega (arith, B.b-le);
+    b_le = omega (arith, B.b_le);
     j_lt = omega (arith, root_is, N.proper (most_paths * a + j));
     long_labels = length-set new_labels (at + a) l ∙ B.long_labels;
     long_goals = length-set new_goals (at + a) g ∙ B.long_goals;
@@ -111,12 +111,12 @@ module _ {back : List ℕ} {blocks slot at : ℕ} {labels goals : List ℕ} wher
       this f i e = ap (word_at (trail back f blocks slot)) e ∙ whole f a (omega arith) ∙ trail_last back f a j
 
       outside : (i : ℕ) → (i < at) ⊎ (at + blocks ≤ i) → i ≡ at + a → ⊥
-      outside i k e = let m = B.b-le in ⊎_elim (λ y. omega arith) (λ y. omega arith) k
+      outside i k e = let m = B.b_le in ⊎_elim (λ y. omega arith) (λ y. omega arith) k
 
       label_of : (f i : ℕ) → a ≤ i → i < blocks → Dec (i ≡ a)
           → get_or (set new_labels (at + a) l) (at + i) 0 ≡ (word_at (trail back f blocks slot) i).label
       label_of f i k m (yes e) =
-          let q = B.b-le in
+          let q = B.b_le in
           ap (λ w. get_or (set new_labels (at + a) l) (at + w) 0) e
           ∙ get_or-set_same new_labels (at + a) l 0 (omega (arith, B.long_labels)) ∙ label_is ∙ sym (ap (λ w. w.label) (this f i e))
       label_of f i k m (no e) =
@@ -125,7 +125,7 @@ module _ {back : List ℕ} {blocks slot at : ℕ} {labels goals : List ℕ} wher
       goal_of : (f i : ℕ) → a ≤ i → i < blocks → Dec (i ≡ a)
           → get_or (set new_goals (at + a) g) (at + i) 0 ≡ (word_at (trail back f blocks slot) i).goal
       goal_of f i k m (yes e) =
-          let q = B.b-le in
+          let q = B.b_le in
           ap (λ w. get_or (set new_goals (at + a) g) (at + w) 0) e
           ∙ get_or-set_same new_goals (at + a) g 0 (omega (arith, B.long_goals)) ∙ goal_is ∙ sym (ap (λ w. w.goal) (this f i e))
       goal_of f i k m (no e) = get_or-set_other new_goals (at + a) (at + i) g 0 (λ q. e (omega arith)) ∙ B.goal_at f i (omega arith) m

@@ -52,14 +52,14 @@ module _ {slots : List ℕ} {count : ℕ} {back : List ℕ} {blocks : ℕ} {dist
       → at + blocks ≤ long
   paths_room {at = at} {r} {long} I h l =
       let m : suc r * blocks ≤ count * blocks = mul-le-mul_right blocks h in
-      omega (arith, I.at-is, suc-mul r blocks)
+      omega (arith, I.at_is, suc-mul r blocks)
 
   pub paths_near : {new_distances new_labels new_goals : List ℕ} {at r : ℕ}
       → InPaths slots count back blocks distances new_distances labels new_labels goals new_goals at r → r < count → count ≤ most_paths
       → blocks ≤ most_blocks → at ≤ most_paths * most_blocks
   paths_near {at = at} {r} I h c l =
       let m : r * blocks ≤ most_paths * blocks = mul-le-mul_right blocks (omega arith) in
-      omega (arith, I.at-is)
+      omega (arith, I.at_is)
 
   -- x is the slot of the next path, and c, y and p are what it says
   pub paths_more : {new_distances new_labels new_goals newer_labels newer_goals : List ℕ} {at r x c y p : ℕ}
@@ -81,10 +81,10 @@ module _ {slots : List ℕ} {count : ℕ} {back : List ℕ} {blocks : ℕ} {dist
           get_or-set_other new_distances r i c 0 (λ e. absurd (omega arith)) ∙ S.other_distances i (omega arith);
       other_labels = λ i k.
           let n = next in
-          P.other_labels i (inr (omega arith)) ∙ S.other_labels i (let n = next in omega (arith, I.at-is));
+          P.other_labels i (inr (omega arith)) ∙ S.other_labels i (let n = next in omega (arith, I.at_is));
       other_goals = λ i k.
           let n = next in
-          P.other_goals i (inr (omega arith)) ∙ S.other_goals i (let n = next in omega (arith, I.at-is));
+          P.other_goals i (inr (omega arith)) ∙ S.other_goals i (let n = next in omega (arith, I.at_is));
     };
   }
     where
@@ -96,7 +96,7 @@ module _ {slots : List ℕ} {count : ℕ} {back : List ℕ} {blocks : ℕ} {dist
       slot_of q = code_root (code_in (get_or slots q 0))
 
       next : at + blocks ≡ (r + 1) * blocks
-      next = ap (λ a. a + blocks) I.at-is ∙ omega (arith, suc-mul r blocks) ∙ ap (λ j. j * blocks) (sym (add-one r))
+      next = ap (λ a. a + blocks) I.at_is ∙ omega (arith, suc-mul r blocks) ∙ ap (λ j. j * blocks) (sym (add-one r))
 
       slot_is : (q : ℕ) → q ≡ r → p ≡ slot_of q
       slot_is q e = ep ∙ ap code_root (ey ∙ ap code_in ex) ∙ ap slot_of (sym e)
@@ -110,24 +110,24 @@ module _ {slots : List ℕ} {count : ℕ} {back : List ℕ} {blocks : ℕ} {dist
       label_of : (f q i : ℕ) → q < r + 1 → i < blocks → Dec (q ≡ r)
           → get_or newer_labels (q * blocks + i) 0 ≡ (word_at (trail back f blocks (slot_of q)) i).label
       label_of f q i k m (yes e) =
-          ap (λ w. get_or newer_labels (w * blocks + i) 0) e ∙ ap (λ w. get_or newer_labels (w + i) 0) (sym I.at-is) ∙ P.label_at f i m
+          ap (λ w. get_or newer_labels (w * blocks + i) 0) e ∙ ap (λ w. get_or newer_labels (w + i) 0) (sym I.at_is) ∙ P.label_at f i m
           ∙ ap (λ w. (word_at (trail back f blocks w) i).label) (slot_is q e)
       label_of f q i k m (no e) =
-          P.other_labels (q * blocks + i) (inl (omega (arith, earlier q r i blocks (omega arith) m, I.at-is)))
+          P.other_labels (q * blocks + i) (inl (omega (arith, earlier q r i blocks (omega arith) m, I.at_is)))
           ∙ S.label_at f q i (omega arith) m
 
       goal_of : (f q i : ℕ) → q < r + 1 → i < blocks → Dec (q ≡ r)
           → get_or newer_goals (q * blocks + i) 0 ≡ (word_at (trail back f blocks (slot_of q)) i).goal
       goal_of f q i k m (yes e) =
-          ap (λ w. get_or newer_goals (w * blocks + i) 0) e ∙ ap (λ w. get_or newer_goals (w + i) 0) (sym I.at-is) ∙ P.goal_at f i m
+          ap (λ w. get_or newer_goals (w * blocks + i) 0) e ∙ ap (λ w. get_or newer_goals (w + i) 0) (sym I.at_is) ∙ P.goal_at f i m
           ∙ ap (λ w. (word_at (trail back f blocks w) i).goal) (slot_is q e)
       goal_of f q i k m (no e) =
-          P.other_goals (q * blocks + i) (inl (omega (arith, earlier q r i blocks (omega arith) m, I.at-is)))
+          P.other_goals (q * blocks + i) (inl (omega (arith, earlier q r i blocks (omega arith) m, I.at_is)))
           ∙ S.goal_at f q i (omega arith) m
 
   pub paths_all : {new_distances new_labels new_goals : List ℕ} {at r : ℕ}
       → InPaths slots count back blocks distances new_distances labels new_labels goals new_goals at r → count ≤ r
       → PathsRead slots back blocks distances new_distances labels new_labels goals new_goals count
   paths_all {new_distances} {new_labels} {new_goals} {at} {r} I h =
-      let e : r ≡ count = omega (arith, I.r-le) in
+      let e : r ≡ count = omega (arith, I.r_le) in
       subst (PathsRead slots back blocks distances new_distances labels new_labels goals new_goals) e I.so_far

@@ -53,7 +53,7 @@ module _ {back : List ℕ} {first : ℕ} {rest : ℕ → ℕ} {slots : List ℕ}
   sorted_each = take_each have sorted (omega (arith, O.long, S.few))
 
   own_place : (j : ℕ) → j < have → place_in (get_or slots j 0) ≡ j
-  own_place j h = root_is (get_or slots j 0) j (state_at back first b j) (S.coded j h) (S.state-lt j h)
+  own_place j h = root_is (get_or slots j 0) j (state_at back first b j) (S.coded j h) (S.state_lt j h)
 
   slots_begun : kept ≡ map (λ x. begun (place_in x)) (take have slots)
   slots_begun =

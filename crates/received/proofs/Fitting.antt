@@ -90,7 +90,7 @@ stray_more {n} {received} {erased} {t} I h e q = record { t_le = omega arith; no
 pub stray_none : {n received erased t : ℕ} → InStray n received erased t → n ≤ t → true ≡ eqb (first (stray n received erased) n) n
 stray_none {n} {received} {erased} {t} I h =
     let F : First (stray n received erased) n n =
-    record { most = omega arith; hit = λ k. absurd (omega arith); miss = λ j k. I.none j (omega (arith, I.t-le)) } in
+    record { most = omega arith; hit = λ k. absurd (omega arith); miss = λ j k. I.none j (omega (arith, I.t_le)) } in
     sym (eq-eqb (first (stray n received erased) n) n (first_is (stray n received erased) n n F))
 
 -- the checks one after another

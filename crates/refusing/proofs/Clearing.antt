@@ -19,9 +19,9 @@ pub clear_more : {count i : ℕ} {old new : List ℕ} → InClear count old new 
     → InClear count old (set new i 0) (i + 1)
 clear_more {count} {i} {old} {new} c h l =
     let g : i < length old = omega (arith, c.len) in
-    record { i_le = omega arith; now_is = rw c.now-is (fill_more i 0 old g); len = simp length-set c.len }
+    record { i_le = omega arith; now_is = rw c.now_is (fill_more i 0 old g); len = simp length-set c.len }
 
 pub clear_end : {count i : ℕ} {old new : List ℕ} → InClear count old new i → count ≤ i → new ≡ cleared count old
 clear_end {count} {i} {old} {new} c h =
-    let e : i ≡ count = omega (arith, c.i-le) in
-    c.now-is ∙ ap (λ k. replicate k 0 ++ drop k old) e ∙ ap (λ k. replicate count 0 ++ drop k old) (sym (length-replicate count 0))
+    let e : i ≡ count = omega (arith, c.i_le) in
+    c.now_is ∙ ap (λ k. replicate k 0 ++ drop k old) e ∙ ap (λ k. replicate count 0 ++ drop k old) (sym (length-replicate count 0))

@@ -92,7 +92,7 @@ module _ {map : List ℕ} {w : ℕ} {rows : List ℕ} {s n : ℕ} {dims : List �
 
   module _ {old out counts : List ℕ} {at t : ℕ} (c : InEdges map w rows s n dims old out counts at t) (h : t < n) where
     pub step_room : 8192 ≤ length old → at + w ≤ length out
-    step_room k = omega (arith, steps_below t h, c.at-le, c.len)
+    step_room k = omega (arith, steps_below t h, c.at_le, c.len)
 
     module _ {new : List ℕ} {end : ℕ}
         (W : Wrote out at (sums (arcs_of map (t * w) w rows (n - t - 1 + s) (get_or dims (t + 1) 0))) new end) where
@@ -110,7 +110,7 @@ module _ {map : List ℕ} {w : ℕ} {rows : List ℕ} {s n : ℕ} {dims : List �
       edges_next = rw (add-one t) (record {
         t_le = h;
         noted = wrote_then c.noted written;
-        at_le = omega (arith, c.at-le, step_most, suc-mul t w);
+        at_le = omega (arith, c.at_le, step_most, suc-mul t w);
         counted = λ u l. counted u l (ℕ_discrete u t);
         places = simp length-set c.places;
         len = wrote_length W ∙ c.len;
@@ -126,10 +126,10 @@ module _ {map : List ℕ} {w : ℕ} {rows : List ℕ} {s n : ℕ} {dims : List �
 pub edges_end : {map : List ℕ} {w : ℕ} {rows : List ℕ} {s n : ℕ} {dims old out counts : List ℕ} {at t : ℕ}
     → InEdges map w rows s n dims old out counts at t → n ≤ t → AllEdges map w rows s n dims old out at counts
 edges_end {map} {w} {rows} {s} {n} {dims} {old} {out} {counts} {at} {t} c h =
-    let e : t ≡ n = omega (arith, c.t-le) in
+    let e : t ≡ n = omega (arith, c.t_le) in
     record {
       noted = subst (λ k. Wrote old 0 (joined_up (step_sums map w rows s n dims) k) out at) e c.noted;
       counted = λ u l. c.counted u (omega arith);
       places = c.places;
-      most = subst (λ k. at ≤ k * w) e c.at-le;
+      most = subst (λ k. at ≤ k * w) e c.at_le;
     }

@@ -81,7 +81,7 @@ module _ {form : ℕ → List ℕ → List ℕ} {size : ℕ} {edges counts : Lis
   lent = take (lo + count - lo) (drop lo edges)
 
   before_end : lo + count ≤ edges_to counts n
-  before_end = omega (arith, q, c.lo-is, edges_rise counts t n h)
+  before_end = omega (arith, q, c.lo_is, edges_rise counts t n h)
 
   pub lent_inside : lo + count ≤ length edges
   lent_inside = omega (arith, before_end, A.inside)
@@ -89,7 +89,7 @@ module _ {form : ℕ → List ℕ → List ℕ} {size : ℕ} {edges counts : Lis
   lent_is : lent ≡ step_part edges counts t
   lent_is =
       let e : lo + count - lo ≡ get_or counts t 0 = omega (arith, q) in
-      ap₂ (λ k m. take k (drop m edges)) e c.lo-is
+      ap₂ (λ k m. take k (drop m edges)) e c.lo_is
 
   lent_length : length lent ≡ count
   lent_length = omega (
@@ -103,16 +103,16 @@ module _ {form : ℕ → List ℕ → List ℕ} {size : ℕ} {edges counts : Lis
   pub lent_room : at + size * length lent ≤ length new
   lent_room =
       let l : size * (lo + count) ≤ size * edges_to counts n = mul-le-mul_left size before_end in
-      omega (arith, numbers_are, c.at-is, c.len, A.room, mul-add size lo count)
+      omega (arith, numbers_are, c.at_is, c.len, A.room, mul-add size lo count)
 
   pub all_next : Sized form size → {new' : List ℕ} {end : ℕ} → Wrote new at (form (get_or dims (t + 1) 0) lent) new' end
       → InAll form size edges counts n dims old start new' end (lo + count) (t + 1)
   unfolding joined_up
   all_next sized {new'} {end} W = rw (add-one t) (record {
     t_le = h;
-    lo_is = omega (arith, edges_more counts t, q, c.lo-is);
+    lo_is = omega (arith, edges_more counts t, q, c.lo_is);
     wrote = wrote_then c.wrote (subst (λ vs. Wrote new at vs new' end) (ap₂ form (ap (λ k. get_or dims k 0) (add-one t)) lent_is) W);
-    at_is = omega (arith, W.end_is, sized (get_or dims (t + 1) 0) lent, numbers_are, c.at-is, mul-add size lo count);
+    at_is = omega (arith, W.end_is, sized (get_or dims (t + 1) 0) lent, numbers_are, c.at_is, mul-add size lo count);
     len = wrote_length W ∙ c.len;
   })
 
@@ -120,5 +120,5 @@ pub all_end : {form : ℕ → List ℕ → List ℕ} {size : ℕ} {edges counts 
     {at lo t : ℕ} → InAll form size edges counts n dims old start new at lo t → n ≤ t
     → Wrote old start (joined_up (step_form form edges counts dims) n) new at
 all_end {form} {size} {edges} {counts} {n} {dims} {old} {start} {new} {at} {lo} {t} c h =
-    let e : t ≡ n = omega (arith, c.t-le) in
+    let e : t ≡ n = omega (arith, c.t_le) in
     subst (λ k. Wrote old start (joined_up (step_form form edges counts dims) k) new at) e c.wrote

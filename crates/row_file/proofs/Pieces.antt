@@ -45,5 +45,5 @@ module _ {f : ℕ → List ℕ} {old : List ℕ} {start : ℕ} {l : List ℕ} {n
 
   pub pieces_end : Wrote old start (flat_map f l) new (start + 2 * length l)
   pieces_end =
-      let e : at ≡ start + 2 * length l = omega (arith, P.at-is, P.inside) in
+      let e : at ≡ start + 2 * length l = omega (arith, P.at_is, P.inside) in
       subst (λ k. Wrote old start (flat_map f l) new k) e pieces_whole

@@ -86,7 +86,7 @@ module _ {rows : List ℕ} {s n : ℕ} {words labels : List ℕ} {count : ℕ} (
   words_length = length-take-le count words (omega (arith, F.few, F.words_long))
 
   pub labels_length : length (take count labels) ≡ count
-  labels_length = length-take-le count labels (omega (arith, F.few, F.labels-long))
+  labels_length = length-take-le count labels (omega (arith, F.few, F.labels_long))
 
   module _ {file : List ℕ} (A : FileAsked rows s n file) where
     pub words_narrow : Narrow (row_width s n) (take count words)
@@ -127,7 +127,7 @@ module _ {rows : List ℕ} {s n : ℕ} {words labels : List ℕ} {count : ℕ} (
           states_are = ap (flat_map (state_bytes s n)) F.words_are ∙ sym (flat_map_map pair_bytes (word_of s n) sums)
 
           labels_are : flat_map bytes_of (take count labels) ≡ flat_map label_bytes table
-          labels_are = ap (flat_map bytes_of) F.labels-are ∙ flat_map_map bytes_of (λ x. spread n (x / 2 ^ s)) sums
+          labels_are = ap (flat_map bytes_of) F.labels_are ∙ flat_map_map bytes_of (λ x. spread n (x / 2 ^ s)) sums
               ∙ sym (flat_map_map label_bytes (word_of s n) sums)
 
           written : Wrote file 0 (table_bytes 2 n (2 ^ s) table) d e

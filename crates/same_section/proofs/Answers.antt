@@ -29,11 +29,11 @@ module _ (a b : List ℕ) {at : View} (S : Seen a at) (A : is_section a ≡ true
 
   pub all_same : r ≡ true → at.n ≡ 1 → {q : Bool} → q ≡ all (λ i. eqb (get_or a i 0) (get_or b i 0)) at.end → q ≡ same_code a b
   all_same e n q_is_lem =
-      one_step a b A B (sym (viewed S.is).n-is ∙ n) (sym e ∙ r_is ∙ ap (all (alike_to a b)) (viewed S.is).pairs_is)
+      one_step a b A B (sym (viewed S.is).n_is ∙ n) (sym e ∙ r_is ∙ ap (all (alike_to a b)) (viewed S.is).pairs_is)
       (q_is_lem ∙ ap (all (alike_to a b)) (viewed S.is).end_is)
 
 pub more_steps : {l : List ℕ} {at : View} → Seen l at → (at.n ≡ 1 → ⊥) → 1 < at.n
-more_steps S h = omega (arith, S.sound.n_from, (viewed S.is).n-is)
+more_steps S h = omega (arith, S.sound.n_from, (viewed S.is).n_is)
 
 -- ---- the outcome
 

@@ -136,7 +136,7 @@ module _ (l : List ℕ) {at : View} (L : Laid l at) {s : ℕ} (s_is : s ≡ stat
       roots_are : a ≡ rising l (root_state l) (vertex_count_of l 0)
       unfolding root_state vertex_count_of
       roots_are =
-          let f = numbers_from l places.roots-is in
+          let f = numbers_from l places.roots_is in
           let e : a ≡ all (state_right (root_state l) (states_of l)) (vertex_count_of l 0) = a_is ∙ rw (v_is.0 ∙ x_is, f, s_is) in
           e ∙ rising_is l (root_state l) (vertex_count_of l 0)
 
@@ -149,8 +149,8 @@ module _ (l : List ℕ) {at : View} (L : Laid l at) {s : ℕ} (s_is : s ≡ stat
       unfolding states_right goal_state vertex_count_of
       states_by_goals {y} {w} {b} t y_is w_is b_is =
           let e : rising l (root_state l) (get_or l 3 0) ≡ true = sym roots_are ∙ not-false a t in
-          let f : w ≡ get_or l (3 + n_of l) 0 = w_is.0 ∙ y_is ∙ ap (λ m. get_or l (3 + m) 0) places.n-is in
-          let k = numbers_from l places.goals-is in
+          let f : w ≡ get_or l (3 + n_of l) 0 = w_is.0 ∙ y_is ∙ ap (λ m. get_or l (3 + m) 0) places.n_is in
+          let k = numbers_from l places.goals_is in
           let g : b ≡ all (state_right (goal_state l) (states_of l)) (vertex_count_of l (n_of l)) = b_is ∙ rw (f, k, s_is) in
           let h : b ≡ rising l (goal_state l) (vertex_count_of l (n_of l)) = g ∙ rising_is l (goal_state l) (vertex_count_of l (n_of l)) in
           h ∙ rw e
@@ -160,7 +160,7 @@ module _ (l : List ℕ) {at : View} (L : Laid l at) {s : ℕ} (s_is : s ≡ stat
   unfolding vertex_count_of
   goals_there {y} {w} y_is w_is =
       let N = near_of L in
-      let f : w ≡ get_or l (3 + n_of l) 0 = w_is.0 ∙ y_is ∙ ap (λ m. get_or l (3 + m) 0) places.n-is in
+      let f : w ≡ get_or l (3 + n_of l) 0 = w_is.0 ∙ y_is ∙ ap (λ m. get_or l (3 + m) 0) places.n_is in
       omega (arith, from_length l at.goals)
 
 -- each edge above the one before it, so above all before it

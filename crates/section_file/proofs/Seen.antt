@@ -174,7 +174,7 @@ module _ {l : List ℕ} (s : Sound l) where
   pub section_near : section_length l ≤ 30000
   section_near =
       let S : Seen l (view_of l) = record { sound = s; is = refl } in
-      omega (arith, (viewed S.is).end_is, (near_of (laid_of S)).end-near)
+      omega (arith, (viewed S.is).end_is, (near_of (laid_of S)).end_near)
 
   pub symbols_in_lem : symbols_place l + all_edges l ≤ length l
   symbols_in_lem = let p = parts l in omega (arith, s.whole)
@@ -248,7 +248,7 @@ pub header : {l : List ℕ} {at : View} → Seen l at → Header l at
 header {l} S =
     let p = parts l in
     let i = symbols_in_lem S.sound in
-    record { n_is = (viewed S.is).n-is; n_le = S.sound.n_to; inside = omega arith }
+    record { n_is = (viewed S.is).n_is; n_le = S.sound.n_to; inside = omega arith }
 
 -- the states of an outer depth: they stand from one place to the next, and each is small
 pub record States (l : List ℕ) (first next count : ℕ) (state : ℕ → ℕ) : Type 0 where
@@ -269,12 +269,12 @@ module _ {l : List ℕ} {at : View} (S : Seen l at) where
       let i = symbols_in_lem S.sound in
       let n = section_near S.sound in
       record {
-        le = omega (arith, w.roots-is, w.goals-is);
-        count_is_lem = omega (arith, w.roots-is, w.goals-is);
-        inside = omega (arith, w.roots-is);
-        near = omega (arith, w.roots-is);
+        le = omega (arith, w.roots_is, w.goals_is);
+        count_is_lem = omega (arith, w.roots_is, w.goals_is);
+        inside = omega (arith, w.roots_is);
+        near = omega (arith, w.roots_is);
         few = roots_few S.sound;
-        at = λ v. ap (λ k. get_or l (k + v) 0) w.roots-is;
+        at = λ v. ap (λ k. get_or l (k + v) 0) w.roots_is;
         small = λ v h. omega (arith, S.sound.roots_below v h, S.sound.states_to);
       }
 
@@ -286,11 +286,11 @@ module _ {l : List ℕ} {at : View} (S : Seen l at) where
       let i = symbols_in_lem S.sound in
       let n = section_near S.sound in
       record {
-        le = omega (arith, w.goals-is, w.pairs_is);
-        count_is_lem = omega (arith, w.goals-is, w.pairs_is);
-        inside = omega (arith, w.goals-is);
-        near = omega (arith, w.goals-is);
+        le = omega (arith, w.goals_is, w.pairs_is);
+        count_is_lem = omega (arith, w.goals_is, w.pairs_is);
+        inside = omega (arith, w.goals_is);
+        near = omega (arith, w.goals_is);
         few = goals_few S.sound;
-        at = λ v. ap (λ k. get_or l (k + v) 0) w.goals-is;
+        at = λ v. ap (λ k. get_or l (k + v) 0) w.goals_is;
         small = λ v h. omega (arith, S.sound.goals_below v h, S.sound.states_to);
       }

@@ -146,4 +146,4 @@ module _ {l : List ℕ} (s : Sound l) where
   pub label_short : (w : Word) → w ∈ section_words l → w.label < 4 ^ n_of l
   label_short w m =
       let r = read_of w m in
-      omega (arith, ap (λ (v : Word). v.label) r.is, pack_short r.fits.symbols-fit 0)
+      omega (arith, ap (λ (v : Word). v.label) r.is, pack_short r.fits.symbols_fit 0)

@@ -102,10 +102,10 @@ module _ {sections starts : List ℕ} {views : List View} {k i at : ℕ} {view :
     (e : view ≡ cond (usable (drop at sections)) (view_of (drop at sections)) no_view) where
   here : view ≡ cond (usable (section_at sections i)) (view_of (section_at sections i)) no_view
   unfolding section_at
-  here = e ∙ ap (λ x. cond (usable (drop x sections)) (view_of (drop x sections)) no_view) I.at-is
+  here = e ∙ ap (λ x. cond (usable (drop x sections)) (view_of (drop x sections)) no_view) I.at_is
 
   pub sections_found : view.end ≡ 0 → FirstUnusable sections starts views k i
-  sections_found z = record { r_le = I.i-le; found = I.found; unusable_at = λ l. none_sized (section_at sections i) here z }
+  sections_found z = record { r_le = I.i_le; found = I.found; unusable_at = λ l. none_sized (section_at sections i) here z }
 
   module _ (z : view.end ≡ 0 → ⊥) where
     S : Sized (section_at sections i) view
@@ -117,12 +117,12 @@ module _ {sections starts : List ℕ} {views : List View} {k i at : ℕ} {view :
         let w = S.whole in
         let d = length-drop (section_start sections i) sections in
         let p = I.found.inside in
-        let a = I.at-is in
+        let a = I.at_is in
         omega arith
 
     next_is : at + view.end ≡ section_start sections (suc i)
     unfolding section_start section_at
-    next_is = ap (λ x. x + view.end) I.at-is ∙ ap (λ x. section_start sections i + x) S.long
+    next_is = ap (λ x. x + view.end) I.at_is ∙ ap (λ x. section_start sections i + x) S.long
 
     pub sections_more : k ≤ most_sections → i < k
         → InSections sections (set starts (i + 1) (at + view.end)) (set views i view) k (i + 1) (at + view.end)
@@ -148,7 +148,7 @@ module _ {sections starts : List ℕ} {views : List View} {k i at : ℕ} {view :
 
         before : (j : ℕ) → j < suc i → Dec (j ≡ i) → usable (section_at sections j) ≡ true
         before j l (yes q) = subst (λ x. usable (section_at sections x) ≡ true) (sym q) S.is
-        before j l (no q) = I.found.usable-before j (omega arith)
+        before j l (no q) = I.found.usable_before j (omega arith)
 
         seen : (j : ℕ) → j < suc i → Dec (j ≡ i) → get_or (set views i view) j no_view ≡ view_of (section_at sections j)
         seen j l (yes q) =
@@ -162,9 +162,9 @@ first_unusable : {sections starts : List ℕ} {views : List View} {k r : ℕ} �
     → first (unusable sections) k ≡ r
 unfolding unusable
 first_unusable {sections} {k = k} {r} F = first_is (unusable sections) k r (record {
-  most = F.r-le;
-  hit = λ h. holds (ap not (is_false (usable (section_at sections r)) (λ t. F.unusable-at h (is_true (usable (section_at sections r)) t))));
-  miss = λ j h t. fails (ap not (F.found.usable-before j h)) t;
+  most = F.r_le;
+  hit = λ h. holds (ap not (is_false (usable (section_at sections r)) (λ t. F.unusable_at h (is_true (usable (section_at sections r)) t))));
+  miss = λ j h t. fails (ap not (F.found.usable_before j h)) t;
 })
 
 pub looked_many : {sections starts : List ℕ} {views : List View} {k : ℕ} {w : Bool} → w ≡ within 1 most_sections k → not w ≡ true
@@ -201,13 +201,13 @@ looked_all {sections} {starts} {views} {k} {i} {at} {w} e h I l = record {
 }
   where
     F : FirstUnusable sections starts views k i
-    F = record { r_le = I.i-le; found = I.found; unusable_at = λ m. absurd (omega arith) }
+    F = record { r_le = I.i_le; found = I.found; unusable_at = λ m. absurd (omega arith) }
 
     i_is : i ≡ k
-    i_is = omega (arith, I.i-le)
+    i_is = omega (arith, I.i_le)
 
     at_is : at ≡ section_start sections k
-    at_is = I.at-is ∙ ap (section_start sections) i_is
+    at_is = I.at_is ∙ ap (section_start sections) i_is
 
     b : (1 ≤ k) × (k ≤ most_sections)
     b = within_of 1 most_sections k (sym e ∙ not-false w h)

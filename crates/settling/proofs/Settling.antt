@@ -59,10 +59,10 @@ module _ {C : Chain} {b s note : ℕ} {behind : List ℕ} (h : b < C.blocks) (K 
           let cost = least_from C (suc b) (note_goal note) in
           let added = C.price b (note_word s note) in
           let r : note / distance_unit ≡ (cost + added) % note_cycle
-          = N.remainder k ∙ ap (λ x. x % note_cycle) (N.adds-up k ∙ turned added cost) in
-          settled_of (L.at (note_goal note) (N.goal-lt k))
+          = N.remainder k ∙ ap (λ x. x % note_cycle) (N.adds_up k ∙ turned added cost) in
+          settled_of (L.at (note_goal note) (N.goal_lt k))
           ∙ ap (λ x. cost + (x + note_cycle - cost % note_cycle) % note_cycle) r
-          ∙ difference cost added (K.below b h (note_word s note)) ∙ sym (N.adds-up k ∙ turned added cost)
+          ∙ difference cost added (K.below b h (note_word s note)) ∙ sym (N.adds_up k ∙ turned added cost)
 
   pub note_fits : settled_cost behind note ≤ unreached
   unfolding least_from
@@ -103,10 +103,10 @@ module _ {l behind old row : List ℕ} {roots count v s : ℕ} (R : RootsRead l 
   S = R.seen
 
   h : v < (view_of l).goals - (view_of l).roots
-  h = omega (arith, R.count-is)
+  h = omega (arith, R.count_is_lem)
 
   p : s ≡ get_or l ((view_of l).roots + v) 0
-  p = read ∙ ap (λ x. get_or l (x + v) 0) R.roots-is
+  p = read ∙ ap (λ x. get_or l (x + v) 0) R.roots_is
 
   pub state_lt : s < most_states
   state_lt = root_lt S h p
@@ -202,7 +202,7 @@ module _ {blocks : ℕ} {last old mid behind : List ℕ} {b : ℕ} (I : InSettle
 
   module _ (C : Chain) (e : C.blocks ≡ blocks) (K : Cheap C) (L : LeftAt C blocks last) (N : NotesFrom C 0 old) where
     in_chain : b - 1 < C.blocks
-    in_chain = omega (arith, I.b-le)
+    in_chain = omega (arith, I.b_le)
 
     left_behind : LeftAt C (suc (b - 1)) behind
     left_behind = let n : b ≡ suc (b - 1) = omega arith in subst (λ c. LeftAt C c behind) n (I.left_is C e K L N)
@@ -213,7 +213,7 @@ module _ {blocks : ℕ} {last old mid behind : List ℕ} {b : ℕ} (I : InSettle
     pub row_fits : RowFits behind (row_of first mid)
     row_fits = record {
       behind_long = I.marked.long;
-      long = simp (length-take, length-drop) (omega (arith, row_inside I.b-le h I.long fits));
+      long = simp (length-take, length-drop) (omega (arith, row_inside I.b_le h I.long fits));
       small = λ s k. note_fits in_chain K I.marked left_behind (note_at s k);
     }
 
@@ -236,7 +236,7 @@ module _ {blocks : ℕ} {last old mid behind : List ℕ} {b : ℕ} (I : InSettle
               ∙ settled_is (in_chain C e K L N) K I.marked (left_behind C e K L N) (note_at C e K L N s k)
           go F (no j) =
               let none = F.none (omega arith) in
-              let u = U.at (b - 1) s (omega arith) (omega (arith, I.b-le)) k none in
+              let u = U.at (b - 1) s (omega arith) (omega (arith, I.b_le)) k none in
               B.settled.kept s none ∙ row_is s k ∙ u
               ∙ sym ((N.at (b - 1) s (omega arith) (in_chain C e K L N) k).none (omega arith))
 
@@ -249,10 +249,10 @@ module _ {blocks : ℕ} {last old mid behind : List ℕ} {b : ℕ} (I : InSettle
 
     pub settle_more : InSettle blocks last old new copy (b - 1)
     settle_more = record {
-      b_le = omega (arith, I.b-le);
+      b_le = omega (arith, I.b_le);
       long = P.long ∙ I.long;
       marked = behind_copied I.marked B.copied;
-      kept = λ i k. P.kept i (inr (omega (arith, I.b-le))) ∙ I.kept i k;
+      kept = λ i k. P.kept i (inr (omega (arith, I.b_le))) ∙ I.kept i k;
       unsettled = λ i k. P.kept i (inl k) ∙ I.unsettled i (omega arith);
       left_is = λ C e K L N. record { at = λ s k. B.copied.at s k ∙ cost_at C e K L N s k };
       costs = costs_here;

@@ -32,7 +32,7 @@ pub record Deep (s rows prices : List ℕ) (k have : ℕ) (old items : List ℕ)
       ≡ stepped_from (step_edges s) rows prices k (n_of s) 0 (take have old)
 
 n_is : {s : List ℕ} {at : View} → Seen s at → at.n ≡ n_of s
-n_is S = (viewed S.is).n-is
+n_is S = (viewed S.is).n_is
 
 module _ {s : List ℕ} {at : View} (S : Seen s at) {rows prices : List ℕ} {k have : ℕ} {old : List ℕ} where
   pub deep_start : have ≤ k → length old ≡ most_paths → Deep s rows prices k have old old have at.pairs at.symbols 0
@@ -50,13 +50,13 @@ module _ {s : List ℕ} {at : View} (S : Seen s at) {rows prices : List ℕ} {k 
       (d : Deep s rows prices k have old items count pairs symbols t) where
     pub deep_room : t < at.n → 0 < k → k ≤ most_paths → length rows ≡ rows_long → PriceRoom prices → StepRoom k t rows prices
     deep_room h some few l p =
-        record { some = some; few = few; inside = omega (arith, (near_of (laid_of S)).steps-few); rows_are = l; priced = p }
+        record { some = some; few = few; inside = omega (arith, (near_of (laid_of S)).steps_few); rows_are = l; priced = p }
 
     pub deep_each : {y edges : ℕ} → t < at.n → y ≡ get_or s (4 + at.n + t) 0 → (edges ≡ y) × (edges < 65536)
         → (t < most_symbols) × (3 + t < length s) × (0 < get_or s (3 + t) 0) × (edges ≤ most_words)
     unfolding vertex_count_of
     deep_each h y_is e_is = (
-      omega (arith, (near_of (laid_of S)).steps-few),
+      omega (arith, (near_of (laid_of S)).steps_few),
       omega (arith, count_in S h),
       omega (arith, S.sound.vertices_from t (omega (arith, n_is S))),
       (step_at S d.places h y_is e_is).edges.small.there.few,

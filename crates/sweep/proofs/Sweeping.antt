@@ -55,8 +55,8 @@ near_by {l} {at} {t} S h e =
       counts = header S;
       few = omega arith;
       pairs_in_lem = omega (arith, W.pairs_is);
-      symbols_in_lem = omega (arith, W.symbols-is);
-      near = omega (arith, W.symbols-is);
+      symbols_in_lem = omega (arith, W.symbols_is);
+      near = omega (arith, W.symbols_is);
       pairs_near = omega (arith, W.pairs_is);
     }
 
@@ -81,7 +81,7 @@ module _ {l : List ℕ} {at : View} {t before : ℕ} (S : Seen l at) {prices beh
   numbered : (k : ℕ) → edge_in pairs symbols k ≡ edge_number l (before + k)
   numbered k =
       let W = viewed S.is in
-      ap (λ f. f k) (edges_from l before (ap (λ x. x + 2 * before) W.pairs_is) (ap (λ x. x + before) W.symbols-is))
+      ap (λ f. f k) (edges_from l before (ap (λ x. x + 2 * before) W.pairs_is) (ap (λ x. x + before) W.symbols_is))
 
   -- edge k of the step, over all steps
   record InStep (k : ℕ) : Type 0 where
@@ -104,12 +104,12 @@ module _ {l : List ℕ} {at : View} {t before : ℕ} (S : Seen l at) {prices beh
   unfolding edge_count_of
   step_asked {count} {row} c r =
       let N = near_by S A.inside A.before_is in
-      let e : count ≡ edge_count_of l t = c ∙ ap (λ k. get_or l (4 + k + t) 0) N.counts.n-is in
+      let e : count ≡ edge_count_of l t = c ∙ ap (λ k. get_or l (4 + k + t) 0) N.counts.n_is in
       record {
         few = omega (arith, S.sound.edges_to t A.inside);
-        pairs_in = omega (arith, from_length l (at.pairs + 2 * before), N.pairs-in);
-        symbols_in = omega (arith, from_length l (at.symbols + before), N.symbols-in);
-        prices_in = omega (arith, from_length prices (4 * t), A.room.long, N.counts.n-le, A.inside);
+        pairs_in = omega (arith, from_length l (at.pairs + 2 * before), N.pairs_in_lem);
+        symbols_in = omega (arith, from_length l (at.symbols + before), N.symbols_in_lem);
+        prices_in = omega (arith, from_length prices (4 * t), A.room.long, N.counts.n_le, A.inside);
         behind_long = A.behind_long;
         row_long = r;
         from_small = λ k h. let i = in_step k (omega arith) in
@@ -188,7 +188,7 @@ depth_done {l} {at} {t} {before} {first} {count} {prices} {behind} {mid = mid} {
     lowered v h =
         L.at v (below v h)
         ∙ ap₂ (λ x es. min_all x (through (own S A) behind) (leaving v es)) (C.at v (omega arith))
-        (edges_are S A (c ∙ ap (λ k. get_or l (4 + k + t) 0) (viewed S.is).n-is))
+        (edges_are S A (c ∙ ap (λ k. get_or l (4 + k + t) 0) (viewed S.is).n_is))
 
     done : (cost : ℕ → ℕ → ℕ) (number : ℕ → ℕ) → Priced l prices cost → LeastRow l cost number (suc t) behind → LeastRow l cost number t new
     done cost number P R =
@@ -251,10 +251,10 @@ module _ {l : List ℕ} {at : View} (S : Seen l at) {prices old_even old_odd : L
   pub sweep_start : InSweep l prices old_even old_odd old_even old_odd at.n at.edges
   sweep_start =
       let W = viewed S.is in
-      subst (λ t. InSweep l prices old_even old_odd old_even old_odd t at.edges) (sym W.n-is)
+      subst (λ t. InSweep l prices old_even old_odd old_even old_odd t at.edges) (sym W.n_is)
       (record {
         t_le = omega arith;
-        before_is = W.edges-is;
+        before_is = W.edges_is;
         even_long = A.even_long;
         odd_long = A.odd_long;
         small = A.small;
@@ -268,7 +268,7 @@ module _ {l : List ℕ} {at : View} (S : Seen l at) {prices old_even old_odd : L
     counted =
         let e : t ≡ suc (t - 1) = omega arith in
         I.before_is ∙ ap (edges_before l) e ∙ before_more l (t - 1)
-        ∙ ap (λ k. edges_before l (t - 1) + k) (sym (c ∙ ap (λ k. get_or l (4 + k + (t - 1)) 0) (viewed S.is).n-is))
+        ∙ ap (λ k. edges_before l (t - 1) + k) (sym (c ∙ ap (λ k. get_or l (4 + k + (t - 1)) 0) (viewed S.is).n_is))
 
     -- so many can be taken off
     pub sweep_fits : count ≤ before
@@ -286,7 +286,7 @@ module _ {l : List ℕ} {at : View} (S : Seen l at) {prices old_even old_odd : L
     sweep_asked =
         let e : t ≡ suc (t - 1) = omega arith in
         record {
-          inside = omega (arith, I.t-le);
+          inside = omega (arith, I.t_le);
           before_is = omega (arith, counted);
           room = A.room;
           behind_long = long_side (suc (t - 1));
@@ -301,7 +301,7 @@ module _ {l : List ℕ} {at : View} (S : Seen l at) {prices old_even old_odd : L
     sweep_more {new_even} {new_odd} D e o =
         let z : t ≡ suc (t - 1) = omega arith in
         record {
-          t_le = omega (arith, I.t-le);
+          t_le = omega (arith, I.t_le);
           before_is = omega (arith, counted);
           even_long = e;
           odd_long = o;

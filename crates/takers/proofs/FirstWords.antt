@@ -57,7 +57,7 @@ module _ (f : ℕ → Edge) where
     where
       later : (highest f m k ≡ 0) ⊎ Highest f m k (highest f m k) → (highest f m k ≡ 0) ⊎ Highest f (suc m) k (highest f m k)
       later (inl e) = inl e
-      later (inr H) = inr (record { at = H.at; below = omega (arith, H.below); key_is = H.key-is; high_is = H.high_is })
+      later (inr H) = inr (record { at = H.at; below = omega (arith, H.below); key_is = H.key_is; high_is = H.high_is })
 
       go : (b : Bool) → eqb (key_of (f m)) k ≡ b → (c : Bool) → (highest f m k ≡ 0) ⊎ Highest f m k (highest f m k)
           → (cond b (cond c ((f m).to + 1) (highest f m k)) (highest f m k) ≡ 0)
@@ -108,7 +108,7 @@ module _ (n : ℕ) (table : List Word) (G : Table n table) (R : Rectangular n ta
           let fresh : New n table G R t deep m =
           λ j l q. fails e (in_of same_edge edge_ok edge_rf (g m) (each g m) (in_each g m j (g m) l (sym q))) in
           let k = leb-false (highest g m (key_of (g m))) (g m).to h in
-          absurd (not_last H.at H.key-is (omega (arith, H.high_is)) (new_last n table G R t deep m b fresh H.at H.below))
+          absurd (not_last H.at H.key_is (omega (arith, H.high_is)) (new_last n table G R t deep m b fresh H.at H.below))
 
   so_far : (m : ℕ) → m ≤ length table → map g (takers g m) ≡ ascending edge_less (each g m)
   unfolding takers ascending run

@@ -59,7 +59,7 @@ takers_none f words old at = record {
 module _ {f : ℕ → Edge} {words at to i key next : ℕ} {old out high : List ℕ} (c : InTakers f words old at out high to i)
     (A : ArcOf (f i) key next) where
   high_now : (before : ℕ) → before ≡ get_or high key 0 → before ≡ highest f i (key_of (f i))
-  high_now before e = e ∙ c.kept key A.key-lt ∙ ap (highest f i) A.key-is
+  high_now before e = e ∙ c.kept key A.key_lt ∙ ap (highest f i) A.key_is
 
   keep : (before now k : ℕ) → k < 4096 → before ≡ get_or high key 0 → now ≡ raised before next
       → get_or (set high key now) k 0 ≡ highest f (suc i) k
@@ -68,14 +68,14 @@ module _ {f : ℕ → Edge} {words at to i key next : ℕ} {old out high : List 
     where
       go : Dec (k ≡ key) → get_or (set high key now) k 0 ≡ cond (eqb (key_of (f i)) k) (raised (highest f i k) (f i).to) (highest f i k)
       go (yes q) =
-          let p : key_of (f i) ≡ k = sym A.key-is ∙ sym q in
-          ap (λ x. get_or (set high key now) x 0) q ∙ get_or-set_same high key now 0 (omega (arith, c.places, A.key-lt))
+          let p : key_of (f i) ≡ k = sym A.key_is ∙ sym q in
+          ap (λ x. get_or (set high key now) x 0) q ∙ get_or-set_same high key now 0 (omega (arith, c.places, A.key_lt))
           ∙ g ∙ ap₂ raised (high_now before e ∙ ap (highest f i) p) A.to_is
           ∙ sym (ap (λ b. cond b (raised (highest f i k) (f i).to) (highest f i k)) (eq-eqb (key_of (f i)) k p))
       go (no q) =
           get_or-set_other high key k now 0 q ∙ c.kept k h
           ∙ sym (ap (λ b. cond b (raised (highest f i k) (f i).to) (highest f i k))
-          (ne_eqb (key_of (f i)) k (λ p. q (sym p ∙ sym A.key-is))))
+          (ne_eqb (key_of (f i)) k (λ p. q (sym p ∙ sym A.key_is))))
 
   grow : (wanted : Bool) (out' : List ℕ) (end : ℕ) → wanted ≡ leads_higher f i → Wrote out to (cond wanted (i ∷ []) []) out' end
       → Wrote old at (takers f (suc i)) out' end
@@ -105,5 +105,5 @@ module _ {f : ℕ → Edge} {words at to i key next : ℕ} {old out high : List 
 
 pub takers_end : {f : ℕ → Edge} {words at to i : ℕ} {old out high : List ℕ} → InTakers f words old at out high to i → words ≤ i
     → Wrote old at (takers f words) out to
-takers_end {f} {words} {at} {to} {i} {old} {out} {high} c h = let e : i ≡ words = omega (arith, c.i-le) in
+takers_end {f} {words} {at} {to} {i} {old} {out} {high} c h = let e : i ≡ words = omega (arith, c.i_le) in
     subst (λ k. Wrote old at (takers f k) out to) e c.noted

@@ -74,7 +74,7 @@ module _ {m labels : List ℕ} {n : ℕ} {old out counts : List ℕ} {at row t :
       omega (arith, c.row_is)
 
   pub step_room : 8192 ≤ length old → at + length labels ≤ length out
-  step_room k = omega (arith, row_low, c.at-le, c.len, S.words)
+  step_room k = omega (arith, row_low, c.at_le, c.len, S.words)
 
   pub row_next : row + length labels ≤ 8192
   row_next = omega (arith, row_low, S.words)
@@ -96,7 +96,7 @@ module _ {m labels : List ℕ} {n : ℕ} {old out counts : List ℕ} {at row t :
       t_le = h;
       row_is = omega (arith, c.row_is, suc-mul t (length labels));
       noted = subst (λ vs. Wrote old 0 (joined_up (step_takers m labels n) t ++ vs) out' end) is_step (wrote_then c.noted W);
-      at_le = omega (arith, c.at-le, step_few);
+      at_le = omega (arith, c.at_le, step_few);
       counted = λ u l. counted u l (ℕ_discrete u t);
       places = simp length-set c.places;
       len = wrote_length W ∙ c.len;
@@ -112,10 +112,10 @@ module _ {m labels : List ℕ} {n : ℕ} {old out counts : List ℕ} {at row t :
 pub steps_end : {m labels : List ℕ} {n : ℕ} {old out counts : List ℕ} {at row t : ℕ} → InSteps m labels n old out counts at row t → n ≤ t
     → AllTaken m labels n old out at counts
 steps_end {m} {labels} {n} {old} {out} {counts} {at} {row} {t} c h =
-    let e : t ≡ n = omega (arith, c.t-le) in
+    let e : t ≡ n = omega (arith, c.t_le) in
     record {
       noted = subst (λ k. Wrote old 0 (joined_up (step_takers m labels n) k) out at) e c.noted;
       counted = λ u l. c.counted u (omega arith);
       places = c.places;
-      few = subst (λ k. at ≤ k * length labels) e (omega (arith, c.at-le, c.row_is));
+      few = subst (λ k. at ≤ k * length labels) e (omega (arith, c.at_le, c.row_is));
     }

@@ -251,4 +251,4 @@ module _ (n : ℕ) (table : List Word) (G : Table n table) (R : Rectangular n ta
   pub new_last : (i : ℕ) → i < length table → New i → (j : ℕ) → j < i → T (edge_less (edge_of n table t j) (edge_of n table t i))
   new_last i b fresh j less =
       let F = first_on j in
-      subst (λ e. T (edge_less e (edge_of n table t i))) F.same (edges_rise i F.at_first b (omega (arith, F.no-later)) fresh F.new)
+      subst (λ e. T (edge_less e (edge_of n table t i))) F.same (edges_rise i F.at_first b (omega (arith, F.no_later)) fresh F.new)

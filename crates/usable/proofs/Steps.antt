@@ -46,7 +46,7 @@ pub record StepRead (l : List ℕ) (at : View) (t before count q froms tos : ℕ
 count_read : {l : List ℕ} {at : View} (t : ℕ) {x v : ℕ} → Laid l at → x ≡ get_or l (4 + at.n + t) 0 → (v ≡ x) × (v < 65536)
     → v ≡ edge_count_of l t
 unfolding edge_count_of
-count_read {l} t L e g = g.0 ∙ e ∙ ap (λ m. get_or l (4 + m + t) 0) (viewed L.is).n-is
+count_read {l} t L e g = g.0 ∙ e ∙ ap (λ m. get_or l (4 + m + t) 0) (viewed L.is).n_is
 
 pub step_read : {l : List ℕ} {at : View} {t before x count y froms z tos q : ℕ} → Laid l at × (t < at.n) × (before ≡ edges_before l t)
     → x ≡ get_or l (4 + at.n + t) 0 → (count ≡ x) × (count < 65536) → y ≡ get_or l (3 + t) 0 → (froms ≡ y) × (froms < 65536)
@@ -57,7 +57,7 @@ step_read {t = t} p x_is count_is_lem y_is froms-is z-is tos-is q_is_lem = let a
   inside = omega (arith, p.1);
   before_is = p.2;
   count_is = count_read t p.0 x_is count_is_lem;
-  q_is = q_is_lem.0 ∙ at_is.q-is;
+  q_is = q_is_lem.0 ∙ at_is.q_is_lem;
   froms_is = froms-is.0 ∙ y_is;
   tos_is = tos-is.0 ∙ z-is;
 }
@@ -97,7 +97,7 @@ module _ {l : List ℕ} {at : View} {t before count q froms tos : ℕ} (r : Step
       → b ≡ step_right l t
   unfolding step_edge
   step_is {b} e =
-      let n_is = (viewed r.laid.is).n-is in
+      let n_is = (viewed r.laid.is).n_is in
       let d = e ∙ ap (λ f. edges_right f count q froms tos (ltb (t + 1) at.n) (ltb 0 t))
       (edges_from l (edges_before l t) pairs_are symbols_are) in
       d ∙ rw (r.count_is, r.q_is, r.froms_is, r.tos_is, n_is) (edges_right_lem l t)
@@ -175,7 +175,7 @@ module _ (l : List ℕ) where
         counts = holds_by b_is b-yes
 
     all_steps : {a : Bool} → a ≡ all (step_right l) at.n → a ≡ all (step_right l) (n_of l)
-    all_steps e = e ∙ ap (all (step_right l)) (viewed at_is).n-is
+    all_steps e = e ∙ ap (all (step_right l)) (viewed at_is).n_is
 
     pub part_steps : {a : Bool} → a ≡ all (step_right l) at.n → not a ≡ true → Unusable ≡ part_of l
     part_steps e t =

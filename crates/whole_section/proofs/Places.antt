@@ -38,50 +38,50 @@ module _ {s : List ℕ} {at : View} (S : Seen s at) where
   pub places_start : StepPlaces s at.pairs at.symbols 0
   places_start = record {
     pairs_at = omega (arith, at_is.pairs_is, before_none s);
-    symbols_at = omega (arith, at_is.symbols-is, before_none s);
+    symbols_at = omega (arith, at_is.symbols_is, before_none s);
   }
 
   pub counts_near : 4 + at.n < 13
-  counts_near = omega (arith, near.steps-few)
+  counts_near = omega (arith, near.steps_few)
 
   module _ {t : ℕ} (h : t < at.n) where
     pub count_near : 4 + at.n + t < 21
-    count_near = omega (arith, near.steps-few)
+    count_near = omega (arith, near.steps_few)
 
     pub count_in : 4 + at.n + t < length s
-    count_in = let N = near in let v = at_is in omega (arith, (parts s).roots-at)
+    count_in = let N = near in let v = at_is in omega (arith, (parts s).roots_at)
 
     pub next_near : t + 1 < 21
-    next_near = omega (arith, near.steps-few)
+    next_near = omega (arith, near.steps_few)
 
   module _ {pairs symbols t : ℕ} (p : StepPlaces s pairs symbols t) (h : t < at.n) where
     deep : t < n_of s
-    deep = omega (arith, at_is.n-is)
+    deep = omega (arith, at_is.n_is)
 
     before_among : edges_before s t ≤ at.edges
     before_among = before_in (laid_of S) (le_of_lt h) refl
 
     pairs_first : pairs ≤ at.symbols
-    pairs_first = omega (arith, near.pairs-to, p.pairs_at, at_is.pairs_is, before_among)
+    pairs_first = omega (arith, near.pairs_to, p.pairs_at, at_is.pairs_is, before_among)
 
     symbols_first : symbols ≤ at.end
-    symbols_first = omega (arith, near.symbols-to, p.symbols_at, at_is.symbols-is, before_among)
+    symbols_first = omega (arith, near.symbols_to, p.symbols_at, at_is.symbols_is, before_among)
 
     module _ {y count : ℕ} (y_is : y ≡ get_or s (4 + at.n + t) 0) (count_is_lem : (count ≡ y) × (count < 65536)) where
       pub pairs_near : pairs + 2 * count < 200000
-      pairs_near = omega (arith, pairs_first, near.symbols-to, near.end-near, count_is_lem.1)
+      pairs_near = omega (arith, pairs_first, near.symbols_to, near.end_near, count_is_lem.1)
 
       pub symbols_near : symbols + count < 200000
-      symbols_near = omega (arith, symbols_first, near.end-near, count_is_lem.1)
+      symbols_near = omega (arith, symbols_first, near.end_near, count_is_lem.1)
 
       edges_count : count ≡ edge_count_of s t
       unfolding edge_count_of
-      edges_count = count_is_lem.0 ∙ y_is ∙ ap (λ m. get_or s (4 + m + t) 0) at_is.n-is
+      edges_count = count_is_lem.0 ∙ y_is ∙ ap (λ m. get_or s (4 + m + t) 0) at_is.n_is
 
       pub step_at : StepAt s pairs symbols count
       step_at = record {
-        pairs_in = omega (arith, pairs_first, near.symbols-to, near.end-in);
-        symbols_in = omega (arith, symbols_first, near.end-in);
+        pairs_in = omega (arith, pairs_first, near.symbols_to, near.end_in);
+        symbols_in = omega (arith, symbols_first, near.end_in);
         edges = step_in S.sound t deep p.pairs_at p.symbols_at edges_count;
       }
 

@@ -44,7 +44,7 @@ module _ {f : ℕ → List ℕ} {old : List ℕ} {start : ℕ} {codes : List ℕ
         let w : Wrote new at (a ∷ b ∷ []) (set (set new at a) (at + 1) b) (at + 2) = record { new_is = rw (add-one at); end_is = refl } in
         rw q (wrote_then p.so_far w);
     len = length-set (set new at a) (at + 1) b ∙ length-set new at a ∙ p.len;
-    at_is = omega (arith, p.at-is);
+    at_is = omega (arith, p.at_is);
   }
 
   pub pieces_all : {new : List ℕ} {at i : ℕ} → Pieces f old start codes count new at i → count ≤ i

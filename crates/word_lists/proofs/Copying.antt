@@ -57,5 +57,5 @@ copy_more {file} {roots} {labels} {goals} {count} {i} {at} {a} {b} {c} C p x y z
 
 pub copy_end : {file roots labels goals : List ℕ} {count i : ℕ} → InCopy file count roots labels goals i → count ≤ i
     → Copied file count roots labels goals
-copy_end {file} {roots} {labels} {goals} {count} {i} C h = let e : i ≡ count = omega (arith, C.i-le) in
+copy_end {file} {roots} {labels} {goals} {count} {i} C h = let e : i ≡ count = omega (arith, C.i_le) in
     subst (λ k. Copied file k roots labels goals) e C.copied

@@ -23,7 +23,7 @@ sub-b : tie.Need-overflow-sub-b invariant-loop decreases-loop
 sub-b c = search rules
 
 shared-slice-read-widened : tie.Need-shared-slice-read-widened invariant-loop decreases-loop
-shared-slice-read-widened c = search (rules, c.before.before.loop.invariant.b-le)
+shared-slice-read-widened c = search (rules, c.before.before.loop.invariant.b_le)
 
 widened-requires : tie.Need-widened-requires invariant-loop decreases-loop
 widened-requires c κs = search rules
@@ -33,7 +33,7 @@ mul_at c =
     let turn = c.before.before in
     let head = turn.before in
     let entry = head.before.before.before.before.before.before in
-    let B = block_at entry.requires.0 (one_below head.loop.invariant.b-le turn.loop-test.true) c.widened.ensures.0 in
+    let B = block_at entry.requires.0 (one_below head.loop.invariant.b_le turn.loop-test.true) c.widened.ensures.0 in
     omega arith
 
 array-copy-out-at : tie.Need-array-copy-out-at invariant-loop decreases-loop
@@ -41,7 +41,7 @@ array-copy-out-at c =
     let turn = c.before.before in
     let head = turn.before in
     let entry = head.before.before.before.before.before.before in
-    let B = block_at entry.requires.0 (one_below head.loop.invariant.b-le turn.loop-test.true) c.widened.ensures.0 in
+    let B = block_at entry.requires.0 (one_below head.loop.invariant.b_le turn.loop-test.true) c.widened.ensures.0 in
     omega arith
 
 mul-start : tie.Need-overflow-mul-start invariant-loop decreases-loop
@@ -49,7 +49,7 @@ mul-start c =
     let turn = c.before.before.before in
     let head = turn.before in
     let entry = head.before.before.before.before.before.before in
-    let B = block_at entry.requires.0 (one_below head.loop.invariant.b-le turn.loop-test.true) c.before.widened.ensures.0 in
+    let B = block_at entry.requires.0 (one_below head.loop.invariant.b_le turn.loop-test.true) c.before.widened.ensures.0 in
     omega arith
 
 element-copy-out-start : tie.Need-element-copy-out-start invariant-loop decreases-loop
@@ -57,7 +57,7 @@ element-copy-out-start c =
     let turn = c.before.before.before in
     let head = turn.before in
     let entry = head.before.before.before.before.before.before in
-    let B = block_at entry.requires.0 (one_below head.loop.invariant.b-le turn.loop-test.true) c.before.widened.ensures.0 in
+    let B = block_at entry.requires.0 (one_below head.loop.invariant.b_le turn.loop-test.true) c.before.widened.ensures.0 in
     omega arith
 
 mul-word : tie.Need-overflow-mul-word invariant-loop decreases-loop
@@ -66,7 +66,7 @@ mul-word c =
     let turn = widened.before.before in
     let head = turn.before in
     let entry = head.before.before.before.before.before.before in
-    let B = block_at entry.requires.0 (one_below head.loop.invariant.b-le turn.loop-test.true) widened.widened.ensures.0 in
+    let B = block_at entry.requires.0 (one_below head.loop.invariant.b_le turn.loop-test.true) widened.widened.ensures.0 in
     omega arith
 
 shared-slice-read-word : tie.Need-shared-slice-read-word invariant-loop decreases-loop
@@ -75,8 +75,8 @@ shared-slice-read-word c =
     let turn = widened.before.before in
     let head = turn.before in
     let entry = head.before.before.before.before.before.before in
-    let B = block_at entry.requires.0 (one_below head.loop.invariant.b-le turn.loop-test.true) widened.widened.ensures.0 in
-    omega (arith, head.loop.invariant.b-le, entry.requires.0.received_long, entry.requires.0.erased_long)
+    let B = block_at entry.requires.0 (one_below head.loop.invariant.b_le turn.loop-test.true) widened.widened.ensures.0 in
+    omega (arith, head.loop.invariant.b_le, entry.requires.0.received_long, entry.requires.0.erased_long)
 
 shared-slice-read-mask : tie.Need-shared-slice-read-mask invariant-loop decreases-loop
 shared-slice-read-mask c =
@@ -84,8 +84,8 @@ shared-slice-read-mask c =
     let turn = widened.before.before in
     let head = turn.before in
     let entry = head.before.before.before.before.before.before in
-    let B = block_at entry.requires.0 (one_below head.loop.invariant.b-le turn.loop-test.true) widened.widened.ensures.0 in
-    omega (arith, head.loop.invariant.b-le, entry.requires.0.received_long, entry.requires.0.erased_long)
+    let B = block_at entry.requires.0 (one_below head.loop.invariant.b_le turn.loop-test.true) widened.widened.ensures.0 in
+    omega (arith, head.loop.invariant.b_le, entry.requires.0.received_long, entry.requires.0.erased_long)
 
 mul-first : tie.Need-overflow-mul-first invariant-loop decreases-loop
 mul-first c =
@@ -93,7 +93,7 @@ mul-first c =
     let turn = widened.before.before in
     let head = turn.before in
     let entry = head.before.before.before.before.before.before in
-    let B = block_at entry.requires.0 (one_below head.loop.invariant.b-le turn.loop-test.true) widened.widened.ensures.0 in
+    let B = block_at entry.requires.0 (one_below head.loop.invariant.b_le turn.loop-test.true) widened.widened.ensures.0 in
     omega arith
 
 add-next : tie.Need-overflow-add-next invariant-loop decreases-loop
@@ -102,7 +102,7 @@ add-next c =
     let turn = widened.before.before in
     let head = turn.before in
     let entry = head.before.before.before.before.before.before in
-    let B = block_at entry.requires.0 (one_below head.loop.invariant.b-le turn.loop-test.true) widened.widened.ensures.0 in
+    let B = block_at entry.requires.0 (one_below head.loop.invariant.b_le turn.loop-test.true) widened.widened.ensures.0 in
     omega arith
 
 mul-fill-block : tie.Need-overflow-mul-fill-block invariant-loop decreases-loop
@@ -111,7 +111,7 @@ mul-fill-block c =
     let turn = widened.before.before in
     let head = turn.before in
     let entry = head.before.before.before.before.before.before in
-    let B = block_at entry.requires.0 (one_below head.loop.invariant.b-le turn.loop-test.true) widened.widened.ensures.0 in
+    let B = block_at entry.requires.0 (one_below head.loop.invariant.b_le turn.loop-test.true) widened.widened.ensures.0 in
     omega arith
 
 sub-fill-block : tie.Need-overflow-sub-fill-block invariant-loop decreases-loop
@@ -120,7 +120,7 @@ sub-fill-block c =
     let turn = widened.before.before in
     let head = turn.before in
     let entry = head.before.before.before.before.before.before in
-    let B = block_at entry.requires.0 (one_below head.loop.invariant.b-le turn.loop-test.true) widened.widened.ensures.0 in
+    let B = block_at entry.requires.0 (one_below head.loop.invariant.b_le turn.loop-test.true) widened.widened.ensures.0 in
     omega arith
 
 part-fill-block-start : tie.Need-slice-bounds-fill-block-start invariant-loop decreases-loop
@@ -129,7 +129,7 @@ part-fill-block-start c =
     let turn = widened.before.before in
     let head = turn.before in
     let entry = head.before.before.before.before.before.before in
-    let B = block_at entry.requires.0 (one_below head.loop.invariant.b-le turn.loop-test.true) widened.widened.ensures.0 in
+    let B = block_at entry.requires.0 (one_below head.loop.invariant.b_le turn.loop-test.true) widened.widened.ensures.0 in
     omega arith
 
 part-fill-block-end : tie.Need-slice-bounds-fill-block-end invariant-loop decreases-loop
@@ -141,7 +141,7 @@ mul-fill-block-2 c =
     let turn = widened.before.before in
     let head = turn.before in
     let entry = head.before.before.before.before.before.before in
-    let B = block_at entry.requires.0 (one_below head.loop.invariant.b-le turn.loop-test.true) widened.widened.ensures.0 in
+    let B = block_at entry.requires.0 (one_below head.loop.invariant.b_le turn.loop-test.true) widened.widened.ensures.0 in
     omega arith
 
 sub-fill-block-2 : tie.Need-overflow-sub-fill-block-2 invariant-loop decreases-loop
@@ -150,7 +150,7 @@ sub-fill-block-2 c =
     let turn = widened.before.before in
     let head = turn.before in
     let entry = head.before.before.before.before.before.before in
-    let B = block_at entry.requires.0 (one_below head.loop.invariant.b-le turn.loop-test.true) widened.widened.ensures.0 in
+    let B = block_at entry.requires.0 (one_below head.loop.invariant.b_le turn.loop-test.true) widened.widened.ensures.0 in
     omega arith
 
 part-fill-block-start-2 : tie.Need-slice-bounds-fill-block-start-2 invariant-loop decreases-loop
@@ -158,7 +158,7 @@ part-fill-block-start-2 c =
     let turn = c.before.before.before.before.before.before.before.before in
     let head = turn.before in
     let entry = head.before.before.before.before.before.before in
-    let B = row_inside head.loop.invariant.b-le turn.loop-test.true head.loop.invariant.long entry.requires.2 in
+    let B = row_inside head.loop.invariant.b_le turn.loop-test.true head.loop.invariant.long entry.requires.2 in
     omega arith
 
 part-fill-block-end-2 : tie.Need-slice-bounds-fill-block-end-2 invariant-loop decreases-loop
@@ -166,7 +166,7 @@ part-fill-block-end-2 c =
     let turn = c.before.before.before.before.before.before.before.before in
     let head = turn.before in
     let entry = head.before.before.before.before.before.before in
-    let B = row_inside head.loop.invariant.b-le turn.loop-test.true head.loop.invariant.long entry.requires.2 in
+    let B = row_inside head.loop.invariant.b_le turn.loop-test.true head.loop.invariant.long entry.requires.2 in
     omega arith
 
 fill-block-requires : tie.Need-fill-block-requires invariant-loop decreases-loop
@@ -177,8 +177,8 @@ fill-block-requires c κs =
     let entry = head.before.before.before.before.before.before in
     let I = head.loop.invariant in
     let h = turn.loop-test.true in (
-      (block_at entry.requires.0 (one_below I.b-le h) widened.widened.ensures.0).seen,
-      simp (length-take, length-drop) (omega (arith, row_inside I.b-le h I.long entry.requires.2)),
+      (block_at entry.requires.0 (one_below I.b_le h) widened.widened.ensures.0).seen,
+      simp (length-take, length-drop) (omega (arith, row_inside I.b_le h I.long entry.requires.2)),
       I.working,
     )
 
@@ -197,9 +197,9 @@ loop-again c =
     let I = head.loop.invariant in
     let h = turn.loop-test.true in
     let E = fill_block.fill-block.ensures in
-    let A = block_at entry.requires.0 (one_below I.b-le h) widened.widened.ensures.0 in
-    fill_more I h A.part-is E.0 E.1
-    (row_back E.0.passed.notes_long (row_inside I.b-le h I.long entry.requires.2))
+    let A = block_at entry.requires.0 (one_below I.b_le h) widened.widened.ensures.0 in
+    fill_more I h A.part_is E.0 E.1
+    (row_back E.0.passed.notes_long (row_inside I.b_le h I.long entry.requires.2))
 
 same_length : tie.Need-same-length invariant-loop decreases-loop
 same_length c = c.before.loop.invariant.long

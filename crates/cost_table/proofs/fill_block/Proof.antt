@@ -9,7 +9,7 @@ use Rattle.cost_table.proofs.fill_block.Tie as tie
 put-prices-requires : tie.Need-put-prices-requires
 put-prices-requires c κs =
     let entry = c.before.before.before in
-    let H = header entry.requires.0 in (omega (arith, H.n-is, H.n-le), entry.requires.2.room)
+    let H = header entry.requires.0 in (omega (arith, H.n_is, H.n_le), entry.requires.2.room)
 
 pass-block-requires : tie.Need-pass-block-requires
 pass-block-requires c κs = search rules
@@ -24,7 +24,7 @@ returns c =
     let entry = put_prices.before.before.before.before in
     let P = put_prices.put-prices.ensures in
     let B = pass_block.pass-block.ensures in (
-      block_filled (header entry.requires.0).n-is P B.0,
+      block_filled (header entry.requires.0).n_is P B.0,
       record { left_long = B.0.long; room = P.room; even_long = B.1; odd_long = B.2 },
     )
 

@@ -32,7 +32,7 @@ returns-3 : tie.Need-returns-3
 returns-3 c =
     let d = c.before.before in
     let e = d.before in
-    here _ e.before.length-bad.ensures e.if1.false d.word_count.ensures c.before.if2.false c.word-of.ensures
+    here _ e.before.length-bad.ensures e.if1.false d.word_count.ensures c.before.if2.false c.word_of_lem.ensures
 
 pub word_at_spec : {M : Type 1} → statement M
 word_at_spec =

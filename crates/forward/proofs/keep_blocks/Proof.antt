@@ -106,31 +106,31 @@ mul_at : tie.Need-overflow-mul-at invariant-loop decreases-loop
 mul_at c =
     let t = c in
     let A = held_at (entry (ended (head t))).pre.0 t.before.before.loop-test.true t.widened3.ensures.0 in
-    omega (arith, A.index-lt, A.few)
+    omega (arith, A.index_lt, A.few)
 
 array-copy-out-at : tie.Need-array-copy-out-at invariant-loop decreases-loop
 array-copy-out-at c =
     let t = c in
     let A = held_at (entry (ended (head t))).pre.0 t.before.before.loop-test.true t.widened3.ensures.0 in
-    omega (arith, A.index-lt, A.few)
+    omega (arith, A.index_lt, A.few)
 
 mul-first : tie.Need-overflow-mul-first invariant-loop decreases-loop
 mul-first c =
     let t = c.before in
     let A = held_at (entry (ended (head t))).pre.0 t.before.before.loop-test.true t.widened3.ensures.0 in
-    omega (arith, A.index-lt, A.few)
+    omega (arith, A.index_lt, A.few)
 
 element-copy-out-first : tie.Need-element-copy-out-first invariant-loop decreases-loop
 element-copy-out-first c =
     let t = c.before in
     let A = held_at (entry (ended (head t))).pre.0 t.before.before.loop-test.true t.widened3.ensures.0 in
-    omega (arith, A.index-lt, A.few)
+    omega (arith, A.index_lt, A.few)
 
 mul-word : tie.Need-overflow-mul-word invariant-loop decreases-loop
 mul-word c =
     let t = c.before.before in
     let A = held_at (entry (ended (head t))).pre.0 t.before.before.loop-test.true t.widened3.ensures.0 in
-    omega (arith, A.index-lt, A.few)
+    omega (arith, A.index_lt, A.few)
 
 shared-slice-read-word : tie.Need-shared-slice-read-word invariant-loop decreases-loop
 shared-slice-read-word c =

@@ -22,7 +22,7 @@ entered c = c.before.before.before.before.before
 
 put-prices-requires : tie.Need-put-prices-requires
 put-prices-requires c κs =
-    let p = c.before.before.requires in let H = header p.0 in (omega (arith, H.n-is, H.n-le), p.9.room)
+    let p = c.before.before.requires in let H = header p.0 in (omega (arith, H.n_is, H.n_le), p.9.room)
 
 put-rows-requires : tie.Need-put-rows-requires
 put-rows-requires c κs = search rules

@@ -38,14 +38,14 @@ add-put-pairs : tie.Need-overflow-add-put-pairs invariant-loop decreases-loop
 add-put-pairs c =
     let turn = c.before.before.before in
     let entry = turn.before.before.before.before.before in
-    omega (arith, (step_words entry.requires.1 (search rules) turn.loop.invariant.0.lo-is c.wide.ensures.0).inside)
+    omega (arith, (step_words entry.requires.1 (search rules) turn.loop.invariant.0.lo_is c.wide.ensures.0).inside)
 
 put-pairs-requires : tie.Need-put-pairs-requires invariant-loop decreases-loop
 put-pairs-requires c κs =
     let at_wide = c.before in
     let turn = at_wide.before.before.before in
     let entry = turn.before.before.before.before.before in (
-      step_words entry.requires.1 (search rules) turn.loop.invariant.0.lo-is at_wide.wide.ensures.0,
+      step_words entry.requires.1 (search rules) turn.loop.invariant.0.lo_is at_wide.wide.ensures.0,
       row_room entry.requires.0 turn.loop.invariant.1 (search rules),
       omega (arith, all_room entry.requires.1 turn.loop.invariant.0 (search rules) at_wide.wide.ensures.0 entry.requires.2),
     )
@@ -56,7 +56,7 @@ add-lo c =
     let at_wide = at_put.before.before in
     let turn = at_wide.before.before.before in
     let entry = turn.before.before.before.before.before in
-    omega (arith, (step_words entry.requires.1 (search rules) turn.loop.invariant.0.lo-is at_wide.wide.ensures.0).inside)
+    omega (arith, (step_words entry.requires.1 (search rules) turn.loop.invariant.0.lo_is at_wide.wide.ensures.0).inside)
 
 add_row : tie.Need-overflow-add-row invariant-loop decreases-loop
 add_row c =

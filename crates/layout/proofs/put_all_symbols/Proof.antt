@@ -36,14 +36,14 @@ add-put-symbols : tie.Need-overflow-add-put-symbols invariant-loop decreases-loo
 add-put-symbols c =
     let turn = c.before.before.before in
     let entry = turn.before.before.before.before.before in
-    omega (arith, (step_words entry.requires.1 (search rules) turn.loop.invariant.lo-is c.wide.ensures.0).inside)
+    omega (arith, (step_words entry.requires.1 (search rules) turn.loop.invariant.lo_is c.wide.ensures.0).inside)
 
 put-symbols-requires : tie.Need-put-symbols-requires invariant-loop decreases-loop
 put-symbols-requires c κs =
     let at_wide = c.before in
     let turn = at_wide.before.before.before in
     let entry = turn.before.before.before.before.before in (
-      step_words entry.requires.1 (search rules) turn.loop.invariant.lo-is at_wide.wide.ensures.0,
+      step_words entry.requires.1 (search rules) turn.loop.invariant.lo_is at_wide.wide.ensures.0,
       omega (arith, all_room entry.requires.1 turn.loop.invariant (search rules) at_wide.wide.ensures.0 entry.requires.2),
     )
 
@@ -53,7 +53,7 @@ add-lo c =
     let at_wide = at_put.before.before in
     let turn = at_wide.before.before.before in
     let entry = turn.before.before.before.before.before in
-    omega (arith, (step_words entry.requires.1 (search rules) turn.loop.invariant.lo-is at_wide.wide.ensures.0).inside)
+    omega (arith, (step_words entry.requires.1 (search rules) turn.loop.invariant.lo_is at_wide.wide.ensures.0).inside)
 
 add-t : tie.Need-overflow-add-t invariant-loop decreases-loop
 add-t c = search rules

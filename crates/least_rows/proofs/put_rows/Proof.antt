@@ -122,7 +122,7 @@ save-side-requires-2 c κs =
     let D = lower.lower-side.ensures in
     let I = head.loop.invariant in
     let J = sweep_more S A I.0 turn.loop-test.true wide.wide.ensures.0 D.0 D.1 D.2 in
-    save_asked S J.t-le c.before.wide2.ensures.0 D.0.long J.small I.1.long
+    save_asked S J.t_le c.before.wide2.ensures.0 D.0.long J.small I.1.long
 
 loop-less : tie.Need-loop-smaller invariant-loop decreases-loop
 loop-less c = search rules

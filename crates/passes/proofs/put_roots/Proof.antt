@@ -55,7 +55,7 @@ cost-of-requires : tie.Need-cost-of-requires invariant-loop decreases-loop
 cost-of-requires c κs =
     let head = c.before.before.before.before in
     let entry = head.before.before.before.before.before.before.before.before.before in
-    entry.requires.1.small head.loop.v (omega (arith, (roots_at entry.requires.0).count-is))
+    entry.requires.1.small head.loop.v (omega (arith, (roots_at entry.requires.0).count_is_lem))
 
 mul_left : tie.Need-overflow-mul-left invariant-loop decreases-loop
 mul_left c =
@@ -91,7 +91,7 @@ slice-write-notes c =
       arith,
       head.loop.invariant.0.notes_long,
       (state_read (roots_at entry.requires.0) turn.loop-test.true wide.wide.ensures.0
-          ).s-lt,
+          ).s_lt,
     )
 
 add-v : tie.Need-overflow-add-v invariant-loop decreases-loop

@@ -15,7 +15,7 @@ enum-known-part c = search rules
 put-words-requires : tie.Need-put-words-requires
 put-words-requires c κs = let p = c.before.before in let u = p.before.before in
     let F = whole_filled u.before.before.before.args.section.now (sym p.part.given.1 ∙ u.section-of.ensures) in
-    (F.seen, F.is-section)
+    (F.seen, F.is_section_lem)
 
 enum_told : tie.Need-enum-told
 enum_told c = search rules

@@ -15,7 +15,7 @@ start u = u.before.before.before
 there : (p : tie.After-part) → is_section (start p.before.before).args.b.now ≡ true
 there p =
     let u = p.before.before in
-    (whole_filled (start u).args.b.now (sym p.part.given.1 ∙ u.section-of.ensures)).is-section
+    (whole_filled (start u).args.b.now (sym p.part.given.1 ∙ u.section-of.ensures)).is_section_lem
 
 section-of-requires : tie.Need-section-of-requires
 section-of-requires c κs = search rules

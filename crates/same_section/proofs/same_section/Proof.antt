@@ -16,7 +16,7 @@ compare-requires : tie.Need-compare-requires
 compare-requires c κs =
     let p = c.before in let u = p.before.before in
     let F = whole_filled u.before.before.before.args.a.now (sym p.part.given.1 ∙ u.section-of.ensures) in
-    (F.seen, F.is-section)
+    (F.seen, F.is_section_lem)
 
 enum_told : tie.Need-enum-told
 enum_told c = search rules

@@ -29,7 +29,7 @@ sub-b : tie.Need-overflow-sub-b invariant-loop decreases-loop
 sub-b c = search rules
 
 shared-slice-read-widened : tie.Need-shared-slice-read-widened invariant-loop decreases-loop
-shared-slice-read-widened c = search (rules, c.before.before.loop.invariant.b-le)
+shared-slice-read-widened c = search (rules, c.before.before.loop.invariant.b_le)
 
 widened-requires : tie.Need-widened-requires invariant-loop decreases-loop
 widened-requires c κs = search rules
@@ -39,7 +39,7 @@ mul-start c =
     let turn = c.before.before in
     let head = turn.before in
     let entry = head.before.before.before.before.before.before.before in
-    let B = block_at entry.requires.ready (one_below head.loop.invariant.b-le turn.loop-test.true) c.widened.ensures.0 in
+    let B = block_at entry.requires.ready (one_below head.loop.invariant.b_le turn.loop-test.true) c.widened.ensures.0 in
     omega arith
 
 element-copy-out-start : tie.Need-element-copy-out-start invariant-loop decreases-loop
@@ -47,7 +47,7 @@ element-copy-out-start c =
     let turn = c.before.before in
     let head = turn.before in
     let entry = head.before.before.before.before.before.before.before in
-    let B = block_at entry.requires.ready (one_below head.loop.invariant.b-le turn.loop-test.true) c.widened.ensures.0 in
+    let B = block_at entry.requires.ready (one_below head.loop.invariant.b_le turn.loop-test.true) c.widened.ensures.0 in
     omega arith
 
 mul-row : tie.Need-overflow-mul-row invariant-loop decreases-loop
@@ -56,7 +56,7 @@ mul-row c =
     let turn = widened.before.before in
     let head = turn.before in
     let entry = head.before.before.before.before.before.before.before in
-    let B = block_at entry.requires.ready (one_below head.loop.invariant.b-le turn.loop-test.true) widened.widened.ensures.0 in
+    let B = block_at entry.requires.ready (one_below head.loop.invariant.b_le turn.loop-test.true) widened.widened.ensures.0 in
     omega arith
 
 add-next : tie.Need-overflow-add-next invariant-loop decreases-loop
@@ -65,7 +65,7 @@ add-next c =
     let turn = widened.before.before in
     let head = turn.before in
     let entry = head.before.before.before.before.before.before.before in
-    let B = block_at entry.requires.ready (one_below head.loop.invariant.b-le turn.loop-test.true) widened.widened.ensures.0 in
+    let B = block_at entry.requires.ready (one_below head.loop.invariant.b_le turn.loop-test.true) widened.widened.ensures.0 in
     omega arith
 
 mul-settle-block : tie.Need-overflow-mul-settle-block invariant-loop decreases-loop
@@ -74,7 +74,7 @@ mul-settle-block c =
     let turn = widened.before.before in
     let head = turn.before in
     let entry = head.before.before.before.before.before.before.before in
-    let B = block_at entry.requires.ready (one_below head.loop.invariant.b-le turn.loop-test.true) widened.widened.ensures.0 in
+    let B = block_at entry.requires.ready (one_below head.loop.invariant.b_le turn.loop-test.true) widened.widened.ensures.0 in
     omega arith
 
 sub-settle-block : tie.Need-overflow-sub-settle-block invariant-loop decreases-loop
@@ -83,7 +83,7 @@ sub-settle-block c =
     let turn = widened.before.before in
     let head = turn.before in
     let entry = head.before.before.before.before.before.before.before in
-    let B = block_at entry.requires.ready (one_below head.loop.invariant.b-le turn.loop-test.true) widened.widened.ensures.0 in
+    let B = block_at entry.requires.ready (one_below head.loop.invariant.b_le turn.loop-test.true) widened.widened.ensures.0 in
     omega arith
 
 part-settle-block-start : tie.Need-slice-bounds-settle-block-start invariant-loop decreases-loop
@@ -92,7 +92,7 @@ part-settle-block-start c =
     let turn = widened.before.before in
     let head = turn.before in
     let entry = head.before.before.before.before.before.before.before in
-    let B = block_at entry.requires.ready (one_below head.loop.invariant.b-le turn.loop-test.true) widened.widened.ensures.0 in
+    let B = block_at entry.requires.ready (one_below head.loop.invariant.b_le turn.loop-test.true) widened.widened.ensures.0 in
     omega arith
 
 part-settle-block-end : tie.Need-slice-bounds-settle-block-end invariant-loop decreases-loop
@@ -104,7 +104,7 @@ mul-settle-block-2 c =
     let turn = widened.before.before in
     let head = turn.before in
     let entry = head.before.before.before.before.before.before.before in
-    let B = block_at entry.requires.ready (one_below head.loop.invariant.b-le turn.loop-test.true) widened.widened.ensures.0 in
+    let B = block_at entry.requires.ready (one_below head.loop.invariant.b_le turn.loop-test.true) widened.widened.ensures.0 in
     omega arith
 
 sub-settle-block-2 : tie.Need-overflow-sub-settle-block-2 invariant-loop decreases-loop
@@ -113,7 +113,7 @@ sub-settle-block-2 c =
     let turn = widened.before.before in
     let head = turn.before in
     let entry = head.before.before.before.before.before.before.before in
-    let B = block_at entry.requires.ready (one_below head.loop.invariant.b-le turn.loop-test.true) widened.widened.ensures.0 in
+    let B = block_at entry.requires.ready (one_below head.loop.invariant.b_le turn.loop-test.true) widened.widened.ensures.0 in
     omega arith
 
 part-settle-block-start-2 : tie.Need-slice-bounds-settle-block-start-2 invariant-loop decreases-loop
@@ -121,7 +121,7 @@ part-settle-block-start-2 c =
     let turn = c.before.before.before.before.before in
     let head = turn.before in
     let entry = head.before.before.before.before.before.before.before in
-    let R = row_inside head.loop.invariant.b-le turn.loop-test.true head.loop.invariant.long entry.requires.long in
+    let R = row_inside head.loop.invariant.b_le turn.loop-test.true head.loop.invariant.long entry.requires.long in
     omega arith
 
 part-settle-block-end-2 : tie.Need-slice-bounds-settle-block-end-2 invariant-loop decreases-loop
@@ -129,7 +129,7 @@ part-settle-block-end-2 c =
     let turn = c.before.before.before.before.before in
     let head = turn.before in
     let entry = head.before.before.before.before.before.before.before in
-    let R = row_inside head.loop.invariant.b-le turn.loop-test.true head.loop.invariant.long entry.requires.long in
+    let R = row_inside head.loop.invariant.b_le turn.loop-test.true head.loop.invariant.long entry.requires.long in
     omega arith
 
 settle-block-requires : tie.Need-settle-block-requires invariant-loop decreases-loop
@@ -139,7 +139,7 @@ settle-block-requires c κs =
     let head = turn.before in
     let entry = head.before.before.before.before.before.before.before in
     let S = entry.requires in (
-      (block_at S.ready (one_below head.loop.invariant.b-le turn.loop-test.true) widened.widened.ensures.0).seen.sound,
+      (block_at S.ready (one_below head.loop.invariant.b_le turn.loop-test.true) widened.widened.ensures.0).seen.sound,
       row_fits head.loop.invariant turn.loop-test.true S.long S.chain S.blocks_is S.cheap
           (last_is S.blocks_is S.ends_as head.before.copy-row.ensures) S.noted,
     )
@@ -160,9 +160,9 @@ loop-again c =
     let I = head.loop.invariant in
     let h = turn.loop-test.true in
     let E = settle_block.settle-block.ensures in
-    let A = block_at S.ready (one_below I.b-le h) widened.widened.ensures.0 in
-    settle_more I h S.long refl S.unrooted A.part-is E
-    (row_back E.settled.long (row_inside I.b-le h I.long S.long))
+    let A = block_at S.ready (one_below I.b_le h) widened.widened.ensures.0 in
+    settle_more I h S.long refl S.unrooted A.part_is E
+    (row_back E.settled.long (row_inside I.b_le h I.long S.long))
 
 same_length : tie.Need-same-length invariant-loop decreases-loop
 same_length c = c.before.loop.invariant.long
