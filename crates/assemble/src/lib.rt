@@ -1,4 +1,7 @@
 // The numbers of our section, one part behind another: its sizes, the end states, the edges of all steps.
+
+#![tactic(auto)]
+
 ghost use Rattle.std.specs.Prelude.{◌≡◌, [], ◌∷◌, ◌+◌, ◌*◌, ◌<◌, ◌≤◌, length};
 ghost use Rattle.trellis.specs.Bounds.{most_symbols};
 ghost use Rattle.trellis.specs.Lists.{over};

@@ -1,5 +1,8 @@
 // The k best beginnings between two blocks. They enter the section of a block at the roots of their states, and leave it at its goals, each
 // with a back pointer, by which its words are found again.
+
+#![tactic(auto)]
+
 ghost use Rattle.std.specs.Prelude.{◌≡◌, ◌+◌, ◌*◌, ◌<◌, ◌≤◌, length};
 ghost use Rattle.trellis.specs.Bounds.{most_paths, most_blocks, most_words};
 ghost use Rattle.dearest.specs.Inner.Items.{code_in};

@@ -1,4 +1,7 @@
 // What the symbols of a block cost, ranked by the symbol. Symbols are compared by `comparing::compare` alone.
+
+#![tactic(auto)]
+
 ghost use Rattle.std.specs.Prelude.{◌≡◌, ◌+◌, ◌*◌, ◌≤◌};
 ghost use Rattle.trellis.specs.Bounds.{most_symbols};
 ghost use Rattle.paths.specs.Inner.Ranked.{distance_unit, top_rank, PriceRoom};

@@ -1,4 +1,7 @@
 // Decoding a chain, for C and Rust: the answer in plain numbers.
+
+#![tactic(auto)]
+
 ghost use Rattle.frame.specs.Frame.{frame};
 ghost use Rattle.decoding.specs.Decoding.{decoding, DecodeLeft};
 

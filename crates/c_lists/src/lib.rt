@@ -1,4 +1,7 @@
 // Several best paths of a chain, for C and Rust: the answer in plain numbers.
+
+#![tactic(auto)]
+
 ghost use Rattle.frame.specs.Frame.{frame};
 ghost use Rattle.path_list.specs.Listing.{listing, DecodeListLeft};
 

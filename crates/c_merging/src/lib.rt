@@ -1,4 +1,7 @@
 // Merging a table, for C and Rust: the answer in plain numbers.
+
+#![tactic(auto)]
+
 ghost use Rattle.merging.specs.Merging.{merging, MergeLeft};
 
 // Merges the table in `file`.

@@ -1,4 +1,7 @@
 // Merging generator rows, for C and Rust: the answer in plain numbers.
+
+#![tactic(auto)]
+
 ghost use Rattle.merging_rows.specs.MergingRows.{merging_rows, MergeRowsLeft};
 
 // Merges the table of all sums of generator rows.

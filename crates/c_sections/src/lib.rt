@@ -1,4 +1,7 @@
 // Reading a section back and comparing two sections, for C and Rust: the answer in plain numbers.
+
+#![tactic(auto)]
+
 ghost use Rattle.outcomes.specs.Numbered.{Numbered};
 ghost use Rattle.read_back.specs.ReadingBack.{reading_back, ReadBackLeft};
 ghost use Rattle.same_section.specs.Comparing.{comparing};

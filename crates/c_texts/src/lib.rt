@@ -1,4 +1,7 @@
 // The printed sizes of a table and the block sheet, for C and Rust: the answer in plain numbers.
+
+#![tactic(auto)]
+
 ghost use Rattle.text_buffer.specs.Listing.{listing, ListingLeft};
 ghost use Rattle.sheet_records.specs.Sheet.{sheet};
 

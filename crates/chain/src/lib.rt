@@ -1,6 +1,9 @@
 // Chain decoding: sections one behind another, for each block a section index, a received label and an erasure mask, a start and an
 // end state. `decode` answers for all arguments, by an equation with `decoding`: the outcome of document 01 and the whole content of
 // the four buffers.
+
+#![tactic(auto)]
+
 ghost use Rattle.std.specs.Prelude.{◌≡◌};
 ghost use Rattle.answers.specs.Answers.{decoded_outcome};
 ghost use Rattle.frame.specs.Frame.{frame};

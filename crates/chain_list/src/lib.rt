@@ -1,6 +1,9 @@
 // Several best paths of a chain, after document 02's request 6. `decode_list` answers for all arguments, by an equation with `listing`: the
 // outcome and the whole content of the four buffers. The cost table is that of decoding; with what is left to pay known from every state,
 // the paths grow from the first block on, and no more beginnings are kept than paths are asked for.
+
+#![tactic(auto)]
+
 ghost use Rattle.std.specs.Prelude.{◌≡◌};
 ghost use Rattle.answers.specs.Answers.{decoded_list_outcome};
 ghost use Rattle.sections.specs.Inner.Found.{AllFound};

@@ -1,4 +1,7 @@
 // A root, a vertex and a label in one number: beginnings of words, as reading back and listing keep them.
+
+#![tactic(auto)]
+
 ghost use Rattle.std.specs.Prelude.{◌≡◌, ◌+◌, ◌*◌, ◌/◌, ◌%◌, ◌<◌};
 ghost use Rattle.trellis.specs.Bounds.{most_words, most_q};
 ghost use Rattle.edges.specs.Inner.Edges.{meant_edge};

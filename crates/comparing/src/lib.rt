@@ -1,4 +1,7 @@
 // Two packed labels compared under an erasure mask, all symbols at once: the mask of those that differ, and their number, the distance.
+
+#![tactic(auto)]
+
 ghost use Rattle.std.specs.Prelude.{◌≡◌, ℕ, ◌-◌, ◌^◌, ◌<◌, ◌≤◌};
 ghost use Rattle.trellis.specs.Bounds.{most_symbols};
 ghost use Rattle.trellis.specs.Comparing.{differing, Compared};

@@ -1,6 +1,9 @@
 // Compares each of the 65,536 labels of eight symbols with one label, so that two labels differ in every way that there is, under eight
 // erasure masks: all symbols at once by `comparing::compare`, and one at a time by `label::symbol`. Prints how many comparisons there were,
 // the sum of their distances, and how many of them came out otherwise one symbol at a time, in the mask or in the distance.
+
+#![tactic(auto)]
+
 ghost use Rattle.std.specs.Prelude.{◌≤◌};
 
 use comparing::Comparison;

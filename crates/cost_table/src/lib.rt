@@ -1,5 +1,8 @@
 // The pass over the blocks of a frame, from the last to the first. It leaves a note in each place of the cost table, by which the words of
 // the best path are found. The blocks' sections are found and the frame is checked; where a path may end is the caller's.
+
+#![tactic(auto)]
+
 ghost use Rattle.std.specs.Prelude.{◌≡◌, ◌*◌, ◌<◌, ◌≤◌, length};
 ghost use Rattle.trellis.specs.Bounds.{most_states, costs_aBlock};
 ghost use Rattle.section_file.specs.Inner.View.{Seen};

@@ -1,4 +1,7 @@
 // Items as numbers, a cost above 32 bits that are the caller's; and the last dearest of those in an array.
+
+#![tactic(auto)]
+
 ghost use Rattle.std.specs.Prelude.{◌≡◌, ◌<◌, ◌≤◌, length};
 ghost use Rattle.trellis.specs.Bounds.{most_paths};
 ghost use Rattle.dearest.specs.Inner.Items.{cost_unit, cost_in, code_in, item_of, LastDearest};

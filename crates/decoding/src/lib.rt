@@ -1,5 +1,8 @@
 // What decoding a frame leaves, as definitions, and its last stage, for a frame and buffers that passed their checks: backward over the
 // blocks to the distance, forward to the words and their masks, and the cost table.
+
+#![tactic(auto)]
+
 ghost use Rattle.std.specs.Prelude.{◌≡◌, ℕ};
 ghost use Rattle.answers.specs.Answers.{decoded_outcome};
 ghost use Rattle.frame.specs.Frame.{frame};

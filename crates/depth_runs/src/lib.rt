@@ -1,5 +1,8 @@
 // Runs of words that share a beginning, at one depth: whether those with a common ending agree, and the numbers of the vertices that they
 // share.
+
+#![tactic(auto)]
+
 ghost use Rattle.std.specs.Prelude.{◌≡◌, ◌+◌, ◌-◌, ◌<◌, ◌≤◌, eqb};
 ghost use Rattle.trellis.specs.Bounds.{most_words};
 ghost use Rattle.trellis.specs.Lists.{one_if};

@@ -1,5 +1,8 @@
 // One inner depth of a table, in one pass over the words, which are lent as three parallel slices. Promised: whether the table is
 // rectangular there, and if so the vertex of every word.
+
+#![tactic(auto)]
+
 ghost use Rattle.std.specs.Prelude.{◌≡◌, cond, ◌+◌, ◌-◌, ◌<◌, ◌≤◌, length, eqb};
 ghost use Rattle.trellis.specs.Bounds.{most_words};
 ghost use Rattle.runs.specs.Inner.Runs.{first_like};

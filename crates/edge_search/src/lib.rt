@@ -1,4 +1,7 @@
 // The first edge that leaves a vertex, among the edges of a step, which stand in the order of their vertices.
+
+#![tactic(auto)]
+
 ghost use Rattle.std.specs.Prelude.{◌≡◌, ◌+◌, ◌*◌, ◌<◌, ◌≤◌, length, get_or};
 ghost use Rattle.trellis.specs.Bounds.{most_words, most_symbols};
 ghost use Rattle.edge_search.specs.Inner.FirstEdge.{FromsRise, FirstFrom, is_first};

@@ -1,5 +1,8 @@
 // The edges of one step, in the two slices where their pairs (from, to) and their symbols begin: an edge read, whether all are within
 // bounds, and whether they ascend.
+
+#![tactic(auto)]
+
 ghost use Rattle.std.specs.Prelude.{◌≡◌, ◌+◌, ◌*◌, ◌<◌, length};
 ghost use Rattle.trellis.specs.Own.{edge_less};
 ghost use Rattle.trellis.specs.Lists.{all};

@@ -1,5 +1,8 @@
 // The fields and the words of a table file, read in place from lent bytes. Every function answers for all arguments, by an equation with a
 // definition of specs/.
+
+#![tactic(auto)]
+
 ghost use Rattle.std.specs.Prelude.{◌≡◌};
 ghost use Rattle.fields.specs.Fields.{byte_at, two_bytes, word_count, length_bad};
 

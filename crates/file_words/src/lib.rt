@@ -1,4 +1,7 @@
 // The words of a table file, read in place: word i, the word at an index if there is one, and the place behind it.
+
+#![tactic(auto)]
+
 ghost use Rattle.std.specs.Prelude.{◌≡◌};
 ghost use Rattle.fields.specs.Fields.{file_word};
 ghost use Rattle.fields.specs.Inner.Answer.{held_word, found_at};

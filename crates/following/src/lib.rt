@@ -1,6 +1,9 @@
 // The matching of two sections' vertices, followed step by step. An inner vertex is known by where it is reached from and by which symbol,
 // so each step gives the partners of the vertices that it reaches. At the last step both ends of an edge are known, and the edge must be
 // there. For each vertex an array holds one more than its partner, and 0 where none is known yet.
+
+#![tactic(auto)]
+
 ghost use Rattle.std.specs.Prelude.{◌≡◌, true, ℕ, ◌+◌, ◌*◌, ◌<◌, ◌≤◌, eqb, length, get_or};
 ghost use Rattle.trellis.specs.Bounds.{most_words, most_q};
 ghost use Rattle.trellis.specs.Lists.{run, all};

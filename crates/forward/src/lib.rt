@@ -1,5 +1,8 @@
 // The forward pass for the k best paths of a frame: block by block, the k best beginnings in word order. What is left to pay behind a block
 // comes from the cost table; inside a block its section is swept once more, and the least costs from all its vertices are kept.
+
+#![tactic(auto)]
+
 ghost use Rattle.std.specs.Prelude.{◌≡◌, ◌+◌, ◌*◌, ◌<◌, ◌≤◌, length};
 ghost use Rattle.trellis.specs.Bounds.{most_paths, most_states, most_blocks};
 ghost use Rattle.trellis.specs.Layout.{vertex_count_of, roots_place};

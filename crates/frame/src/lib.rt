@@ -1,4 +1,7 @@
 // The frame of a chain and fault 9: a length or a state that is out of bounds, else the first bad block.
+
+#![tactic(auto)]
+
 ghost use Rattle.std.specs.Prelude.{◌≡◌, List, ℕ, length};
 ghost use Rattle.trellis.specs.Lists.{first};
 ghost use Rattle.sections.specs.Inner.Found.{SectionsFound};

@@ -1,4 +1,7 @@
 // Faults 9 and 10 of a frame whose sections are found, and decoding where there is none.
+
+#![tactic(auto)]
+
 ghost use Rattle.std.specs.Prelude.{◌≡◌, ℕ};
 ghost use Rattle.answers.specs.Answers.{decoded_outcome};
 ghost use Rattle.sections.specs.Inner.Found.{AllFound};

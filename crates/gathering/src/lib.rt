@@ -1,5 +1,8 @@
 // The words of a usable section, found depth by depth: each beginning goes on along every edge that left its vertex, and since no path of a
 // usable section breaks off, more than 1,024 beginnings at any depth are more than 1,024 words.
+
+#![tactic(auto)]
+
 ghost use Rattle.std.specs.Prelude.{◌≡◌, ◌+◌, ◌*◌, ◌<◌, ◌≤◌, length, take};
 ghost use mathlib.Core.List.{flat_map};
 ghost use Rattle.trellis.specs.Bounds.{most_words};

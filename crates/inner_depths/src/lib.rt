@@ -1,6 +1,9 @@
 // Rectangularity and vertex numbers of the inner depths of a table, from the deepest to the first. Promised: the answer is 0 exactly if the
 // table is rectangular, and then the map has the vertex of every word at every inner depth; else the answer is the smallest depth at which
 // it is not.
+
+#![tactic(auto)]
+
 ghost use Rattle.std.specs.Prelude.{◌≡◌, ◌+◌, ◌-◌};
 ghost use Rattle.depths.specs.Inner.Words.{words};
 ghost use Rattle.depths.specs.Inner.Merge.{lowest_of, count_of, Inner, InnerDone};

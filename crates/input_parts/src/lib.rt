@@ -1,4 +1,7 @@
 // The input of a block sheet: what stands where, and its faults but for those of its tables, in document 02's order.
+
+#![tactic(auto)]
+
 ghost use Rattle.std.specs.Prelude.{◌≡◌, ◌≤◌, length};
 ghost use Rattle.trellis.specs.Bounds.{most_sections};
 ghost use Rattle.input_parts.specs.Input.{input_sections, input_blocks, input_index, any_table, table_part, lengths_bad, first_index};

@@ -1,5 +1,8 @@
 // Symbols and packed labels, taken apart and put together by shifts and masks. Every function answers for all arguments, by an equation
 // with the definitions of labels in trellis: symbols are base-4 digits, the first one highest.
+
+#![tactic(auto)]
+
 ghost use Rattle.std.specs.Prelude.{◌≡◌, ◌-◌, ◌/◌, ◌%◌, ◌^◌, ◌<◌};
 ghost use Rattle.trellis.specs.Label.{symbol, front, back};
 ghost use Rattle.label.specs.Inner.Labels.{InOrder};

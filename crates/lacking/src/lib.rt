@@ -1,4 +1,7 @@
 // Chains of words with one ending, and the first word of a chain in a run that another chain passes by.
+
+#![tactic(auto)]
+
 ghost use Rattle.std.specs.Prelude.{◌≡◌, List, ℕ, ◌<◌, ◌≤◌};
 ghost use Rattle.trellis.specs.Bounds.{most_words};
 ghost use Rattle.lacking.specs.Inner.Search.{FirstWith};

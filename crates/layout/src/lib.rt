@@ -1,4 +1,7 @@
 // The pairs and the symbols of all steps, and the states of the outer depths, written in document 01's layout from the finished map.
+
+#![tactic(auto)]
+
 ghost use Rattle.std.specs.Prelude.{◌+◌, ◌-◌, ◌*◌, ◌<◌, ◌≤◌, length};
 ghost use Rattle.trellis.specs.Inner.Write.{Wrote};
 ghost use Rattle.trellis.specs.Layout.{joined_up};

@@ -1,5 +1,8 @@
 // The least costs from all vertices of a block's section to the end of the chain, depth after depth in one array: the sweep that passing a
 // block makes, with a row kept for each depth.
+
+#![tactic(auto)]
+
 ghost use Rattle.std.specs.Prelude.{◌≡◌, length};
 ghost use Rattle.trellis.specs.Bounds.{most_states, most_words};
 ghost use Rattle.paths.specs.Inner.Ranked.{PriceRoom};

@@ -1,4 +1,7 @@
 // What is left to pay behind a block: the row of the next block in the cost table, or where a path may end behind the last.
+
+#![tactic(auto)]
+
 ghost use Rattle.std.specs.Prelude.{◌≡◌, ◌+◌, ◌*◌, ◌<◌, ◌≤◌, length};
 ghost use Rattle.trellis.specs.Bounds.{most_states, most_blocks, costs_aBlock};
 ghost use Rattle.left_behind.specs.Inner.Behind.{LeftBehind};

@@ -1,5 +1,8 @@
 // The lines that document 01 prints: the sizes of a section, and a refusal. A function that puts lines puts bytes into a lent buffer, as
 // far as it has room for them, and gives the place behind them.
+
+#![tactic(auto)]
+
 ghost use Rattle.std.specs.Prelude.{◌≡◌, suc, ◌-◌, ◌≤◌};
 ghost use Rattle.trellis.specs.Selections.{additions, selections};
 ghost use Rattle.trellis.specs.Layout.{n_of, joined_up};

@@ -1,6 +1,9 @@
 // The kit's front door. Rattle programs get the layers' functions with their enums and promises from here. Programs in C or Rust, which
 // take no enum of ours, get one call for each: it returns document 01's number, puts the numbers returned with it into `values`, and leaves
 // every buffer as its layer does. No call asks anything of its arguments.
+
+#![tactic(auto)]
+
 ghost use Rattle.outcomes.specs.Numbered.{Numbered};
 ghost use Rattle.merging.specs.Merging.{merging, MergeLeft};
 ghost use Rattle.read_back.specs.ReadingBack.{reading_back, ReadBackLeft};

@@ -1,4 +1,7 @@
 // Faults 13 and 10 of listing paths, and the paths where there is none.
+
+#![tactic(auto)]
+
 ghost use Rattle.std.specs.Prelude.{◌≡◌, ℕ};
 ghost use Rattle.answers.specs.Answers.{decoded_list_outcome};
 ghost use Rattle.frame.specs.Frame.{frame};

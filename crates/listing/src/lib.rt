@@ -1,5 +1,8 @@
 // The printed sizes of a table: document 01's listing of a table file, or the line of its refusal, as bytes in a lent buffer. The promise
 // is an equation with `listing`, whose text comes from the table alone, with no buffer in it.
+
+#![tactic(auto)]
+
 ghost use Rattle.std.specs.Prelude.{◌≡◌};
 ghost use Rattle.answers.specs.Answers.{merged_outcome, listed_outcome};
 ghost use Rattle.text.specs.Inner.Put.{Put};

@@ -1,4 +1,7 @@
 // One depth of a sweep: a row cleared, and lowered over the edges of a step.
+
+#![tactic(auto)]
+
 ghost use Rattle.std.specs.Prelude.{◌≡◌, ◌+◌, ◌<◌, ◌≤◌, min, length};
 ghost use Rattle.trellis.specs.Bounds.{most_words};
 ghost use Rattle.paths.specs.Inner.Ranked.{top_rank};

@@ -1,4 +1,7 @@
 // The masks of a path's words: for each block the unerased symbols in which its word differs from what was received.
+
+#![tactic(auto)]
+
 ghost use Rattle.std.specs.Prelude.{◌+◌, ◌<◌, length};
 ghost use Rattle.masks.specs.Inner.Masks.{MasksAsked, MasksPut};
 

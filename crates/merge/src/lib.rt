@@ -1,6 +1,9 @@
 // Merging: a table file becomes the map of its words' vertices and the smallest section that has just its words. The promise, for all
 // arguments, is an equation with one definition, `merging`: the answer with document 01's number and values, and every place of both
 // buffers. Who asks only for the section's sizes has a table measured, with no room for a section.
+
+#![tactic(auto)]
+
 ghost use Rattle.std.specs.Prelude.{◌≡◌, ◌+◌, ◌*◌, ◌<◌, ◌≤◌, length};
 ghost use Rattle.fields.specs.Fields.{file_words};
 ghost use Rattle.table.specs.File.{accepted, table_file};

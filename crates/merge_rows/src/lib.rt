@@ -1,6 +1,9 @@
 // Sections from generator rows: the table of all sums of the rows, its map, and its section, built from a parity check. The promise, for
 // all arguments, is an equation with one definition, `merging_rows`, over the same `written` as merging the table's file: the answer with
 // document 02's number and values, and every place of the three buffers.
+
+#![tactic(auto)]
+
 ghost use Rattle.std.specs.Prelude.{◌≡◌, ◌*◌, ◌+◌};
 ghost use Rattle.answers.specs.Answers.{merged_rows_outcome};
 ghost use Rattle.merging_rows.specs.MergingRows.{left, merged_rows, merging_rows};

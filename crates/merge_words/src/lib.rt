@@ -1,4 +1,7 @@
 // Merging of a list of words, which stand in three slices: refusal 6, 7, or success.
+
+#![tactic(auto)]
+
 ghost use Rattle.std.specs.Prelude.{◌+◌, ◌≤◌, length};
 ghost use Rattle.trellis.specs.Witness.{witness};
 ghost use Rattle.depths.specs.Inner.Words.{words};

@@ -1,5 +1,8 @@
 // What merging a table leaves, as definitions, and its last stage, where the inner depths are in the map: the outer depths, the edges, the
 // sizes and the section.
+
+#![tactic(auto)]
+
 ghost use Rattle.std.specs.Prelude.{◌+◌, ◌*◌, ◌<◌, ◌≤◌, length};
 ghost use Rattle.trellis.specs.Lists.{over};
 ghost use Rattle.depths.specs.Inner.Words.{words};

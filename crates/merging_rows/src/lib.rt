@@ -1,5 +1,8 @@
 // What merging generator rows leaves, as definitions, and its last stage, for reduced rows and buffers with room: the map, the section and
 // the file, or 7.
+
+#![tactic(auto)]
+
 ghost use Rattle.std.specs.Prelude.{◌*◌};
 ghost use Rattle.merging_rows.specs.MergingRows.{merged_rows};
 ghost use Rattle.merging_rows.specs.Inner.Stages.{BuildAsked, RowsEnd};

@@ -1,5 +1,8 @@
 // One step of a section: the beginnings that are kept go on along every edge that leaves their vertices, and of all that come within a
 // limit the k best are kept.
+
+#![tactic(auto)]
+
 ghost use Rattle.std.specs.Prelude.{◌≡◌, ◌<◌, ◌≤◌, length, take};
 ghost use mathlib.Core.List.{flat_map};
 ghost use Rattle.trellis.specs.Bounds.{most_paths, most_words, most_q};

@@ -1,4 +1,7 @@
 // An outcome of document 01 in numbers, as it is printed and as callers in other languages get it, stored in four places of four bytes.
+
+#![tactic(auto)]
+
 ghost use Rattle.std.specs.Prelude.{[], ◌∷◌, ◌≡◌};
 ghost use Rattle.trellis.specs.Outcome.{outcome, Outcome};
 ghost use Rattle.outcomes.specs.Inner.Holds.{Holds};

@@ -1,4 +1,7 @@
 // The outer depths of the map, and the vertex counts of all depths.
+
+#![tactic(auto)]
+
 ghost use Rattle.std.specs.Prelude.{◌+◌, ◌*◌, ◌≤◌, length};
 ghost use Rattle.layout.specs.Inner.States.{Few};
 ghost use Rattle.outer_depths.specs.Inner.Outer.{OuterAsked, RowPut, OuterPut};

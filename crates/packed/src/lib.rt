@@ -1,4 +1,7 @@
 // Labels put together and told from other numbers: a symbol put behind a label, and whether a number is a label of n symbols below q.
+
+#![tactic(auto)]
+
 ghost use Rattle.std.specs.Prelude.{◌≡◌, ◌-◌, ◌<◌, min};
 ghost use Rattle.trellis.specs.Label.{is_label};
 ghost use Rattle.packed.specs.Inner.Packed.{appended};

@@ -1,5 +1,8 @@
 // Parity checks of rows of bits, held by their columns: column m belongs to bit m. A row is taken up by the highest bit of its syndrome,
 // and a row of syndrome 0 is a sum of those before it. What the columns say in the end is in the definitions of `rows`.
+
+#![tactic(auto)]
+
 ghost use Rattle.std.specs.Prelude.{◌≡◌, ◌+◌, ◌<◌, length};
 ghost use Rattle.rows.specs.Sums.{chosen, sum_of};
 ghost use Rattle.rows.specs.Inner.Reduced.{cleared, add_row, Narrow, Spans};

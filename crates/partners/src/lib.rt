@@ -1,5 +1,8 @@
 // Where the edges of a step lead, in a table by the vertex that they start from and their symbol, and the partners that they give the
 // vertices which they reach.
+
+#![tactic(auto)]
+
 ghost use Rattle.std.specs.Prelude.{◌≡◌, true, not, ◌&&◌, ◌||◌, ◌+◌, ◌*◌, ◌<◌, ◌≤◌, eqb, length, get_or};
 ghost use Rattle.trellis.specs.Bounds.{most_words, most_q};
 ghost use Rattle.edges.specs.Inner.Edges.{edge_in, meant_edge, EdgesSmall};

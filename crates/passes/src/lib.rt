@@ -1,6 +1,9 @@
 // One block of a chain, whatever its symbols cost and wherever a path may end: from what is left to pay behind the block, state by state,
 // to what is left to pay before it, over the edges of the block's section and never over its words; and for each state a note, with the
 // label and the goal of the first word of least cost. Blocks are passed from the last to the first; the notes are followed in `traceback`.
+
+#![tactic(auto)]
+
 ghost use Rattle.std.specs.Prelude.{◌≡◌, ◌%◌, ◌<◌, length};
 ghost use Rattle.trellis.specs.Bounds.{most_states, most_words};
 ghost use Rattle.trellis.specs.Layout.{n_of, vertex_count_of};

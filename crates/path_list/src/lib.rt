@@ -1,5 +1,8 @@
 // What listing the best paths of a frame leaves, as definitions, and its last stage, for a frame and buffers that passed their checks: the
 // cost table as in decoding, and where there is a path the k best, forward over the blocks, sorted and read out.
+
+#![tactic(auto)]
+
 ghost use Rattle.std.specs.Prelude.{◌≡◌, ℕ, ◌*◌, ◌≤◌, length};
 ghost use Rattle.answers.specs.Answers.{decoded_list_outcome};
 ghost use Rattle.frame.specs.Frame.{frame};

@@ -1,5 +1,8 @@
 // The theory of best paths: definitions in specs/, theorems in proofs/, and no code but what ranks and notes are made of as constants, one
 // for each definition of specs/inner/Ranked.
+
+#![tactic(auto)]
+
 use trellis::MOST_STATES;
 
 pub const LABEL_UNIT: u64 = (2 * MOST_STATES) as u64;

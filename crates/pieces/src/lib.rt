@@ -1,4 +1,7 @@
 // The pairs (from, to) and the symbols of one step's edges, from the first word on each.
+
+#![tactic(auto)]
+
 ghost use Rattle.std.specs.Prelude.{◌+◌, ◌-◌, ◌*◌, ◌<◌, ◌≤◌, length};
 ghost use Rattle.trellis.specs.Inner.Write.{Wrote};
 ghost use Rattle.takers.specs.Inner.Pieces.{part, pairs_of, symbols_of, WordsAt};

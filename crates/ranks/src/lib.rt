@@ -1,4 +1,7 @@
 // Distance and word in one number: a cost ranked by a state, the cost in a rank, the note of a rank, and the label and the goal in a note.
+
+#![tactic(auto)]
+
 ghost use Rattle.std.specs.Prelude.{◌≡◌, ◌/◌, ◌%◌, ◌<◌, ◌≤◌};
 ghost use Rattle.trellis.specs.Bounds.{most_states};
 ghost use Rattle.paths.specs.Inner.Ranked.{label_unit, distance_unit, top_rank, ranked_left, note_unit, note_goal};

@@ -1,4 +1,7 @@
 // Reading a section back into the table file of its words, for any numbers and any buffer, by document 01's checks 8, 12 and 10.
+
+#![tactic(auto)]
+
 ghost use Rattle.std.specs.Prelude.{◌≡◌, true, ◌+◌, ◌*◌, ◌<◌};
 ghost use Rattle.answers.specs.Answers.{read_back_outcome};
 ghost use Rattle.section_file.specs.Inner.View.{Seen};

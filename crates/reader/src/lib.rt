@@ -1,5 +1,8 @@
 // A reader over the table file of document 01, which holds the lent slice and the index of the word that comes next. Its functions are
 // thin: the work is done by functions of `fields`, which take a slice and an index, and each answers for all arguments.
+
+#![tactic(auto)]
+
 ghost use Rattle.std.specs.Prelude.{◌≡◌};
 ghost use Rattle.fields.specs.Fields.{file_word};
 ghost use Rattle.fields.specs.Inner.Answer.{held_word, found_at};

@@ -1,4 +1,7 @@
 // The paths that were kept, read out: each from the last block to the first along its back pointers, one path behind another.
+
+#![tactic(auto)]
+
 ghost use Rattle.std.specs.Prelude.{◌≡◌, ◌+◌, ◌*◌, ◌<◌, ◌≤◌, length};
 ghost use Rattle.trellis.specs.Bounds.{most_paths, most_blocks};
 ghost use Rattle.dearest.specs.Inner.Items.{cost_in};

@@ -1,4 +1,7 @@
 // Whether what was received for a block fits its section: a label whose erased symbols are 0, and a mask with a bit for each symbol.
+
+#![tactic(auto)]
+
 ghost use Rattle.std.specs.Prelude.{◌≡◌, ◌+◌, ◌^◌, ◌<◌, ◌≤◌, ltb, eqb};
 ghost use Rattle.trellis.specs.Bounds.{most_symbols};
 ghost use Rattle.trellis.specs.Lists.{one_if, first};

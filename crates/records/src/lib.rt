@@ -1,5 +1,8 @@
 // The records of a block sheet, one for each block of a frame, and the sums over a lent list of them. The list is a slice of structs, so
 // the functions that take it are thin and are proved by hand along their code; what they call takes and gives plain values.
+
+#![tactic(auto)]
+
 ghost use Rattle.std.specs.Prelude.{◌≡◌, ◌+◌, ◌<◌, ◌≤◌, ◌^◌, length, get_or, take};
 ghost use Rattle.trellis.specs.Bounds.{most_blocks};
 ghost use Rattle.records.specs.Records.{additions_sum, selections_sum, counted_outcome, counting};

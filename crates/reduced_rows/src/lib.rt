@@ -1,4 +1,7 @@
 // The reduced rows of a parity check, read off its columns.
+
+#![tactic(auto)]
+
 ghost use Rattle.std.specs.Prelude.{◌≡◌, ◌+◌, ◌<◌, ◌≤◌, length, ltb};
 ghost use Rattle.trellis.specs.Lists.{one_if};
 ghost use Rattle.parity.specs.Inner.Steps.{Basis};

@@ -1,4 +1,7 @@
 // The line of a refusal, put into a lent buffer as far as it has room for it.
+
+#![tactic(auto)]
+
 ghost use Rattle.std.specs.Prelude.{◌-◌, ◌≤◌};
 ghost use Rattle.trellis.specs.Outcome.{Outcome};
 ghost use Rattle.outcomes.specs.Inner.Holds.{Holds};

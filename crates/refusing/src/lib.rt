@@ -1,4 +1,7 @@
 // The refusal of a table that is not rectangular, at the first inner depth that fails.
+
+#![tactic(auto)]
+
 ghost use Rattle.std.specs.Prelude.{◌≡◌, ◌+◌, ◌*◌, ◌<◌, ◌≤◌, length};
 ghost use Rattle.trellis.specs.Witness.{witness};
 ghost use Rattle.answers.specs.Answers.{merged_outcome};

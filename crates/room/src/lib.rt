@@ -1,4 +1,7 @@
 // Check 10: the length that the first short buffer needs, for decoding and for listing paths; 0 where none is short.
+
+#![tactic(auto)]
+
 ghost use Rattle.std.specs.Prelude.{◌≡◌, ◌≤◌};
 ghost use Rattle.trellis.specs.Bounds.{most_blocks, most_paths};
 ghost use Rattle.room.specs.Room.{short_of, needed_to_decode, needed_to_list};

@@ -1,5 +1,8 @@
 // The edges of a table of sums, step by step. An edge is one number, (from, symbol, to), and the edges of a step are the sums of those that
 // the rows take; so in order they are the sums of a reduced basis of these. No word is looked at.
+
+#![tactic(auto)]
+
 ghost use Rattle.std.specs.Prelude.{◌≡◌, ◌+◌, ◌*◌, ◌^◌, ◌≤◌, ◌<◌, length};
 ghost use Rattle.trellis.specs.Inner.Write.{Wrote};
 ghost use Rattle.rows.specs.Sums.{sums};

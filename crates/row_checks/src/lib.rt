@@ -1,5 +1,8 @@
 // Generator rows looked at before anything is added up: their sizes and their number, the first that is too wide, and how many words and
 // states they make.
+
+#![tactic(auto)]
+
 ghost use Rattle.std.specs.Prelude.{◌≡◌, ◌+◌, ◌^◌, ◌≤◌, leb};
 ghost use Rattle.rows.specs.Table.{sizes_fit, first_wide};
 

@@ -1,5 +1,8 @@
 // One inner depth of the map of a table of sums: words share a vertex if their syndromes before the cut agree, and the vertices of twice as
 // many words are those of the first half with one number added.
+
+#![tactic(auto)]
+
 ghost use Rattle.std.specs.Prelude.{◌≡◌, cond, ◌+◌, ◌*◌, ◌/◌, ◌^◌, ◌≤◌, ◌<◌, length, get_or, ltb};
 ghost use Rattle.row_depth.specs.Inner.Depth.{FoundAt, DepthAsked, DepthPut};
 

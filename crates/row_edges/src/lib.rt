@@ -1,4 +1,7 @@
 // The edges of a table of sums, each one number, (from, symbol, to), as the pairs and the symbols of a section.
+
+#![tactic(auto)]
+
 ghost use Rattle.std.specs.Prelude.{◌+◌, ◌<◌};
 ghost use Rattle.trellis.specs.Layout.{joined_up};
 ghost use Rattle.trellis.specs.Inner.Write.{Wrote};

@@ -1,4 +1,7 @@
 // The table file of all sums of rows: q, n, S, W, then the words' states and labels, each a sum like the word itself.
+
+#![tactic(auto)]
+
 ghost use Rattle.std.specs.Prelude.{◌≡◌, ◌+◌, ◌*◌, ◌/◌, ◌%◌, ◌^◌, ◌≤◌, ◌<◌, length};
 ghost use mathlib.Core.List.{◌∷◌, map, flat_map};
 ghost use Rattle.trellis.specs.Lists.{each, over};

@@ -1,4 +1,7 @@
 // The labels of rows, two bits a symbol.
+
+#![tactic(auto)]
+
 ghost use Rattle.std.specs.Prelude.{◌≡◌, ◌+◌, ◌*◌, ◌≤◌, ◌<◌, length};
 ghost use Rattle.rows.specs.Table.{spread};
 ghost use Rattle.parity.specs.Inner.Front.{Front};

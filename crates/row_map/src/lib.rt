@@ -1,6 +1,9 @@
 // The map of a table of sums, row by row: the inner depths by `row_depth`, the outer ones by `row_states`. Word i is the sum of the reduced
 // rows that the bits of i choose, so a depth's vertices of twice as many words are those of the first half with one number added: the
 // vertex of the new row.
+
+#![tactic(auto)]
+
 ghost use Rattle.std.specs.Prelude.{◌≡◌, ℕ, ◌^◌, ◌≤◌, length, get_or};
 ghost use Rattle.row_map.specs.Inner.Maps.{MapAsked, InnerPut, CountsOf, MapPut};
 

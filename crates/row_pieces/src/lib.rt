@@ -1,4 +1,7 @@
 // The pairs and the symbols of one step, from edges as numbers.
+
+#![tactic(auto)]
+
 ghost use Rattle.std.specs.Prelude.{◌≡◌, ◌+◌, ◌*◌, ◌/◌, ◌%◌, ◌^◌, ◌≤◌, ◌<◌, length};
 ghost use Rattle.trellis.specs.Inner.Write.{Wrote};
 ghost use Rattle.row_pieces.specs.Inner.Pieces.{pairs_from, symbols_from};

@@ -1,4 +1,7 @@
 // The section's numbers in document 01's layout, from the parts that the reduced rows give.
+
+#![tactic(auto)]
+
 ghost use Rattle.std.specs.Prelude.{◌≡◌, ◌*◌, ◌+◌};
 ghost use Rattle.trellis.specs.Lists.{over};
 ghost use Rattle.row_section.specs.Inner.Parts.{numbers_by, PartsAsked};

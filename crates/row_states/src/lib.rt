@@ -1,4 +1,7 @@
 // An outer depth of the map of a table of sums: the vertex of a word is the number of its state among those that occur.
+
+#![tactic(auto)]
+
 ghost use Rattle.std.specs.Prelude.{◌≡◌, map, ◌+◌, ◌%◌, ◌^◌, ◌≤◌, ◌<◌, length, ltb};
 ghost use Rattle.trellis.specs.Lists.{one_if, rank};
 ghost use Rattle.parity.specs.Inner.Front.{Front};

@@ -1,4 +1,7 @@
 // All sums of some rows, by rising choice: those of one row more are those without it, and behind them the same with it added.
+
+#![tactic(auto)]
+
 ghost use Rattle.std.specs.Prelude.{◌+◌, ◌^◌, ◌≤◌, length};
 ghost use Rattle.trellis.specs.Lists.{each};
 ghost use Rattle.trellis.specs.Inner.Write.{Wrote};

@@ -1,5 +1,8 @@
 // Whether two sections differ only by the numbers of inner vertices, for any two lists of numbers: document 02's request 8. The matching
 // of vertices is followed from depth 0 on, in a few looks at each number, however many words the sections have. Nothing is written.
+
+#![tactic(auto)]
+
 ghost use Rattle.std.specs.Prelude.{◌≡◌, true, ◌<◌, get_or, eqb};
 ghost use Rattle.trellis.specs.Lists.{all};
 ghost use Rattle.answers.specs.Answers.{same_section_outcome};

@@ -1,5 +1,8 @@
 // The program `section`: reads a table file from standard input, to its end or to 65,536 bytes, and prints its sizes or why it is refused.
 // What it prints is proved of `listing`; here it is only read, called and written.
+
+#![tactic(auto)]
+
 use answers::listing::Listed;
 use listing::ANY_TEXT;
 

@@ -1,4 +1,7 @@
 // Both costs of a section, its additions and its selections, by the counts in its sizes.
+
+#![tactic(auto)]
+
 ghost use Rattle.std.specs.Prelude.{◌≡◌, ◌-◌, ◌*◌, ◌≤◌};
 ghost use Rattle.trellis.specs.Selections.{additions, selections};
 ghost use Rattle.trellis.specs.Layout.{n_of, vertex_count_of, edge_count_of};

@@ -1,5 +1,8 @@
 // A section in numbers, as far as its counts and its end states go: whether they are those of a usable section, and its view, which says
 // where its parts stand. The definition of usable, and what whoever reads a usable section needs to know of it.
+
+#![tactic(auto)]
+
 ghost use Rattle.std.specs.Prelude.{◌≡◌, ◌+◌, ◌*◌, ◌<◌, ◌≤◌, get_or};
 ghost use Rattle.trellis.specs.Bounds.{most_words, most_symbols};
 ghost use Rattle.trellis.specs.Layout.{n_of};

@@ -1,5 +1,8 @@
 // Sections one behind another in one list of numbers. `find` answers for all arguments whether there is a fault 8, and where there is none
 // has the place where each section begins, and its view.
+
+#![tactic(auto)]
+
 ghost use Rattle.std.specs.Prelude.{◌≡◌, cond, drop};
 ghost use Rattle.section_file.specs.Usable.{usable};
 ghost use Rattle.section_file.specs.Inner.View.{view_of};

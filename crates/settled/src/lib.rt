@@ -1,4 +1,7 @@
 // The cost of which a note has the remainder, from the costs behind its block.
+
+#![tactic(auto)]
+
 ghost use Rattle.std.specs.Prelude.{◌≡◌, ◌≤◌, length};
 ghost use Rattle.paths.specs.Chain.{unreached};
 ghost use Rattle.paths.specs.Inner.Ranked.{label_unit};

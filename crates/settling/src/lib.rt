@@ -1,5 +1,8 @@
 // The notes of the cost table turned into costs, from the last block to the first: the costs behind a block are known, and a note has the
 // remainder of the cost before it.
+
+#![tactic(auto)]
+
 ghost use Rattle.std.specs.Prelude.{◌≡◌, ◌*◌, ◌<◌, length};
 ghost use Rattle.trellis.specs.Bounds.{most_states};
 ghost use Rattle.trellis.specs.Layout.{vertex_count_of};

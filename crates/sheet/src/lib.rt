@@ -1,6 +1,9 @@
 // The block sheet: a line with the record of each block, then a line with the sums, or the line of a refusal, as bytes in a lent buffer.
 // The records are made first, and the lines and the sums come from them. The promise is an equation with `sheet`, whose text comes from the
 // input alone, with no buffer in it.
+
+#![tactic(auto)]
+
 ghost use Rattle.std.specs.Prelude.{◌≡◌, length};
 ghost use Rattle.answers.specs.Answers.{listed_outcome};
 ghost use Rattle.text_buffer.specs.Listing.{left};

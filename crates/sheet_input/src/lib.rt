@@ -1,5 +1,8 @@
 // The tables of a block sheet's input, each measured once. `read` checks the input in document 02's order; it answers by the first fault,
 // or by what each section costs.
+
+#![tactic(auto)]
+
 ghost use Rattle.std.specs.Prelude.{◌≡◌, ◌≤◌, length};
 ghost use Rattle.table.specs.File.{table_file};
 ghost use Rattle.input_parts.specs.Input.{any_table, most_input};

@@ -1,4 +1,7 @@
 // The lines of a block sheet: one for each record, and one of their sums.
+
+#![tactic(auto)]
+
 ghost use mathlib.Core.List.{flat_map};
 ghost use Rattle.std.specs.Prelude.{◌≤◌, length, take};
 ghost use Rattle.trellis.specs.Bounds.{most_blocks};

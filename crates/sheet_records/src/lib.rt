@@ -1,4 +1,7 @@
 // The records of the blocks of a frame, from the input of a block sheet and both costs of each section.
+
+#![tactic(auto)]
+
 ghost use Rattle.sheet_records.specs.Sheet.{records_of};
 ghost use Rattle.sheet_records.specs.Inner.Made.{Drawn, Holding};
 

@@ -1,4 +1,7 @@
 // One step made with a limit first, and again without where fewer than k are within it.
+
+#![tactic(auto)]
+
 ghost use Rattle.std.specs.Prelude.{◌≡◌, ◌<◌, ◌≤◌, length, take};
 ghost use mathlib.Core.List.{flat_map};
 ghost use Rattle.trellis.specs.Bounds.{most_paths, most_words};

@@ -1,5 +1,8 @@
 // The k best beginnings through one section, step by step over its edges: each goes on along every edge that leaves its vertex, and of all
 // that come the k are kept that cost least in the end, in the order in which they came, which is word order.
+
+#![tactic(auto)]
+
 ghost use Rattle.std.specs.Prelude.{◌≡◌, ◌<◌, ◌≤◌, length};
 ghost use Rattle.trellis.specs.Bounds.{most_paths};
 ghost use Rattle.trellis.specs.Layout.{n_of, step_edges};

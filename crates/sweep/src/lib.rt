@@ -1,6 +1,9 @@
 // The least costs of one section, over its edges and never over its words: depth by depth from the last to the first, the least cost from
 // each vertex. Only two rows are kept, one for the even depths and one for the odd. What a symbol costs and what it costs to end in a
 // vertex are the caller's.
+
+#![tactic(auto)]
+
 ghost use Rattle.std.specs.Prelude.{◌≡◌, suc, ◌+◌, ◌*◌, length};
 ghost use Rattle.trellis.specs.Bounds.{most_words};
 ghost use Rattle.section_file.specs.Inner.View.{Seen};

@@ -1,5 +1,8 @@
 // Checks 1 to 4 of document 01's table file, in their order, over the lent bytes and with no copy of the table.
 // Every function answers for all arguments, by an equation with a definition of specs/.
+
+#![tactic(auto)]
+
 ghost use Rattle.std.specs.Prelude.{◌≡◌};
 ghost use Rattle.fields.specs.Fields.{byte_at};
 ghost use Rattle.fields.specs.Inner.Answer.{meant_word};

@@ -1,4 +1,7 @@
 // The first word on each edge of a step, found in one pass over the words, and so for all steps; edge counts.
+
+#![tactic(auto)]
+
 ghost use Rattle.std.specs.Prelude.{◌≡◌, cond, [], ◌∷◌, ◌+◌, ◌-◌, ◌*◌, ◌<◌, ◌≤◌, length, leb};
 ghost use Rattle.trellis.specs.Bounds.{most_words};
 ghost use Rattle.trellis.specs.Inner.Write.{Wrote};

@@ -1,5 +1,8 @@
 // Lines of text for people: a fixed word, then numbers in decimal, a space before each, then a newline byte. A line is put behind what a
 // buffer of bytes already holds; what does not fit is left out, so that no function asks for room.
+
+#![tactic(auto)]
+
 ghost use Rattle.std.specs.Prelude.{◌≡◌, [], ◌∷◌, ◌+◌, ◌%◌};
 ghost use Rattle.text.specs.Line.{digit, spaced, line};
 ghost use Rattle.text.specs.Inner.Put.{Put, Spelt};

@@ -1,4 +1,7 @@
 // A text that was made elsewhere, copied to a lent buffer where there is room for it.
+
+#![tactic(auto)]
+
 ghost use Rattle.std.specs.Prelude.{◌≡◌};
 ghost use Rattle.answers.specs.Answers.{listed_outcome};
 ghost use Rattle.text_buffer.specs.Listing.{left, in_buffer};

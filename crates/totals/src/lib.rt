@@ -1,4 +1,7 @@
 // What a beginning costs at least in the end, as the sum of what is paid, the next edge and the least that is left behind it.
+
+#![tactic(auto)]
+
 ghost use Rattle.std.specs.Prelude.{◌≡◌, ◌+◌, ◌*◌, ◌/◌, ◌<◌, ◌≤◌, length, get_or};
 ghost use Rattle.trellis.specs.Bounds.{most_words, most_q, most_symbols};
 ghost use Rattle.paths.specs.Inner.Ranked.{distance_unit, PriceRoom};

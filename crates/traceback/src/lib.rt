@@ -1,4 +1,7 @@
 // The notes of the cost table followed from block to block: the words of the best path.
+
+#![tactic(auto)]
+
 ghost use Rattle.std.specs.Prelude.{◌<◌};
 ghost use Rattle.passes.specs.Inner.Chains.{Followed, FollowedTo};
 

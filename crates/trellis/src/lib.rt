@@ -1,5 +1,8 @@
 // The theory of trellis sections: definitions in specs/, theorems in proofs/, and no code but the bounds as constants, one for each
 // definition of specs/Bounds.
+
+#![tactic(auto)]
+
 pub const LEAST_Q: usize = 2;
 
 pub const MOST_Q: usize = 4;

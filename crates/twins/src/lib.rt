@@ -1,6 +1,9 @@
 // The vertices of a step: whether each has an edge, and whether edges that agree at the one end and in the symbol lead to twins at the
 // other. Fixed arrays of marks keep the work to a few looks at each number. Both questions are asked of the edges as they stand and, with
 // from and to in each other's place, of the way back.
+
+#![tactic(auto)]
+
 ghost use Rattle.std.specs.Prelude.{◌≡◌, not, ◌||◌, ◌&&◌, ◌+◌, ◌*◌, ◌<◌, ◌≤◌, eqb, length};
 ghost use Rattle.trellis.specs.Bounds.{most_words};
 ghost use Rattle.edges.specs.Inner.Edges.{EdgesSmall, held_edge};

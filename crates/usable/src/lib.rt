@@ -1,5 +1,8 @@
 // Which sections are usable, by document 01: `usable_at` answers for the section that starts at any place of a slice, whatever numbers the
 // slice has. It looks at each number a few times, and promises an equation with document 01's definition.
+
+#![tactic(auto)]
+
 ghost use Rattle.std.specs.Prelude.{◌≡◌, ◌+◌, ◌*◌, ◌<◌, drop};
 ghost use Rattle.trellis.specs.Layout.{edges_before};
 ghost use Rattle.trellis.specs.Lists.{all};

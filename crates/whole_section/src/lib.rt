@@ -1,4 +1,7 @@
 // The section that a whole slice is, for reading back and comparing; and, as laws, where the edges of its steps stand.
+
+#![tactic(auto)]
+
 ghost use Rattle.std.specs.Prelude.{◌≡◌};
 ghost use Rattle.whole_section.specs.Inner.Whole.{whole_part};
 

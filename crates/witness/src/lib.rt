@@ -1,5 +1,8 @@
 // The first witness of a refusal: at a depth where a table is not rectangular, the first words i, j, k that force a word which it lacks.
 // Promised: the answer is the witness of the definition, by i, then j, then k.
+
+#![tactic(auto)]
+
 ghost use Rattle.std.specs.Prelude.{◌≡◌, ◌<◌, ◌≤◌};
 ghost use Rattle.trellis.specs.Bounds.{most_words};
 ghost use Rattle.trellis.specs.Witness.{witness_at};

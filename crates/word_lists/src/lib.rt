@@ -1,5 +1,8 @@
 // Words in three lists: those of a table file are copied into arrays, since merging goes over them many times and a word's bytes lie apart
 // in the file.
+
+#![tactic(auto)]
+
 ghost use Rattle.std.specs.Prelude.{◌+◌, ◌<◌, ◌≤◌};
 ghost use Rattle.trellis.specs.Bounds.{most_words};
 ghost use Rattle.word_lists.specs.Inner.Lists.{Copied};

@@ -1,0 +1,12 @@
+-- `numbers::total` meets its contract. The loop's invariant: the sum is that of the numbers passed. The measure is what is left of them.
+use Prim.Native.Nat.{◌+◌, ◌-◌}
+use lib.ListN.{get_or}
+use Rattle.numbers.proofs.Sums.{Summed, summed_start, summed_next, summed_all}
+use borrow.Author.Rules.{rules}
+use Rattle.numbers.proofs.total.Given as goal
+
+abbrev pub invariant-loop-t : goal.invariant-loop-t
+invariant-loop-t l = Summed (λ t. get_or l.l (l.at + t) 0) l.count l.sum l.t
+
+abbrev pub decreases-loop-t : goal.decreases-loop-t
+decreases-loop-t l = l.count - l.t
