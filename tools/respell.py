@@ -23,7 +23,7 @@ TOKEN = re.compile(NAME)
 
 
 def is_camel(name):
-    return name[:1].islower() and bool(re.search(r"[a-z0-9][A-Z]", name)) and not re.search(r"_[A-Z]|-[A-Z]", name)
+    return name[:1].islower() and bool(re.search(r"[a-z0-9][A-Z]", name)) and not re.search(r"_[A-Z]|-[A-Z]|[:/]", name)
 
 
 def snake(name):

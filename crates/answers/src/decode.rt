@@ -5,7 +5,7 @@ ghost use Rattle.answers.specs.Answers.{decoded_outcome};
 use outcomes::{Returned, no_value, one_value};
 
 // The distance, or why there is none. A variant for a refusal has the number that document 01 returns with it.
-#[derive(Drop)]
+#[derive(Clone, Copy)]
 pub enum Decoded {
     Distance(u32),
     Section(usize),

@@ -5,7 +5,7 @@ ghost use Rattle.answers.specs.Answers.{decoded_list_outcome};
 use outcomes::{Returned, no_value, one_value};
 
 // How many paths are listed, or why there are none. A variant for a refusal has the number that is returned with it.
-#[derive(Drop)]
+#[derive(Clone, Copy)]
 pub enum DecodedList {
     Paths(usize),
     Section(usize),

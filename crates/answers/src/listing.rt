@@ -5,7 +5,7 @@ ghost use Rattle.answers.specs.Answers.{listed_outcome};
 use outcomes::{Returned, one_value};
 
 // The length of the text, or the length that the buffer would need.
-#[derive(Drop)]
+#[derive(Clone, Copy)]
 pub enum Listed {
     Text(usize),
     Short(usize),

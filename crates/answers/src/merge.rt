@@ -6,7 +6,7 @@ ghost use Rattle.answers.specs.Answers.{merged_outcome};
 use outcomes::{Returned, four_values, one_value};
 
 // The section's length, or why there is none. A variant for a refusal has the numbers that document 01 returns with it.
-#[derive(Drop)]
+#[derive(Clone, Copy)]
 pub enum Merged {
     Section(usize),
     Length(usize),

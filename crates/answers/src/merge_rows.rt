@@ -6,7 +6,7 @@ ghost use Rattle.answers.specs.Answers.{merged_rows_outcome};
 use outcomes::{Returned, one_value};
 
 // The section's length, or why there is none. A variant for a refusal has the number that document 02 returns with it.
-#[derive(Drop)]
+#[derive(Clone, Copy)]
 pub enum MergedRows {
     Section(usize),
     Rows(usize),

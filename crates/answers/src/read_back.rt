@@ -6,7 +6,7 @@ ghost use Rattle.answers.specs.Answers.{read_back_outcome};
 use outcomes::{Returned, no_value, one_value};
 
 // The file's length, or why there is none.
-#[derive(Drop)]
+#[derive(Clone, Copy)]
 pub enum ReadBack {
     File(usize),
     Unusable,

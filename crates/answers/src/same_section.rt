@@ -5,7 +5,7 @@ ghost use Rattle.answers.specs.Answers.{same_section_outcome};
 use outcomes::{Returned, one_value};
 
 // Whether the two are the same but for numbering, or which of them, 0 or 1, is the first that is no section.
-#[derive(Drop)]
+#[derive(Clone, Copy)]
 pub enum SameSection {
     Same,
     Different,

@@ -65,7 +65,7 @@ module _ {words : ℕ → List Word} {ends : ℕ → Bool} {dist : ℕ → Word 
     first_parts : (i : ℕ) (h : i < have) → Parts (get_or items i 0) (cost_in (get_or slots i 0)) i (E.at i h).root 0
     first_parts i h =
         let r = (E.at i h).below in
-        let c = W.fitted.counts-le 0 (omega arith) in
+        let c = W.fitted.counts_le 0 (omega arith) in
         subst (λ x. Parts x (cost_in (get_or slots i 0)) i (E.at i h).root 0) (sym (E.at i h).is)
         (parts_of (cost_in (get_or slots i 0)) i (E.at i h).root 0 (omega (arith, S.few)) (omega arith) (omega arith))
 

@@ -57,7 +57,7 @@ module _ {words : ℕ → List Word} {dist : ℕ → Word → ℕ} {b : ℕ} {l 
     sound = S;
     uses = record {
       words_are = e;
-      roots_ascend_lem = run_ordered (λ v. v) 0 (vertex_count_of l 0) (λ j k a c. S.roots_ascend j k a (omega arith));
+      roots_rise = run_ordered (λ v. v) 0 (vertex_count_of l 0) (λ j k a c. S.roots_ascend j k a (omega arith));
       same_cost = λ v p m.
           let P = whole_fits (step_edges l) (n_of l) (vertex_count_of l (n_of l)) (bounded S) S.n_from v p m in
           f (word_of (root_state l) (goal_state l) v p) ∙ cost_packed cost (n_of l) P.symbols_fit 0 0 (zero-add (n_of l));

@@ -110,7 +110,7 @@ module _ {edges : ℕ → List Edge} {n : ℕ} {counts : ℕ → ℕ} {cost : �
 
     total_is : total ≡ paid_so_far + cost t e.symbol + row_at rows (suc t) e.to
     unfolding total_of
-    total_is = ap (λ p. paid_so_far + p + row_at rows (suc t) e.to) (F.price-is t e.symbol h (F.symbol_lt t h e listed))
+    total_is = ap (λ p. paid_so_far + p + row_at rows (suc t) e.to) (F.price_is t e.symbol h (F.symbol_lt t h e listed))
 
     next_rated : rated_at (suc t) next ≡ min unreached total
     unfolding edge_rated rated opened plus section_least further
@@ -137,7 +137,7 @@ module _ {edges : ℕ → List Edge} {n : ℕ} {counts : ℕ → ℕ} {cost : �
         let g : suc t ≤ most_symbols = omega (arith, F.short) in
         let q : 4 ^ suc t ≤ 4 ^ most_symbols = pow-le-pow_right (lit< tt) g in
         let v = F.to_lt t h e listed in
-        let w = F.counts-le (suc t) h in
+        let w = F.counts_le (suc t) h in
         parts_of total (code_root (code_in x)) e.to (appended (code_label (code_in x)) e.symbol) (root_small x) (omega arith)
         (lt_of_lt_of_le label_short q)
 

@@ -28,7 +28,7 @@ fn differences(x: u16, y: u16) -> u8
 }
 
 // Two labels compared: the mask of the symbols that differ and are not erased, the first symbol highest, and their number.
-#[derive(Drop)]
+#[derive(Clone, Copy)]
 pub struct Comparison {
     pub mask: u8,
     pub distance: u32,

@@ -31,7 +31,7 @@ pub fn item(cost: u64, code: u32) -> u64
 }
 
 // A place and the cost of the item there.
-#[derive(Drop)]
+#[derive(Clone, Copy)]
 struct Found {
     at: usize,
     cost: u64,

@@ -80,7 +80,7 @@ pub fn put_firsts(labels: &[u16], n: usize, t: usize, row: &mut [u16; MOST_WORDS
 }
 
 // What one depth comes to: how many vertices it has, or that the table is not rectangular there.
-#[derive(Drop)]
+#[derive(Clone, Copy)]
 pub enum Depth {
     Merged(u16),
     Refused,

@@ -11,7 +11,7 @@ ghost use Rattle.edges.specs.Inner.Edges.{inside, above, EdgesThere, edge_in, he
 use numbers::wide;
 
 // An edge: the vertices that it joins and its symbol.
-#[derive(Drop)]
+#[derive(Clone, Copy)]
 pub struct Edge {
     pub from: usize,
     pub symbol: usize,

@@ -7,7 +7,7 @@ ghost use Rattle.std.specs.Prelude.{◌≡◌};
 ghost use Rattle.fields.specs.Fields.{byte_at, two_bytes, word_count, length_bad};
 
 // A word as the file has it.
-#[derive(Drop)]
+#[derive(Clone, Copy)]
 pub struct Word {
     pub root: u8,
     pub label: u16,
@@ -15,7 +15,7 @@ pub struct Word {
 }
 
 // What a reader finds: a word, or nothing past the last one.
-#[derive(Drop)]
+#[derive(Clone, Copy)]
 pub enum Found {
     Word(Word),
     Nothing,

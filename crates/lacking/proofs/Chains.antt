@@ -62,7 +62,7 @@ module _ {w : ℕ} {firsts next : List ℕ} {i : ℕ} (c : InNext w firsts next 
       new = set (set next first (i - 1)) (i - 1) (at next first)
 
       N : Nearest w firsts i first (at next first)
-      N = c.near first (omega (arith, le)) (ap (at firsts) e ∙ c.row.own_val (i - 1) (omega (arith, c.i_le)) ∙ sym e)
+      N = c.near first (omega (arith, le)) (ap (at firsts) e ∙ c.row.own (i - 1) (omega (arith, c.i_le)) ∙ sym e)
 
       other : (x : ℕ) → (x ≡ i - 1 → ⊥) → (x ≡ first → ⊥) → at new x ≡ at next x
       other x p q = at_set (set next first (i - 1)) (i - 1) x (at next first) p ∙ at_set next first x (i - 1) q

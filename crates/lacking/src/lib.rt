@@ -15,7 +15,7 @@ use trellis::MOST_WORDS;
 pub const NOTHING: u16 = MOST_WORDS as u16;
 
 // Words i, j and k, or that there are none.
-#[derive(Drop)]
+#[derive(Clone, Copy)]
 pub enum Witness {
     At(usize, usize, usize),
     Nothing,

@@ -16,12 +16,12 @@ ghost use Rattle.text_buffer.specs.Listing.{listing, ListingLeft};
 ghost use Rattle.sheet_records.specs.Sheet.{sheet};
 
 pub use answers::decode::Decoded;
-pub use answers::decode_list::Decoded_list;
+pub use answers::decode_list::DecodedList;
 pub use answers::listing::Listed;
 pub use answers::merge::Merged;
-pub use answers::merge_rows::Merged_rows;
-pub use answers::read_back::Read_back;
-pub use answers::same_section::Same_section;
+pub use answers::merge_rows::MergedRows;
+pub use answers::read_back::ReadBack;
+pub use answers::same_section::SameSection;
 pub use chain::decode;
 pub use chain_list::decode_list;
 pub use comparing::{Comparison, compare as compare_labels};

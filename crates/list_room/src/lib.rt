@@ -8,7 +8,7 @@ ghost use Rattle.frame.specs.Frame.{frame};
 ghost use Rattle.frame.specs.Inner.Checked.{Checked};
 ghost use Rattle.path_list.specs.Listing.{left, counted};
 
-use answers::decode_list::Decoded_list;
+use answers::decode_list::DecodedList;
 use numbers::is_within;
 use path_list::list_with;
 use section_file::View;

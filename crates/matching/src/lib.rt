@@ -2,4 +2,3 @@
 // vertices, in just one way. Definitions in specs/, theorems in proofs/, and no code.
 
 #![tactic(auto)]
-

@@ -7,7 +7,7 @@ ghost use Rattle.std.specs.Prelude.{◌*◌};
 ghost use Rattle.merging_rows.specs.MergingRows.{merged_rows};
 ghost use Rattle.merging_rows.specs.Inner.Stages.{BuildAsked, RowsEnd};
 
-use answers::merge_rows::Merged_rows;
+use answers::merge_rows::MergedRows;
 use parity::ROW_BITS;
 use row_section::put_section;
 use trellis::{MOST_SYMBOLS, MOST_WORDS};

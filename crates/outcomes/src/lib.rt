@@ -8,7 +8,7 @@ ghost use Rattle.outcomes.specs.Inner.Holds.{Holds};
 ghost use Rattle.outcomes.specs.Numbered.{stored, Numbered};
 
 // The outcome's number, how many numbers are returned with it, and these; 0 in the places not used.
-#[derive(Drop)]
+#[derive(Clone, Copy)]
 pub struct Returned {
     pub number: u32,
     pub count: usize,

@@ -12,7 +12,7 @@ ghost use Rattle.forward.specs.Inner.Fronts.{Tabled};
 ghost use Rattle.path_list.specs.Listing.{left, fitted};
 ghost use Rattle.path_list.specs.Inner.Paths.{PathsListed};
 
-use answers::decode_list::Decoded_list;
+use answers::decode_list::DecodedList;
 use beginnings::BACK;
 use cost_table::{ends_in, fill};
 use forward::keep_blocks;

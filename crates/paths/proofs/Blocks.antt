@@ -23,7 +23,7 @@ use Rattle.paths.proofs.Block.{Spells, block_cost, block_word}
 pub record Uses (ws : List Word) (price : Word → ℕ) (edges : ℕ → List Edge) (n : ℕ) (roots : List ℕ) (root_of goal_of : ℕ → ℕ)
     (cost : ℕ → ℕ → ℕ) : Type 0 where
   pub words_are : ws ≡ words_of n edges roots root_of goal_of
-  pub roots_ascend_lem : Ordered (λ u v. root_of u < root_of v) roots
+  pub roots_rise : Ordered (λ u v. root_of u < root_of v) roots
   pub same_cost : (v : ℕ) (p : Path) → p ∈ paths_from edges n 0 v → price (word_of root_of goal_of v p) ≡ cost_from cost 0 p.symbols
 
 module _ {ws : List Word} {price : Word → ℕ} {edges : ℕ → List Edge} {n : ℕ} {roots : List ℕ} {root_of goal_of : ℕ → ℕ}
@@ -33,7 +33,7 @@ module _ {ws : List Word} {price : Word → ℕ} {edges : ℕ → List Edge} {n 
   spells v = record { same_cost = U.same_cost v; same_goal = λ p. refl }
 
   pub rooted : (v : ℕ) → v ∈ roots → rooted_at (root_of v) ws ≡ map (word_of root_of goal_of v) (paths_from edges n 0 v)
-  rooted v m = ap (rooted_at (root_of v)) U.words_are ∙ rooted_words edges n root_of goal_of roots U.roots-ascend v m
+  rooted v m = ap (rooted_at (root_of v)) U.words_are ∙ rooted_words edges n root_of goal_of roots U.roots_rise v m
 
   module _ (top : ℕ) (left : ℕ → ℕ) (bound : (s : ℕ) → left s ≤ top) where
     -- at a root

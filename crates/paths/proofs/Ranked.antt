@@ -163,7 +163,7 @@ module _ {ws : List Word} {price : Word → ℕ} {edges : ℕ → List Edge} {n 
   unfolding rooted_at
   mine_ascend v m =
       ordered_as (λ x y j k. rises x y (mine_is v x j) (mine_is v y k))
-      (subst (Ordered Before) (rooted_words edges n root_of goal_of roots U.roots-ascend v m)
+      (subst (Ordered Before) (rooted_words edges n root_of goal_of roots U.roots_rise v m)
       (ordered_keep (λ w. eqb w.root (root_of v)) R.ordered))
     where
       rises : (x y : Word) → Mine v x → Mine v y → Before x y → key x < key y

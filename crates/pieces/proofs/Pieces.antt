@@ -69,7 +69,7 @@ piece_end {piece} {size} {l} {old} {new} {lo} {hi} {at} {to} {k} c h = let e : k
 
 pub pairs_piece : (m : List ℕ) (words row : ℕ) → Piecewise (pairs_of m words row)
 unfolding pairs_of flat_map
-pairs_piece m words row = record { nothing = refl; parts = λ ks js. flat_map_append _ ks js }
+pairs_piece m words row = record { nothing = refl; parts = λ ks js. flat_map_append (λ x'. get_or m (row + x') 0 ∷ get_or m (row + words + x') 0 ∷ []) ks js }
 
 pub symbols_piece : (labels : List ℕ) (n t : ℕ) → Piecewise (symbols_of labels n t)
 unfolding symbols_of

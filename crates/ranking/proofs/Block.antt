@@ -67,7 +67,7 @@ module _ {ws : List Word} {price : Word → ℕ} {edges : ℕ → List Edge} {n 
       → entering roots root_of x ≡ start (record { of = x; label = 0 }) v x.paid ∷ []
   unfolding entering
   entering_root x v m e =
-      ap (map (entered x)) (subst (λ s. state_at s roots ≡ v ∷ []) e (none_else roots U.roots-ascend v m))
+      ap (map (entered x)) (subst (λ s. state_at s roots ≡ v ∷ []) e (none_else roots U.roots_rise v m))
 
   -- what is known of a state's vertex
   root_of_lem : (s v : ℕ) (rest : List ℕ) → state_at s roots ≡ v ∷ rest → (v ∈ roots) × (root_of v ≡ s)
@@ -78,7 +78,7 @@ module _ {ws : List Word} {price : Word → ℕ} {edges : ℕ → List Edge} {n 
   only_root : (s v : ℕ) (rest : List ℕ) → state_at s roots ≡ v ∷ rest → state_at s roots ≡ v ∷ []
   only_root s v rest e =
       let r = root_of_lem s v rest e in
-      subst (λ s. state_at s roots ≡ v ∷ []) r.1 (none_else roots U.roots-ascend v r.0)
+      subst (λ s. state_at s roots ≡ v ∷ []) r.1 (none_else roots U.roots_rise v r.0)
 
   entering_one : {H : Type 0} (x : Start H) → length (entering roots root_of x) ≤ 1
   unfolding entering

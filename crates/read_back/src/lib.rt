@@ -8,7 +8,7 @@ ghost use Rattle.section_file.specs.Inner.View.{Seen};
 ghost use Rattle.section_file.specs.Usable.{is_section};
 ghost use Rattle.read_back.specs.ReadingBack.{left, reading_back};
 
-use answers::read_back::Read_back;
+use answers::read_back::ReadBack;
 use gathering::gather;
 use section_file::View;
 use trellis::MOST_WORDS;

@@ -11,7 +11,7 @@ ghost use Rattle.records.specs.Inner.Blank.{blank};
 use trellis::MOST_BLOCKS;
 
 // A block's index, the index of its section, and what that section costs.
-#[derive(Drop)]
+#[derive(Clone, Copy)]
 pub struct BlockRecord {
     pub index: u32,
     pub section: u32,
@@ -20,14 +20,14 @@ pub struct BlockRecord {
 }
 
 // The sums of both costs over a list of records.
-#[derive(Drop)]
+#[derive(Clone, Copy)]
 pub struct Sums {
     pub additions: u64,
     pub selections: u64,
 }
 
 // Both sums, or how many records there are where a frame cannot have so many blocks.
-#[derive(Drop)]
+#[derive(Clone, Copy)]
 pub enum Counted {
     Totals(Sums),
     TooMany(usize),

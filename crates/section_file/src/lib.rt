@@ -27,7 +27,7 @@ const MOST_WORDS: u16 = trellis::MOST_WORDS as u16;
 
 // A section's q and n, the places where its root states, its goal states, its pairs (from, to) and its symbols begin, how many edges it
 // has, and where it ends.
-#[derive(Drop)]
+#[derive(Clone, Copy)]
 pub struct View {
     pub q: u16,
     pub n: usize,

@@ -29,7 +29,7 @@ pub fn input_buffer() -> [u8; MOST_INPUT]
 }
 
 // A table's own refusal, or number 0 and both costs of its section.
-#[derive(Drop)]
+#[derive(Clone, Copy)]
 struct Table {
     refusal: Returned,
     additions: u32,

@@ -6,7 +6,7 @@ ghost use Rattle.sheet_records.specs.Sheet.{records_of};
 ghost use Rattle.sheet_records.specs.Inner.Made.{Drawn, Holding};
 
 use input_parts::section_index;
-use records::Block_record;
+use records::BlockRecord;
 use trellis::{MOST_BLOCKS, MOST_SECTIONS};
 
 // The records of the blocks, in front; the places behind them are not used.

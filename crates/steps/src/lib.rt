@@ -20,7 +20,7 @@ use step_limits::{keep_step, limit_of};
 use trellis::MOST_PATHS;
 
 // How many items are kept, and the limit for what comes next.
-#[derive(Drop)]
+#[derive(Clone, Copy)]
 pub struct Grown {
     pub count: usize,
     pub limit: u64,

@@ -26,7 +26,7 @@ const MOST_STATES: u16 = trellis::MOST_STATES as u16;
 const MOST_WORDS: u16 = trellis::MOST_WORDS as u16;
 
 // The answer to a file: its sizes, or why it is refused. A variant for a refusal has the number that document 01 returns with it.
-#[derive(Drop)]
+#[derive(Clone, Copy)]
 pub enum Checked {
     Table {
         q: u8,

@@ -12,7 +12,7 @@ use numbers::wide;
 use trellis::{MOST_Q, MOST_SYMBOLS, MOST_WORDS};
 
 // What the scan needs of an edge: its vertex and symbol as one number, and where it leads.
-#[derive(Drop)]
+#[derive(Clone, Copy)]
 struct Arc {
     key: usize,
     to: u16,

@@ -19,7 +19,7 @@ use section_file::{View, counts_right, sizes_right, view_of};
 use twins::{covers, twins_right};
 
 // What stands at a place of a slice: a usable section, of which this is the view, or none.
-#[derive(Drop)]
+#[derive(Clone, Copy)]
 pub enum Part {
     Usable(View),
     Unusable,

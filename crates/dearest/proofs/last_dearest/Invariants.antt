@@ -1,0 +1,12 @@
+-- `dearest::last_dearest` passes over the items. The loop's invariant: of those passed, the last dearest is the one found, with its cost.
+-- The measure is how many are left.
+use borrow.Author.Rules.{rules}
+use Prim.Native.Nat.{◌-◌}
+use Rattle.dearest.proofs.LastDearest.{Looked, looked_start, looked_more, looked_all}
+use Rattle.dearest.proofs.last_dearest.Given as goal
+
+abbrev pub invariant-loop-i : goal.invariant-loop-i
+invariant-loop-i l = Looked l.items l.count l.found.at l.found.cost l.i
+
+abbrev pub decreases-loop-i : goal.decreases-loop-i
+decreases-loop-i l = l.count - l.i

@@ -1,0 +1,14 @@
+-- `depths::put_firsts` meets its contract. The loop keeps the first words of the words before i, and for each key the first of them that
+-- has it.
+use Prim.Native.Nat.{◌-◌}
+use lib.ListN.{length}
+use borrow.Author.Rules.{rules}
+use native.Mathlib.Omega.{arith}
+use Rattle.depths.proofs.Firsts.{InFirsts, firsts_none, firsts_small, firsts_key, firsts_lt, firsts_more, firsts_end}
+use Rattle.depths.proofs.put_firsts.Given as goal
+
+abbrev pub invariant-loop-i : goal.invariant-loop-i
+invariant-loop-i l = InFirsts l.labels l.n l.t l.initial.row l.row l.seen l.i
+
+abbrev pub decreases-loop-i : goal.decreases-loop-i
+decreases-loop-i l = length l.labels - l.i

@@ -1,0 +1,24 @@
+-- `edge_search::search_edge` meets its contract. The loop's invariant: the edges below `low` leave lower vertices, and those from `high`
+-- on do not. The measure is what is between the two.
+use native.Mathlib.Omega.{arith}
+use Prim.Native.Nat.{◌-◌, ◌*◌}
+use lib.ListN.{get_or}
+use Rattle.edge_search.proofs.FirstEdges.{Halving, halving_start, halving_up, halving_down, halving_done}
+use borrow.Author.Rules.{rules}
+use Rattle.edge_search.proofs.search_edge.Goals as goal
+
+pub loop-low-init : goal.loop-low-init
+loop-low-init c = halving_start _ _ _
+
+pub loop-low-preserved-then-wide-vertex : goal.loop-low-preserved-then-wide-vertex
+loop-low-preserved-then-wide-vertex c =
+    halving_up c.loop-low.invariant c.loop-low-test.true c.requires.rise
+    (omega (arith, c.wide.ensures.0, c.if-wide-vertex.true))
+
+pub loop-low-preserved : goal.loop-low-preserved
+loop-low-preserved c =
+    halving_down c.loop-low.invariant c.loop-low-test.true c.requires.rise
+    (omega (arith, c.wide.ensures.0, c.if-wide-vertex.false))
+
+pub returns : goal.returns
+returns c = halving_done c.loop-low.invariant c.loop-low-test.false

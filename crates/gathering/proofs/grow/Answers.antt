@@ -1,0 +1,33 @@
+-- `gathering::grow` meets its contract. The loop's invariant: the beginnings passed are put one step further. The measure is what is left
+-- of them.
+use native.Mathlib.Omega.{arith}
+use Prim.Native.Nat.{◌-◌}
+use Rattle.trellis.specs.Lists.{run}
+use Rattle.edges.specs.Inner.Edges.{edge_in}
+use Rattle.codes.specs.Inner.Codes.{grown_codes}
+use Rattle.gathering.proofs.Growing.{begins_of, Growing, growing_start, growing_next, growing_over, growing_all}
+use borrow.Author.Rules.{rules}
+use Rattle.gathering.proofs.grow.Goals as goal
+
+pub loop-i-init : goal.loop-i-init
+loop-i-init c = growing_start (search rules)
+
+pub bounds-starts-vertex_of : goal.bounds-starts-vertex_of
+bounds-starts-vertex_of c = omega (arith, c.vertex_of.ensures)
+
+pub grow_one-made-requires : goal.grow_one-made-requires
+grow_one-made-requires c = (
+  search rules,
+  begins_of _ c.starts_of-starts.ensures c.vertex_of.ensures c.wide-start.ensures,
+  c.loop-i.invariant.room,
+  c.loop-i.invariant.long,
+)
+
+pub returns-then-made-gt-MOST_WORDS : goal.returns-then-made-gt-MOST_WORDS
+returns-then-made-gt-MOST_WORDS c = growing_over c.loop-i.invariant c.loop-i-test.true (search rules) c.grow_one-made.ensures c.if-made-gt-MOST_WORDS.true
+
+pub loop-i-preserved : goal.loop-i-preserved
+loop-i-preserved c = growing_next c.loop-i.invariant c.loop-i-test.true (search rules) c.grow_one-made.ensures c.if-made-gt-MOST_WORDS.false
+
+pub returns : goal.returns
+returns c = growing_all c.loop-i.invariant (search rules)

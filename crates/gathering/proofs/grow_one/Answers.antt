@@ -1,0 +1,42 @@
+-- `gathering::grow_one` meets its contract. The loop's invariant: what is filled, and the edges of the vertex from k on, are all that is to
+-- be put there. The measure is what is left of the edges.
+use mathlib.Core.Path.{sym, ap, ◌∙◌}
+use native.Mathlib.Omega.{arith}
+use Prim.Native.Nat.{◌-◌}
+use Rattle.edges.specs.Inner.Edges.{edge_in}
+use Rattle.edges.specs.declared.Edge.{Edge}
+use Rattle.codes.specs.Inner.Codes.{code_vertex, further_code}
+use Rattle.gathering.proofs.Growing.{Putting, putting_start, putting_next, putting_over, putting_done, putting_stops}
+use Rattle.codes.proofs.Codes.{further_at}
+use borrow.Author.Rules.{rules}
+use Rattle.gathering.proofs.grow_one.Goals as goal
+
+pub loop-k-init : goal.loop-k-init
+loop-k-init c = let p = c.requires in putting_start p.1 p.2 p.3
+
+pub returns-then-e-vertex : goal.returns-then-e-vertex
+returns-then-e-vertex c =
+    putting_stops c.loop-k.invariant c.loop-k-test.true
+    (λ q. c.if-e-vertex.true (ap (λ (x : Edge). x.from) c.edge_at-e.ensures ∙ q ∙ sym c.vertex_of-vertex.ensures))
+    c.requires.0.froms_rise
+
+pub returns-then-filled-ge-MOST_WORDS : goal.returns-then-filled-ge-MOST_WORDS
+returns-then-filled-ge-MOST_WORDS c =
+    putting_over c.loop-k.invariant c.loop-k-test.true
+    (sym (ap (λ (x : Edge). x.from) c.edge_at-e.ensures) ∙ c.if-e-vertex.false ∙ c.vertex_of-vertex.ensures) c.if-filled-ge-MOST_WORDS.true
+
+pub further-requires : goal.further-requires
+further-requires c =
+    let s = c.requires.0.small in (
+      omega (arith, s.symbol_small _ c.loop-k-test.true, ap (λ (x : Edge). x.symbol) c.edge_at-e.ensures),
+      omega (arith, s.to_small _ c.loop-k-test.true, ap (λ (x : Edge). x.to) c.edge_at-e.ensures),
+    )
+
+pub loop-k-preserved : goal.loop-k-preserved
+loop-k-preserved c =
+    putting_next c.loop-k.invariant c.loop-k-test.true
+    (sym (ap (λ (x : Edge). x.from) c.edge_at-e.ensures) ∙ c.if-e-vertex.false ∙ c.vertex_of-vertex.ensures) c.if-filled-ge-MOST_WORDS.false
+    (further_at c.args.c c.further.ensures c.edge_at-e.ensures) c.requires.0.froms_rise
+
+pub returns : goal.returns
+returns c = putting_done c.loop-k.invariant (search rules)

@@ -1,0 +1,13 @@
+-- `lacking::in_run` meets its contract, by its two ways out.
+use borrow.Author.Tests.{lt-ltb, le-ltb}
+use Rattle.lacking.specs.Inner.Rows.{in_run}
+use borrow.Author.Rules.{rules}
+use Rattle.lacking.proofs.in_run.Goals as goal
+
+pub returns-then-l-w : goal.returns-then-l-w
+unfolding in_run
+returns-then-l-w c = simp (lt-ltb _ _ c.if-l-w.true)
+
+pub returns-else-l-w : goal.returns-else-l-w
+unfolding in_run
+returns-else-l-w c = simp (le-ltb _ _ c.if-l-w.false)

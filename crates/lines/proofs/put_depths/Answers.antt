@@ -1,0 +1,17 @@
+-- `lines::put_depths` puts a line for each depth. The loop's invariant: the lines of the depths passed are put. The measure is how many
+-- are left.
+use Prim.Native.Nat.{suc, ◌-◌}
+use Rattle.lines.proofs.Lines.{Depths, depths_start, depths_next, depths_all}
+use borrow.Author.Rules.{rules}
+use Rattle.lines.proofs.put_depths.Goals as goal
+
+pub loop-t-init : goal.loop-t-init
+loop-t-init c = depths_start
+
+pub loop-t-preserved : goal.loop-t-preserved
+loop-t-preserved c =
+    depths_next c.loop-t.invariant c.loop-t-test.true c.number.ensures c.wide.ensures.0
+    c.edges_entering.ensures c.put_line-end.ensures
+
+pub returns : goal.returns
+returns c = depths_all c.loop-t.invariant c.loop-t-test.false

@@ -1,0 +1,11 @@
+-- `parity::syndrome` adds up one column after another: the loop keeps that what is summed up and what is left make the whole sum.
+use Prim.Native.Nat.{◌-◌, ◌≤◌}
+use borrow.Author.Rules.{rules}
+use Rattle.parity.proofs.Columns.{Summed, summed_none, summed_next, summed_all}
+use Rattle.parity.proofs.syndrome.Given as goal
+
+abbrev pub invariant-loop-m : goal.invariant-loop-m
+invariant-loop-m l = Summed l.columns l.x l.m l.sum l.rest × (l.m ≤ 16)
+
+abbrev pub decreases-loop-m : goal.decreases-loop-m
+decreases-loop-m l = 16 - l.m

@@ -1,0 +1,17 @@
+-- `row_file::put_states` meets its contract. The loop's invariant: the states of the words passed are written. The measure is what is left
+-- of them. The first state fits a byte since the words are narrow.
+use Prim.Native.Nat.{◌-◌}
+use native.Mathlib.Omega.{arith}
+use lib.ListN.{length, get_or, length-set}
+use borrow.Author.Rules.{rules}
+use Rattle.word_file.proofs.Writing.{Pieces, pieces_start, pieces_next}
+use Rattle.row_file.specs.Inner.Filing.{state_bytes}
+use Rattle.row_file.proofs.States.{root_byte}
+use Rattle.row_file.proofs.Pieces.{states_are, pieces_whole}
+use Rattle.row_file.proofs.put_states.Given as goal
+
+abbrev pub invariant-loop-i : goal.invariant-loop-i
+invariant-loop-i l = Pieces (state_bytes l.bits l.n) l.initial.file 5 l.words (length l.words) l.file l.at l.i
+
+abbrev pub decreases-loop-i : goal.decreases-loop-i
+decreases-loop-i l = length l.words - l.i

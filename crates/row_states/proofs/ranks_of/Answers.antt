@@ -1,0 +1,16 @@
+-- `row_states::ranks_of` fills an array from the front: the loop keeps that the ranks of the first b values stand.
+use Prim.Native.Nat.{◌-◌}
+use lib.ListN.{length}
+use Rattle.trellis.specs.Lists.{rank}
+use Rattle.row_states.proofs.Keys.{Given, given_none, given_next, given_all}
+use borrow.Author.Rules.{rules}
+use Rattle.row_states.proofs.ranks_of.Goals as goal
+
+pub loop-b-init : goal.loop-b-init
+loop-b-init c = given_none _ _ (search rules)
+
+pub loop-b-preserved : goal.loop-b-preserved
+loop-b-preserved c = given_next c.loop-b.invariant (search rules) (search rules) c.keys_below.ensures
+
+pub returns : goal.returns
+returns c = given_all c.loop-b.invariant (search rules)

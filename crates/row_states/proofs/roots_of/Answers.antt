@@ -1,0 +1,16 @@
+-- `row_states::roots_of` fills an array from the front: the loop keeps that the first b rows' first bits stand.
+use Prim.Native.Nat.{◌-◌, ◌/◌, ◌^◌}
+use lib.ListN.{length}
+use mathlib.Core.Path.{refl}
+use Rattle.row_states.proofs.Keys.{Given, given_none, given_next, given_all}
+use borrow.Author.Rules.{rules}
+use Rattle.row_states.proofs.roots_of.Goals as goal
+
+pub loop-b-init : goal.loop-b-init
+loop-b-init c = given_none _ _ (search rules)
+
+pub loop-b-preserved : goal.loop-b-preserved
+loop-b-preserved c = given_next c.loop-b.invariant (search rules) (search rules) refl
+
+pub returns : goal.returns
+returns c = given_all c.loop-b.invariant (search rules)

@@ -1,0 +1,15 @@
+-- `row_sums::put_sums` writes the empty sum, then doubles what stands by one row after another: the loop keeps that the sums of the
+-- rows so far are written.
+use mathlib.Core.Path.{refl}
+use Prim.Native.Nat.{◌-◌}
+use lib.ListN.{length}
+use lib.Pow.{pow_pos}
+use borrow.Author.Rules.{rules}
+use Rattle.row_sums.proofs.AllSums.{SumsPut, sums_none, sums_few, sums_inside, sums_room, sums_next, sums_length, sums_end}
+use Rattle.row_sums.proofs.put_sums.Given as goal
+
+abbrev pub invariant-loop-b : goal.invariant-loop-b
+invariant-loop-b l = SumsPut l.rows l.initial.buffer l.place l.buffer l.w l.b
+
+abbrev pub decreases-loop-b : goal.decreases-loop-b
+decreases-loop-b l = length l.rows - l.b

@@ -1,0 +1,11 @@
+-- `section_costs::additions_of` sums the edge counts, which stand behind the n + 1 vertex counts.
+use native.Mathlib.Omega.{arith}
+use Rattle.section_costs.proofs.Costs.{edges_sum}
+use borrow.Author.Rules.{rules}
+use Rattle.section_costs.proofs.additions_of.Goals as goal
+
+pub returns : goal.returns
+returns c = (
+  edges_sum c.args.sizes.now c.number.ensures c.wide-n.ensures.0 c.total.ensures.0,
+  omega (arith, c.total.ensures.1, c.wide-n.ensures.1),
+)

@@ -1,0 +1,12 @@
+-- `section_costs::selections_of` takes the vertices of all depths from the edges and the roots.
+use native.Mathlib.Omega.{arith}
+use Rattle.section_costs.proofs.Costs.{selected}
+use borrow.Author.Rules.{rules}
+use Rattle.section_costs.proofs.selections_of.Goals as goal
+
+pub returns : goal.returns
+returns c = (
+  selected c.args.sizes.now c.number.ensures c.wide-n.ensures.0 c.additions_of.ensures.0 c.total-vertices.ensures.0
+      c.number-2.ensures c.wide-roots.ensures.0 c.less.ensures,
+  omega (arith, c.less.ensures, c.additions_of.ensures.1, c.wide-roots.ensures.1, c.wide-roots.ensures.0),
+)

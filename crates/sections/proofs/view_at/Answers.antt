@@ -1,0 +1,7 @@
+-- `sections::view_at` takes the view out of the answer.
+use borrow.Author.Rules.{rules}
+use Rattle.sections.proofs.Sections.{view_read}
+use Rattle.sections.proofs.view_at.Goals as goal
+
+pub returns : goal.returns
+returns c = view_read _ c.usable_at.ensures c.view_in.ensures

@@ -1,0 +1,16 @@
+-- `twins::marks` meets its contract. The loop's invariant: just the vertices passed are marked.
+-- The measure is what is left of the edges.
+use mathlib.Core.Path.{refl, ap}
+use native.Mathlib.Omega.{arith}
+use Prim.Native.Nat.{◌-◌}
+use Rattle.twins.specs.Inner.Twins.{turned_in}
+use Rattle.edges.specs.declared.Edge.{Edge}
+use Rattle.twins.proofs.Marking.{Marking, small_of, marking_start, marking_next, marking_all}
+use borrow.Author.Rules.{rules}
+use Rattle.twins.proofs.marks.Given as goal
+
+abbrev pub invariant-loop-k : goal.invariant-loop-k
+invariant-loop-k l = Marking (λ k. (turned_in l.back l.pairs l.symbols k).from) l.count l.marks l.k
+
+abbrev pub decreases-loop-k : goal.decreases-loop-k
+decreases-loop-k l = l.count - l.k
