@@ -212,7 +212,7 @@ module _ {words : ℕ → List Word} {ends : ℕ → Bool} {dist : ℕ → Word 
             (sym t) (sym s)
             ∙ ap (start (trail new_back first b (from j) ++ (word (state_at new_back first b (from j)) (spelt j) g ∷ [])) g) c
             ∙ sym (λ i. start (trail new_back first b (C.root_is i)
-            ++ (word (state_at new_back first b (C.root_is i)) (C.Label-is i) (C.vertex_is i) ∷ [])) (C.vertex_is i)
+            ++ (word (state_at new_back first b (C.root_is i)) (C.label_is i) (C.vertex_is i) ∷ [])) (C.vertex_is i)
             (cost_in (get_or new_slots j 0) - rest_next (C.vertex_is i)))
 
         -- the slots behind the block are the beginnings kept there

@@ -8,7 +8,7 @@ use native.Mathlib.Nat.{pow-suc, pow-le-pow_right, mod-eq_of_lt, lt_of_lt_of_le}
 use lib.Arith.{mod-mul, digits_div, digits_mod}
 use lib.Bits.{bit_and, bit_or, or_shifted}
 use lib.Dec.{lit<}
-use Rattle.trellis.specs.Label.{symbol, front}
+use Rattle.trellis.specs.Label.{symbol}
 use Rattle.label.proofs.Digits.{symbol_last, symbol_drop}
 use Rattle.label.proofs.Shifts.{mask_one}
 use Rattle.packed.specs.Inner.Packed.{appended}

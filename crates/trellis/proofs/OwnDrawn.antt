@@ -11,7 +11,6 @@ use native.Mathlib.Decide.{ℕ_discrete}
 use lib.ListN.{length, get_or}
 use lib.Dec.{ltb, lt→ltb}
 use Rattle.trellis.specs.Lists.{◌∈◌, Once, run, each, rank}
-use Rattle.trellis.specs.Label.{symbol}
 use Rattle.trellis.specs.Word.{Word, word_at, Table, beginning, ending, joined}
 use Rattle.trellis.specs.Own.{Edge, edge, edge_less, key, keys, vertex_of, vertex_count, edge_of, edges_at}
 use Rattle.trellis.specs.Drawn.{IsPath, Carries, WordOf, JustOne, DrawnFor}

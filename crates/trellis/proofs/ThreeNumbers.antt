@@ -9,7 +9,6 @@ use native.Mathlib.Decide.{dec_lt}
 use lib.Dec.{T, ltb, eqb, eqb→eq, eqb_refl, ltb→lt, lt→ltb}
 use Rattle.trellis.specs.Lists.{Lower, by_first, by_second, by_third, lower, alike}
 use Rattle.trellis.proofs.Bools.{both, join, either, or_left, or_right}
-use Rattle.trellis.specs.Label.{symbol}
 use Rattle.trellis.specs.Own.{Edge}
 
 abbrev pub same_edge : Edge → Edge → Bool

@@ -3,7 +3,6 @@
 use mathlib.Core.Path.{refl, ap}
 use Prim.Native.Nat.{◌-◌}
 use lib.Bits.{bit_and}
-use borrow.Author.Rules.{rules}
 use Rattle.comparing.proofs.Marks.{compared}
 use Rattle.comparing.proofs.compare.Goals as goal
 

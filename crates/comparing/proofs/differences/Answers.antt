@@ -2,7 +2,6 @@
 -- since its shift brings one part beside the other and its mask is the low halves. The field that is left at last holds all.
 use mathlib.Core.Path.{refl, ◌∙◌}
 use lib.Dec.{lit<}
-use borrow.Author.Rules.{rules}
 use Rattle.trellis.specs.Comparing.{differing}
 use Rattle.trellis.proofs.Comparing.{differing_short}
 use Rattle.comparing.proofs.Fields.{low_halves, drawn_together, one_field, kept_below}

@@ -1,5 +1,4 @@
 -- `label::back` meets its contract, by what `behind` and `only_last` ensure.
-use borrow.Author.Rules.{rules}
 use Rattle.label.proofs.Shifts.{back_by}
 use Rattle.label.proofs.back.Goals as goal
 

@@ -1,5 +1,4 @@
 -- `label::front` meets its contract, by what `behind` and `without_last` ensure.
-use borrow.Author.Rules.{rules}
 use Rattle.label.proofs.Shifts.{front_by}
 use Rattle.label.proofs.front.Goals as goal
 

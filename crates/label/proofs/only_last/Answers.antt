@@ -1,6 +1,5 @@
 -- `label::only_last` meets its contract: below eight symbols by `mask`, from there on because all of the label is kept.
 use native.Mathlib.Omega.{arith}
-use borrow.Author.Rules.{rules}
 use Rattle.label.proofs.Shifts.{up_pos, mask, all_left}
 use Rattle.label.proofs.only_last.Goals as goal
 

@@ -1,5 +1,4 @@
 -- `label::symbol` meets its contract, by what `behind` and `without_last` ensure: n - t - 1 symbols stand behind symbol t.
-use borrow.Author.Rules.{rules}
 use Rattle.label.proofs.Shifts.{symbol_by}
 use Rattle.label.proofs.symbol.Goals as goal
 

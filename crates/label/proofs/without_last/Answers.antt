@@ -1,6 +1,5 @@
 -- `label::without_last` meets its contract: below eight symbols by `shift-out`, from there on because nothing of the label is left.
 use native.Mathlib.Omega.{arith}
-use borrow.Author.Rules.{rules}
 use Rattle.label.proofs.Shifts.{shift_out, none_left}
 use Rattle.label.proofs.without_last.Goals as goal
 

@@ -1,7 +1,5 @@
 -- `numbers::total` meets its contract. The loop's invariant: the sum is that of the numbers passed. The measure is what is left of them.
-use Prim.Native.Nat.{◌+◌, ◌-◌}
-use lib.ListN.{get_or}
-use Rattle.numbers.proofs.Sums.{Summed, summed_start, summed_next, summed_all}
+use Rattle.numbers.proofs.Sums.{summed_start, summed_next, summed_all}
 use borrow.Author.Rules.{rules}
 use Rattle.numbers.proofs.total.Goals as goal
 

@@ -1,8 +1,7 @@
 -- `numbers::total` meets its contract. The loop's invariant: the sum is that of the numbers passed. The measure is what is left of them.
 use Prim.Native.Nat.{◌+◌, ◌-◌}
 use lib.ListN.{get_or}
-use Rattle.numbers.proofs.Sums.{Summed, summed_start, summed_next, summed_all}
-use borrow.Author.Rules.{rules}
+use Rattle.numbers.proofs.Sums.{Summed}
 use Rattle.numbers.proofs.total.Given as goal
 
 abbrev pub invariant-loop-t : goal.invariant-loop-t

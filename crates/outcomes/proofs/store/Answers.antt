@@ -1,6 +1,5 @@
 -- `answers::store` stores the four values in order, each by `narrowed`.
 use Rattle.outcomes.proofs.Numbering.{numbered}
-use borrow.Author.Rules.{rules}
 use Rattle.outcomes.proofs.store.Goals as goal
 
 pub returns : goal.returns

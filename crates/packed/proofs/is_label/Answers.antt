@@ -1,9 +1,7 @@
 -- `packed::is_label` meets its contract. The loop's invariant: the answer is whether `rest` is a label of `left` symbols, since each turn
 -- takes one symbol off both. The measure is `left`.
-use mathlib.Core.Path.{◌≡◌, sym, ◌∙◌}
+use mathlib.Core.Path.{sym, ◌∙◌}
 use native.Mathlib.Omega.{arith}
-use borrow.Author.Rules.{rules}
-use Rattle.trellis.specs.Label.{is_label}
 use Rattle.packed.proofs.Packing.{label_held, turn_refuses, turn_goes_on, turn_ends}
 use Rattle.packed.proofs.is_label.Goals as goal
 

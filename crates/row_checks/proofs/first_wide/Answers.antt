@@ -9,11 +9,11 @@ pub loop-j-init : goal.loop-j-init
 loop-j-init c = wide_start _ _
 
 pub returns-then-is_wide : goal.returns-then-is_wide
-returns-then-is_wide c = wide_here c.loop-j.invariant c.is_IsWide.ensures c.if-is_wide.true
+returns-then-is_wide c = wide_here c.loop-j.invariant c.is_wide.ensures c.if-is_wide.true
 
 pub loop-j-preserved : goal.loop-j-preserved
 loop-j-preserved c =
-    wide_next c.loop-j.invariant c.loop-j-test.true c.is_IsWide.ensures
+    wide_next c.loop-j.invariant c.loop-j-test.true c.is_wide.ensures
     c.if-is_wide.false
 
 pub returns : goal.returns

@@ -1,0 +1,12 @@
+-- `beginnings::enter` goes over the slots. The loop's invariant: those passed have entered. The measure is how many are left.
+use borrow.Author.Rules.{rules}
+use Prim.Native.Nat.{◌-◌, ◌≤◌}
+use Rattle.beginnings.specs.Inner.Entering.{AllEntered}
+use Rattle.beginnings.proofs.Entrance.{entered_start, entered_more, entered_all}
+use Rattle.beginnings.proofs.enter.Given as goal
+
+abbrev pub invariant-loop-j : goal.invariant-loop-j
+invariant-loop-j l = (l.j ≤ l.have) × AllEntered l.s l.roots l.count l.slots l.items l.j
+
+abbrev pub decreases-loop-j : goal.decreases-loop-j
+decreases-loop-j l = l.have - l.j

@@ -1,0 +1,77 @@
+-- `one_step::keep_item` meets its contract. The loop's invariant: what is kept, and the candidates within the limit along the edges of the
+-- vertex from i on, give what is to be kept of all. The measure is what is left of the edges.
+use mathlib.Core.Path.{sym, ap, ◌∙◌}
+use native.Mathlib.Omega.{arith}
+use mathlib.Core.List.{List}
+use Prim.Native.Nat.{ℕ, ◌-◌}
+use Rattle.trellis.specs.Lists.{run}
+use Rattle.trellis.specs.Own as own
+use Rattle.edges.specs.Inner.Edges.{edge_in}
+use Rattle.edges.specs.declared.Edge.{Edge}
+use Rattle.dearest.specs.Inner.Items.{code_in}
+use Rattle.codes.specs.Inner.Codes.{code_vertex}
+use Rattle.one_step.specs.Inner.Steps.{candidate}
+use Rattle.totals.specs.Inner.Totals.{paid_for}
+use Rattle.one_step.specs.Inner.Loops.{limited}
+use Rattle.edge_search.proofs.FirstEdges.{froms_rise_lem}
+use Rattle.one_step.proofs.Streaming.{Streaming, streaming_start, streaming_next, streaming_done, streaming_stops, streamed_at}
+use Rattle.one_step.proofs.Streaming.{streamed_all}
+use borrow.Author.Rules.{rules}
+use Rattle.one_step.proofs.keep_item.Goals as goal
+
+pub paid-so_far-requires : goal.paid-so_far-requires
+paid-so_far-requires c =
+    let r = c.requires.1 in
+    (r.inside, r.rows_are, c.vertex_of-vertex.ensures ∙ ap code_vertex c.code_of-code.ensures)
+
+pub first_edge-i-requires : goal.first_edge-i-requires
+first_edge-i-requires c =
+    let p = c.requires in
+    (froms_rise_lem p.0, p.3, omega (arith, c.vertex_of-vertex.ensures))
+
+pub loop-i-init : goal.loop-i-init
+loop-i-init c =
+    streaming_start {cand = (λ y. limited c.args.limit (candidate c.args.rows.now c.args.prices.now c.args.t (paid_for c.args.rows.now c.args.t c.args.x) (code_in c.args.x) y))} c.first_edge-i.ensures
+    (c.vertex_of-vertex.ensures ∙ ap code_vertex c.code_of-code.ensures) c.requires.2
+
+pub edge_at-e-requires : goal.edge_at-e-requires
+edge_at-e-requires c =
+    let s = c.requires.0.small.there in
+    (omega (arith, s.pairs_in, c.loop-i-test.true), omega (arith, s.symbols_in, c.loop-i-test.true))
+
+pub returns-then-e-vertex : goal.returns-then-e-vertex
+returns-then-e-vertex c =
+    let a = c.args in
+    streamed_all a.rows.now a.prices.now a.t a.limit (run (edge_in a.pairs.now a.symbols.now) 0 a.edges) a.x
+    (streaming_stops {cand = (λ y. limited c.args.limit (candidate c.args.rows.now c.args.prices.now c.args.t (paid_for c.args.rows.now c.args.t c.args.x) (code_in c.args.x) y))} c.requires.0.froms_rise c.loop-i.invariant c.loop-i-test.true
+    (λ q. c.if-e-vertex.true (ap (λ (x : Edge). x.from) c.edge_at-e.ensures ∙ q
+    ∙ sym (c.vertex_of-vertex.ensures ∙ ap code_vertex c.code_of-code.ensures))))
+
+pub keep_edge-held-requires : goal.keep_edge-held-requires
+keep_edge-held-requires c =
+    let s = c.requires in (
+      s.1,
+      c.paid-so_far.ensures.1,
+      omega (arith, s.0.small.symbol_small _ c.loop-i-test.true, ap (λ (x : Edge). x.symbol) c.edge_at-e.ensures),
+      omega (arith, s.0.small.to_small _ c.loop-i-test.true, ap (λ (x : Edge). x.to) c.edge_at-e.ensures),
+      c.loop-i.invariant.kept,
+      s.4,
+    )
+
+pub overflow_add-i : goal.overflow_add-i
+overflow_add-i c = search (rules, c.requires.0.small.there.few)
+
+pub loop-i-preserved : goal.loop-i-preserved
+loop-i-preserved c =
+    let a = c.args in
+    streaming_next {cand = (λ y. limited c.args.limit (candidate c.args.rows.now c.args.prices.now c.args.t (paid_for c.args.rows.now c.args.t c.args.x) (code_in c.args.x) y))} c.requires.0.froms_rise c.loop-i.invariant c.loop-i-test.true
+    (sym (ap (λ (x : Edge). x.from) c.edge_at-e.ensures) ∙ c.if-e-vertex.false
+    ∙ c.vertex_of-vertex.ensures ∙ ap code_vertex c.code_of-code.ensures)
+    (streamed_at a.rows.now a.prices.now a.t a.x (edge_in a.pairs.now a.symbols.now c.loop-i.i) a.limit
+    c.paid-so_far.ensures.0 c.code_of-code.ensures c.edge_at-e.ensures c.keep_edge-held.ensures)
+
+pub returns : goal.returns
+returns c =
+    let a = c.args in
+    streamed_all a.rows.now a.prices.now a.t a.limit (run (edge_in a.pairs.now a.symbols.now) 0 a.edges) a.x
+    (streaming_done {cand = (λ y. limited c.args.limit (candidate c.args.rows.now c.args.prices.now c.args.t (paid_for c.args.rows.now c.args.t c.args.x) (code_in c.args.x) y))} c.requires.0.froms_rise c.loop-i.invariant c.loop-i-test.false)

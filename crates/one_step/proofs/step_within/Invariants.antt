@@ -1,0 +1,21 @@
+-- `one_step::step_within` meets its contract. The loop's invariant: what is kept is what is kept of the candidates of the items passed,
+-- within the limit, which came one after another. The measure is what is left of the items.
+use mathlib.Core.Path.{sym}
+use native.Mathlib.Omega.{arith}
+use Prim.Native.Nat.{◌-◌}
+use lib.ListN.{take}
+use Rattle.trellis.specs.Lists.{run}
+use Rattle.edges.specs.Inner.Edges.{edge_in}
+use Rattle.one_step.specs.Inner.Steps.{candidates}
+use Rattle.one_step.specs.Inner.Loops.{limited}
+use Rattle.one_step.proofs.Limits.{limited_items, stepped_same}
+use Rattle.one_step.proofs.Streaming.{Stepping, stepping_start, stepping_next, stepping_all}
+use borrow.Author.Rules.{rules}
+use Rattle.one_step.proofs.step_within.Given as goal
+
+abbrev pub invariant-loop-i : goal.invariant-loop-i
+invariant-loop-i l = Stepping (λ x. limited l.limit (candidates l.rows l.prices l.t (run (edge_in l.pairs l.symbols) 0 l.edges) x)) l.k l.old l.have l.items
+    l.held.count l.held.worst l.i
+
+abbrev pub decreases-loop-i : goal.decreases-loop-i
+decreases-loop-i l = l.have - l.i

@@ -1,0 +1,14 @@
+-- One turn is `backward-more`, cited with what the functions on codes promise; a goal fits a byte, for it is a state (`NotedWell`).
+use borrow.Author.Rules.{rules}
+use mathlib.Core.Path.{refl}
+use native.Mathlib.Omega.{arith}
+use Prim.Native.Nat.{◌+◌, ◌-◌, ◌*◌}
+use Rattle.trellis.specs.Bounds.{most_paths}
+use Rattle.readout.proofs.Backward.{Backward, backward_start, backward_more, backward_all}
+use Rattle.readout.proofs.read_path.Given as goal
+
+abbrev pub invariant-loop-b : goal.invariant-loop-b
+invariant-loop-b l = Backward l.back l.blocks l.slot l.at l.initial.labels l.labels l.initial.goals l.goals l.j l.b
+
+abbrev pub decreases-loop-b : goal.decreases-loop-b
+decreases-loop-b l = l.b

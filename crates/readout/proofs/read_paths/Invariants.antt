@@ -1,0 +1,15 @@
+-- One turn is `paths-more`, cited with what the functions on slots and `read_path` promise. The next path begins where r · blocks words are
+-- written, so it has room and its place is small (`paths-room`, `paths-near`).
+use borrow.Author.Rules.{rules}
+use mathlib.Core.Path.{refl, ◌∙◌, ap}
+use native.Mathlib.Omega.{arith}
+use Prim.Native.Nat.{◌-◌}
+use Rattle.codes.specs.Inner.Codes.{code_root}
+use Rattle.readout.proofs.Paths.{InPaths, paths_start, paths_room, paths_near, paths_more, paths_all}
+use Rattle.readout.proofs.read_paths.Given as goal
+
+abbrev pub invariant-loop-r : goal.invariant-loop-r
+invariant-loop-r l = InPaths l.slots l.count l.back l.blocks l.initial.distances l.distances l.initial.labels l.labels l.initial.goals l.goals l.at l.r
+
+abbrev pub decreases-loop-r : goal.decreases-loop-r
+decreases-loop-r l = l.count - l.r

@@ -1,0 +1,18 @@
+-- `sheet_lines::put_blocks` puts the lines one behind another. The loop's invariant: the lines of the records passed are put. The measure
+-- is how many are left.
+use Prim.Native.Nat.{◌-◌}
+use lib.ListN.{take}
+use Rattle.text.proofs.Putting.{Pieces, pieces_start}
+use Rattle.sheet_records.specs.Sheet.{block_line}
+use Rattle.sheet_lines.proofs.Lines.{block_next, blocks_all}
+use borrow.Author.Rules.{rules}
+use Rattle.sheet_lines.proofs.put_blocks.Goals as goal
+
+pub loop-b-init : goal.loop-b-init
+loop-b-init c = pieces_start
+
+pub loop-b-preserved : goal.loop-b-preserved
+loop-b-preserved c = block_next c.args.items c.requires c.loop-b.invariant c.loop-b-test.true c.put_block-end.ensures
+
+pub returns : goal.returns
+returns c = blocks_all c.args.items c.requires c.loop-b.invariant c.loop-b-test.false

@@ -1,0 +1,10 @@
+-- `sheet_lines::put_total` puts the sums that counting gives; so few records are never too many for it.
+use Rattle.sheet_lines.proofs.Lines.{total_put, not_many}
+use borrow.Author.Rules.{rules}
+use Rattle.sheet_lines.proofs.put_total.Goals as goal
+
+pub returns-in-Totals : goal.returns-in-Totals
+returns-in-Totals c = total_put c.args.items c.requires.0 c.requires.1 _ c.count_first.ensures c.in-Totals.is c.put_line.ensures
+
+pub returns-in-TooMany : goal.returns-in-TooMany
+returns-in-TooMany c = absurd (not_many c.args.items c.requires.0 c.requires.1 _ c.count_first.ensures c.in-TooMany.is)

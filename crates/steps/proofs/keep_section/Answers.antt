@@ -1,0 +1,94 @@
+-- `steps::keep_section` meets its contract. The loop's invariant: what is kept at depth t, and the steps that are left, give what is kept
+-- in the end, and the limit is below the cost of no path. The measure is what is left of the steps.
+use mathlib.Core.Path.{refl}
+use Prim.Native.Nat.{◌-◌, ◌<◌}
+use Rattle.paths.specs.Chain.{unreached}
+use Rattle.whole_section.proofs.Places.{counts_near, count_near, count_in, step_at, twice_near, pairs_near, symbols_near, next_near}
+use Rattle.whole_section.proofs.Places.{next_less}
+use Rattle.steps.proofs.Depths.{Deep, deep_start, deep_room, deep_each, deep_next, deep_all}
+use borrow.Author.Rules.{rules, Fits-under}
+use Rattle.steps.proofs.keep_section.Goals as goal
+
+abbrev read : tie.After-limit-of invariant-loop decreases-loop → tie.After-wide invariant-loop decreases-loop
+read g = (stepped g).before.before.before.before.before.before
+
+pub loop-t-init : goal.loop-t-init
+loop-t-init c = let p = c.requires in (deep_start p.0 p.3 p.6, p.7)
+
+pub overflow_add-n : goal.overflow_add-n
+overflow_add-n c = Fits-under _ _ 13 (counts_near c.requires.0) tt
+
+pub overflow_add-n-in-loop-t : goal.overflow_add-n-in-loop-t
+overflow_add-n-in-loop-t c = Fits-under _ _ 21 (count_near c.requires.0 c.loop-t-test.true) tt
+
+pub offset_bounds-l-n : goal.offset_bounds-l-n
+offset_bounds-l-n c = search (rules, count_near c.requires.0 c.loop-t-test.true)
+
+pub bounds-l-n : goal.bounds-l-n
+bounds-l-n c = search (rules, count_in c.requires.0 c.loop-t-test.true)
+
+pub edges_each-each-requires : goal.edges_each-each-requires
+edges_each-each-requires c = deep_each c.requires.0 c.loop-t.invariant.0 c.loop-t-test.true refl c.wide-edges.ensures
+
+pub offset_bounds-l-pairs : goal.offset_bounds-l-pairs
+offset_bounds-l-pairs c = search (rules, (step_at c.requires.0 c.loop-t.invariant.0.places c.loop-t-test.true refl c.wide-edges.ensures).pairs_in)
+
+pub slice_bounds-keep_step-count : goal.slice_bounds-keep_step-count
+slice_bounds-keep_step-count c = search (rules, (step_at c.requires.0 c.loop-t.invariant.0.places c.loop-t-test.true refl c.wide-edges.ensures).pairs_in)
+
+pub slice_bounds-keep_step-start : goal.slice_bounds-keep_step-start
+slice_bounds-keep_step-start c = search (rules, (step_at c.requires.0 c.loop-t.invariant.0.places c.loop-t-test.true refl c.wide-edges.ensures).pairs_in)
+
+pub offset_bounds-l-symbols : goal.offset_bounds-l-symbols
+offset_bounds-l-symbols c = search (rules, (step_at c.requires.0 c.loop-t.invariant.0.places c.loop-t-test.true refl c.wide-edges.ensures).symbols_in)
+
+pub slice_bounds-keep_step-count-in-loop-t : goal.slice_bounds-keep_step-count-in-loop-t
+slice_bounds-keep_step-count-in-loop-t c = search (rules, (step_at c.requires.0 c.loop-t.invariant.0.places c.loop-t-test.true refl c.wide-edges.ensures).symbols_in)
+
+pub slice_bounds-keep_step-start-in-loop-t : goal.slice_bounds-keep_step-start-in-loop-t
+slice_bounds-keep_step-start-in-loop-t c = search (rules, (step_at c.requires.0 c.loop-t.invariant.0.places c.loop-t-test.true refl c.wide-edges.ensures).symbols_in)
+
+pub keep_step-held-requires : goal.keep_step-held-requires
+keep_step-held-requires c =
+    let p = c.requires in let i = c.loop-t.invariant in (
+      (step_at p.0 i.0.places c.loop-t-test.true refl c.wide-edges.ensures).edges,
+      deep_room p.0 i.0 c.loop-t-test.true p.1 p.2 p.4 p.5,
+      i.0.most,
+      i.0.long,
+      i.0.long,
+      c.edges_each-each.ensures,
+      i.1,
+    )
+
+pub limit_of-next-requires : goal.limit_of-next-requires
+limit_of-next-requires c = (c.keep_step-held.ensures.kept, c.requires.2)
+
+pub overflow_mul-pairs : goal.overflow_mul-pairs
+overflow_mul-pairs c = Fits-under _ _ 200000 (twice_near _ (read c).wide.ensures.1) tt
+
+pub overflow_add-pairs : goal.overflow_add-pairs
+overflow_add-pairs c =
+    let w = read c in let i = c.loop-t.invariant.0 in
+    Fits-under _ _ 200000 (pairs_near c.requires.0 i.places c.loop-t-test.true refl w.wide.ensures) tt
+
+pub overflow_add-symbols : goal.overflow_add-symbols
+overflow_add-symbols c =
+    let w = read c in let i = c.loop-t.invariant.0 in
+    Fits-under _ _ 200000 (symbols_near c.requires.0 i.places c.loop-t-test.true refl w.wide.ensures) tt
+
+pub overflow_add-t : goal.overflow_add-t
+overflow_add-t c = let h = (read c) in Fits-under _ _ 21 (next_near c.requires.0 h.loop-test.taken) tt
+
+pub loop-t-smaller : goal.loop-t-smaller
+loop-t-smaller c = next_less _ _ (read c).loop-test.taken
+
+pub loop-t-preserved : goal.loop-t-preserved
+loop-t-preserved c =
+    let w = read c in let s = c.keep_step-held.ensures in
+    let d = deep_next c.requires.0 c.loop-t.invariant.0 c.loop-t-test.true refl w.wide.ensures s in
+    (d, c.limit_of-next.ensures)
+
+pub returns : goal.returns
+returns c =
+    let i = c.loop-t.invariant in
+    (deep_all c.requires.0 i.0 c.loop-t-test.false, i.1)
