@@ -9,9 +9,6 @@ use Rattle.steps.proofs.Depths.{Deep, deep_start, deep_room, deep_each, deep_nex
 use borrow.Author.Rules.{rules, Fits-under}
 use Rattle.steps.proofs.keep_section.Goals as goal
 
-abbrev read : tie.After-limit-of invariant-loop decreases-loop → tie.After-wide invariant-loop decreases-loop
-read g = (stepped g).before.before.before.before.before.before
-
 pub loop-t-init : goal.loop-t-init
 loop-t-init c = let p = c.requires in (deep_start p.0 p.3 p.6, p.7)
 
@@ -64,28 +61,28 @@ pub limit_of-next-requires : goal.limit_of-next-requires
 limit_of-next-requires c = (c.keep_step-held.ensures.kept, c.requires.2)
 
 pub overflow_mul-pairs : goal.overflow_mul-pairs
-overflow_mul-pairs c = Fits-under _ _ 200000 (twice_near _ (read c).wide.ensures.1) tt
+overflow_mul-pairs c = Fits-under _ _ 200000 (twice_near _ c.wide-edges.ensures.1) tt
 
 pub overflow_add-pairs : goal.overflow_add-pairs
 overflow_add-pairs c =
-    let w = read c in let i = c.loop-t.invariant.0 in
-    Fits-under _ _ 200000 (pairs_near c.requires.0 i.places c.loop-t-test.true refl w.wide.ensures) tt
+    let i = c.loop-t.invariant.0 in
+    Fits-under _ _ 200000 (pairs_near c.requires.0 i.places c.loop-t-test.true refl c.wide-edges.ensures) tt
 
 pub overflow_add-symbols : goal.overflow_add-symbols
 overflow_add-symbols c =
-    let w = read c in let i = c.loop-t.invariant.0 in
-    Fits-under _ _ 200000 (symbols_near c.requires.0 i.places c.loop-t-test.true refl w.wide.ensures) tt
+    let i = c.loop-t.invariant.0 in
+    Fits-under _ _ 200000 (symbols_near c.requires.0 i.places c.loop-t-test.true refl c.wide-edges.ensures) tt
 
 pub overflow_add-t : goal.overflow_add-t
-overflow_add-t c = let h = (read c) in Fits-under _ _ 21 (next_near c.requires.0 h.loop-test.taken) tt
+overflow_add-t c = Fits-under _ _ 21 (next_near c.requires.0 c.loop-t-test.true) tt
 
 pub loop-t-smaller : goal.loop-t-smaller
-loop-t-smaller c = next_less _ _ (read c).loop-test.taken
+loop-t-smaller c = next_less _ _ c.loop-t-test.true
 
 pub loop-t-preserved : goal.loop-t-preserved
 loop-t-preserved c =
-    let w = read c in let s = c.keep_step-held.ensures in
-    let d = deep_next c.requires.0 c.loop-t.invariant.0 c.loop-t-test.true refl w.wide.ensures s in
+    let s = c.keep_step-held.ensures in
+    let d = deep_next c.requires.0 c.loop-t.invariant.0 c.loop-t-test.true refl c.wide-edges.ensures s in
     (d, c.limit_of-next.ensures)
 
 pub returns : goal.returns
