@@ -1,0 +1,37 @@
+-- `path_list::list_with` fills the cost table; where the start state has a path, the paths are listed, and elsewhere the table is all.
+use borrow.Author.Rules.{rules}
+use Rattle.decoding.proofs.Ends.{ready}
+use Rattle.path_list.proofs.Held.{with_notes, with_none, with_table, with_paths}
+use Rattle.path_list.proofs.list_with.Goals as goal
+
+pub fill-to_pay-requires : goal.fill-to_pay-requires
+fill-to_pay-requires c =
+    let pre = c.requires in
+    (ready pre.0.checks, c.ends_in-ends.ensures.long, pre.2.for_costs)
+
+pub settle-requires : goal.settle-requires
+settle-requires c =
+    let pre = c.requires in
+    with_notes pre.0 c.widened.ensures.0 c.ends_in-ends.ensures pre.1 pre.2 c.fill-to_pay.ensures
+
+pub bounds-to_pay-widened : goal.bounds-to_pay-widened
+bounds-to_pay-widened c = let below = c.requires.0.checks.framed.start_below in search rules
+
+pub returns-then-to_pay-widened : goal.returns-then-to_pay-widened
+returns-then-to_pay-widened c =
+    let pre = c.requires in
+    with_none pre.0 c.widened.ensures.0 c.ends_in-ends.ensures pre.1 pre.2 c.fill-to_pay.ensures
+    c.widened-2.ensures.0 c.settle.ensures c.if-to_pay-widened.true
+
+pub list_paths-requires : goal.list_paths-requires
+list_paths-requires c =
+    let pre = c.requires in
+    let T = with_table pre.0 c.widened.ensures.0 c.ends_in-ends.ensures pre.1 pre.2 c.fill-to_pay.ensures
+    c.widened-2.ensures.0 c.settle.ensures c.if-to_pay-widened.false in
+    (pre.0, T, pre.1, pre.2.for_distances, pre.2.for_labels, pre.2.for_goals)
+
+pub returns : goal.returns
+returns c =
+    let pre = c.requires in
+    with_paths pre.0 c.widened.ensures.0 c.ends_in-ends.ensures pre.1 pre.2 c.fill-to_pay.ensures
+    c.widened-2.ensures.0 c.settle.ensures c.if-to_pay-widened.false c.list_paths.ensures
