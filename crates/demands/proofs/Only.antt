@@ -42,8 +42,8 @@ passed true false same e = let d : ◌≡◌ {A = ℕ} 8 0 = ap (λ (o : Outcome
 passed false b same e = let d : ◌≡◌ {A = ℕ} 8 0 = ap (λ (o : Outcome). o.number) e in absurd (omega (arith, d))
 
 module _ {a b : List ℕ} where
-  same_code : Agreeing a b → same_code a b ≡ true
-  same_code K = code_of (record {
+  same_code_lem : Agreeing a b → same_code a b ≡ true
+  same_code_lem K = code_of (record {
     q = K.sizes.0;
     n = K.sizes.1;
     states = K.sizes.2;
@@ -52,14 +52,14 @@ module _ {a b : List ℕ} where
   })
 
   agreeing_renumbered : Agreeing a b → Renumbered a b
-  agreeing_renumbered K = same_renumbered K.usable.0 K.usable.1 (same_code K)
+  agreeing_renumbered K = same_renumbered K.usable.0 K.usable.1 (same_code_lem K)
 
   agreeing_told : Agreeing a b → comparing a b ≡ success 1
   unfolding comparing
   agreeing_told K =
       let first = K.usable.0 in
       let second = K.usable.1 in
-      let code = same_code K in
+      let code = same_code_lem K in
       rw (first, second, code)
 
   told_agreeing : comparing a b ≡ success 1 → Agreeing a b

@@ -2,4 +2,3 @@
 // specs/, why they hold in proofs/, and no code.
 
 #![tactic(auto)]
-
