@@ -1,7 +1,6 @@
 -- `assemble::put_header` writes three numbers.
 use native.Mathlib.Omega.{arith}
 use lib.ListN.{length-set}
-use borrow.Author.Rules.{rules}
 use Rattle.assemble.proofs.put_header.Goals as goal
 
 pub bounds-sizes-1 : goal.bounds-sizes-1

@@ -1,8 +1,6 @@
 -- `assemble::put_numbers` writes one number after another: the loop keeps those that are written so far.
-use mathlib.Core.Path.{refl}
 use Prim.Native.Nat.{◌-◌}
-use borrow.Author.Rules.{rules}
-use Rattle.assemble.proofs.Numbers.{InNumbers, numbers_none, numbers_more, numbers_end}
+use Rattle.assemble.proofs.Numbers.{InNumbers}
 use Rattle.assemble.proofs.put_numbers.Given as goal
 
 abbrev pub invariant-loop-i : goal.invariant-loop-i

@@ -1,6 +1,5 @@
 -- `assemble::put_section` writes the sizes and then the parts one behind another; each has room behind those before it.
 use Rattle.assemble.proofs.SectionParts.{room_roots, room_goals, room_pairs, room_symbols, all_parts}
-use borrow.Author.Rules.{rules}
 use Rattle.assemble.proofs.put_section.Goals as goal
 
 pub put_states-at-requires : goal.put_states-at-requires

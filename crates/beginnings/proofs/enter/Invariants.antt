@@ -1,8 +1,6 @@
 -- `beginnings::enter` goes over the slots. The loop's invariant: those passed have entered. The measure is how many are left.
-use borrow.Author.Rules.{rules}
 use Prim.Native.Nat.{◌-◌, ◌≤◌}
 use Rattle.beginnings.specs.Inner.Entering.{AllEntered}
-use Rattle.beginnings.proofs.Entrance.{entered_start, entered_more, entered_all}
 use Rattle.beginnings.proofs.enter.Given as goal
 
 abbrev pub invariant-loop-j : goal.invariant-loop-j

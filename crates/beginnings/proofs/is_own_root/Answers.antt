@@ -1,5 +1,4 @@
 -- `beginnings::is_own_root` says no past the last root, and else what the state of the root is that has the state's number.
-use borrow.Author.Rules.{rules}
 use Rattle.beginnings.proofs.Entrance.{own_none, own_some}
 use Rattle.beginnings.proofs.is_own_root.Goals as goal
 

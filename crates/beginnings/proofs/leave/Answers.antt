@@ -3,8 +3,7 @@
 use borrow.Author.Rules.{rules}
 use native.Mathlib.Omega.{arith}
 use lib.ListN.{length, get_or}
-use Prim.Native.Nat.{◌+◌, ◌-◌, ◌≤◌, ◌<◌}
-use Rattle.beginnings.specs.Inner.Entering.{state_from, Left}
+use Prim.Native.Nat.{◌+◌, ◌<◌}
 use Rattle.beginnings.proofs.Leaving.{from_small, goal_inside, goal_small, left_slot_lem, left_code_lem, left_start, left_more, left_all}
 use Rattle.beginnings.proofs.leave.Goals as goal
 

@@ -1,11 +1,7 @@
 -- `beginnings::leave` goes over the items. The loop's invariant: those passed have left, each with its back pointer, and no other back
 -- pointer has changed. The measure is how many are left.
-use borrow.Author.Rules.{rules}
-use native.Mathlib.Omega.{arith}
-use lib.ListN.{length, get_or}
-use Prim.Native.Nat.{◌+◌, ◌-◌, ◌≤◌, ◌<◌}
+use Prim.Native.Nat.{◌-◌, ◌≤◌}
 use Rattle.beginnings.specs.Inner.Entering.{state_from, Left}
-use Rattle.beginnings.proofs.Leaving.{from_small, goal_inside, goal_small, left_slot_lem, left_code_lem, left_start, left_more, left_all}
 use Rattle.beginnings.proofs.leave.Given as goal
 
 abbrev pub invariant-loop-j : goal.invariant-loop-j

@@ -1,5 +1,4 @@
 -- `beginnings::root_at`: the root of the state's own number, where it is said to have the state, and else what the search finds.
-use borrow.Author.Rules.{rules}
 use Rattle.beginnings.proofs.Entrance.{root_is}
 use Rattle.beginnings.proofs.root_at.Goals as goal
 

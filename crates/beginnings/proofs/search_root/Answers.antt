@@ -2,8 +2,7 @@
 -- The measure is how many are left.
 use borrow.Author.Rules.{rules}
 use mathlib.Core.Path.{sym, ◌∙◌}
-use Prim.Native.Nat.{◌-◌}
-use Rattle.beginnings.proofs.Entrance.{Searched, root_is, searched_start, searched_more, searched_none}
+use Rattle.beginnings.proofs.Entrance.{root_is, searched_start, searched_more, searched_none}
 use Rattle.beginnings.proofs.search_root.Goals as goal
 
 pub loop-v-init : goal.loop-v-init

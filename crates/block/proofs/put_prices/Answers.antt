@@ -5,7 +5,7 @@ use mathlib.Core.Path.{refl}
 use lib.Dec.{lit<}
 use borrow.Author.Rules.{rules}
 use Rattle.comparing.proofs.Marks.{repeated, symbol_cost_lem}
-use Rattle.block.proofs.Costs.{prices_start, step_inside, prices_more, prices_end, InPrices}
+use Rattle.block.proofs.Costs.{prices_start, step_inside, prices_more, prices_end}
 use Rattle.block.proofs.put_prices.Goals as goal
 
 pub loop-t-init : goal.loop-t-init

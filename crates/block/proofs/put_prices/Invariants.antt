@@ -1,11 +1,7 @@
 -- `block::put_prices` goes from the last symbol to the first, each weighing four times the one before it. The loop's invariant: the steps
 -- passed have what their symbols add; what a symbol costs is its bit of the mask against the label that has it throughout. The measure is
 -- how many steps are left.
-use mathlib.Core.Path.{refl}
-use lib.Dec.{lit<}
-use borrow.Author.Rules.{rules}
-use Rattle.comparing.proofs.Marks.{repeated, symbol_cost_lem}
-use Rattle.block.proofs.Costs.{prices_start, step_inside, prices_more, prices_end, InPrices}
+use Rattle.block.proofs.Costs.{InPrices}
 use Rattle.block.proofs.put_prices.Given as goal
 
 abbrev pub invariant-loop-t : goal.invariant-loop-t

@@ -1,6 +1,5 @@
 -- `c_decoding::decode_numbered` is decoding, its answer in numbers.
 use Rattle.c_decoding.proofs.Left.{decode_left}
-use borrow.Author.Rules.{rules}
 use Rattle.c_decoding.proofs.decode_numbered.Goals as goal
 
 pub returns : goal.returns

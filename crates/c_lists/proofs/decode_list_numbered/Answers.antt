@@ -1,6 +1,5 @@
 -- `c_lists::decode_list_numbered` is the listing of several paths, its answer in numbers.
 use Rattle.c_lists.proofs.Left.{decode_list_left}
-use borrow.Author.Rules.{rules}
 use Rattle.c_lists.proofs.decode_list_numbered.Goals as goal
 
 pub returns : goal.returns

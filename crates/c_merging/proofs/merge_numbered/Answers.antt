@@ -1,6 +1,5 @@
 -- `c_merging::merge_numbered` is merging, its answer in numbers.
 use Rattle.c_merging.proofs.Left.{merge_left}
-use borrow.Author.Rules.{rules}
 use Rattle.c_merging.proofs.merge_numbered.Goals as goal
 
 pub returns : goal.returns

@@ -1,6 +1,5 @@
 -- `c_rows::merge_rows_numbered` is the merging of generator rows, its answer in numbers.
 use Rattle.c_rows.proofs.Left.{merge_rows_left}
-use borrow.Author.Rules.{rules}
 use Rattle.c_rows.proofs.merge_rows_numbered.Goals as goal
 
 pub returns : goal.returns

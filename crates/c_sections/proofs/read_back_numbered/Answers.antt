@@ -1,6 +1,5 @@
 -- `c_sections::read_back_numbered` is reading back, its answer in numbers.
 use Rattle.c_sections.proofs.Left.{read_back_left}
-use borrow.Author.Rules.{rules}
 use Rattle.c_sections.proofs.read_back_numbered.Goals as goal
 
 pub returns : goal.returns

@@ -1,6 +1,5 @@
 -- `c_sections::same_section_numbered` is comparing two sections, its answer in numbers.
 use Rattle.outcomes.proofs.Numbering.{numbered_by}
-use borrow.Author.Rules.{rules}
 use Rattle.c_sections.proofs.same_section_numbered.Goals as goal
 
 pub returns : goal.returns

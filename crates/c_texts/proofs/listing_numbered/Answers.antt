@@ -1,6 +1,5 @@
 -- `c_texts::listing_numbered` is the listing, its answer in numbers.
 use Rattle.c_texts.proofs.Left.{listing_left}
-use borrow.Author.Rules.{rules}
 use Rattle.c_texts.proofs.listing_numbered.Goals as goal
 
 pub returns : goal.returns

@@ -1,7 +1,6 @@
 -- `chain::decode` names a fault of the sections, or goes on with the frame.
-use borrow.Author.Rules.{rules}
 use mathlib.Core.Path.{◌∙◌}
-use Rattle.frame.specs.Frame.{Frame, frame}
+use Rattle.frame.specs.Frame.{frame}
 use Rattle.decoding.proofs.Faults.{ends_section, past_sections}
 use Rattle.chain.proofs.decode.Goals as goal
 

@@ -1,6 +1,5 @@
 -- `codes::further` meets its contract, by what its calls ensure.
 use Rattle.codes.proofs.Codes.{further_is}
-use borrow.Author.Rules.{rules}
 use Rattle.codes.proofs.further.Goals as goal
 
 pub returns : goal.returns

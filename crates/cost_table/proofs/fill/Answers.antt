@@ -3,8 +3,7 @@
 use borrow.Author.Rules.{rules}
 use native.Mathlib.Omega.{arith}
 use lib.ListN.{length-take, length-drop}
-use Rattle.cost_table.specs.Inner.Filled.{held_blocks}
-use Rattle.cost_table.proofs.Tables.{InFill, fill_start, block_at, fill_more, fill_end}
+use Rattle.cost_table.proofs.Tables.{fill_start, block_at, fill_more, fill_end}
 use Rattle.cost_table.proofs.Rows.{one_below, row_inside, row_back}
 use Rattle.cost_table.proofs.fill.Goals as goal
 

@@ -1,11 +1,7 @@
 -- `cost_table::fill` passes the blocks from the last to the first. The loop's invariant: what is left to pay and the notes are those of the
 -- chain from block b on. The measure is b.
-use borrow.Author.Rules.{rules}
-use native.Mathlib.Omega.{arith}
-use lib.ListN.{length-take, length-drop}
 use Rattle.cost_table.specs.Inner.Filled.{held_blocks}
-use Rattle.cost_table.proofs.Tables.{InFill, fill_start, block_at, fill_more, fill_end}
-use Rattle.cost_table.proofs.Rows.{one_below, row_inside, row_back}
+use Rattle.cost_table.proofs.Tables.{InFill}
 use Rattle.cost_table.proofs.fill.Given as goal
 
 abbrev pub invariant-loop-b : goal.invariant-loop-b

@@ -1,5 +1,4 @@
 -- `cost_table::fill_block` makes the prices and passes the block.
-use borrow.Author.Rules.{rules}
 use native.Mathlib.Omega.{arith}
 use Rattle.section_file.proofs.Seen.{header}
 use Rattle.cost_table.proofs.Tables.{block_filled}

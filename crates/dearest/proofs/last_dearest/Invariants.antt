@@ -1,8 +1,7 @@
 -- `dearest::last_dearest` passes over the items. The loop's invariant: of those passed, the last dearest is the one found, with its cost.
 -- The measure is how many are left.
-use borrow.Author.Rules.{rules}
 use Prim.Native.Nat.{◌-◌}
-use Rattle.dearest.proofs.LastDearest.{Looked, looked_start, looked_more, looked_all}
+use Rattle.dearest.proofs.LastDearest.{Looked}
 use Rattle.dearest.proofs.last_dearest.Given as goal
 
 abbrev pub invariant-loop-i : goal.invariant-loop-i

@@ -1,5 +1,4 @@
 -- `decoding::decode_with` goes backward, forward, and turns the notes into costs: what is left is what the frame's best path gives.
-use borrow.Author.Rules.{rules}
 use Rattle.decoding.proofs.Ends.{ready}
 use Rattle.decoding.proofs.Held.{with_notes, with_none, with_way, with_labels, with_path}
 use Rattle.decoding.proofs.decode_with.Goals as goal

@@ -2,7 +2,6 @@
 use mathlib.Core.Path.{ap, ◌∙◌}
 use native.Mathlib.Omega.{arith}
 use Rattle.depth_runs.specs.Inner.Rows.{at}
-use borrow.Author.Rules.{rules}
 use Rattle.depth_runs.proofs.first_word.Goals as goal
 
 pub offset_bounds-starts-first : goal.offset_bounds-starts-first

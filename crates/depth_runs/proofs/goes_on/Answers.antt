@@ -1,6 +1,5 @@
 -- `depth_runs::goes_on` meets its contract, by its two ways out.
 use borrow.Author.Tests.{lt-ltb, le-ltb}
-use borrow.Author.Rules.{rules}
 use Rattle.depth_runs.proofs.goes_on.Goals as goal
 
 pub returns-then-i-w : goal.returns-then-i-w

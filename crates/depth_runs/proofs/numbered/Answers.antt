@@ -1,7 +1,6 @@
 -- `depth_runs::numbered` meets its contract, by its two ways out.
 use borrow.Author.Tests.{eq-eqb, ne_eqb}
 use native.Mathlib.Omega.{arith}
-use borrow.Author.Rules.{rules}
 use Rattle.depth_runs.proofs.numbered.Goals as goal
 
 pub returns-then-first-i : goal.returns-then-first-i

@@ -1,10 +1,7 @@
 -- `depth_runs::put_numbers` meets its contract. The loop keeps that the words before i have their numbers, and how many vertices they have.
 -- A first word is no later than its word, so its number can be read back.
 use Prim.Native.Nat.{◌-◌}
-use lib.ListN.{length-set}
-use borrow.Author.Rules.{rules}
-use native.Mathlib.Omega.{arith}
-use Rattle.depth_runs.proofs.Numbers.{InNumbers, numbers_none, numbers_own, numbers_few, numbers_more, numbers_end}
+use Rattle.depth_runs.proofs.Numbers.{InNumbers}
 use Rattle.depth_runs.specs.Inner.Rows.{first_word_in}
 use Rattle.depth_runs.proofs.put_numbers.Given as goal
 

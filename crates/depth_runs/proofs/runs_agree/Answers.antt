@@ -1,9 +1,7 @@
 -- `depth_runs::runs_agree` meets its contract. The loop keeps that all words before i agree.
-use Prim.Native.Nat.{◌-◌}
 use borrow.Author.Rules.{rules}
-use borrow.Author.Tests.{not-true, not-false}
 use mathlib.Core.Path.{sym, ◌∙◌}
-use Rattle.depth_runs.proofs.Agreement.{InAgreement, agreement_none, agreement_more, agreement_no, agreement_yes}
+use Rattle.depth_runs.proofs.Agreement.{agreement_none, agreement_more, agreement_no, agreement_yes}
 use Rattle.depth_runs.proofs.runs_agree.Goals as goal
 
 pub loop-i-init : goal.loop-i-init

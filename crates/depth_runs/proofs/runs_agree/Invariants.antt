@@ -1,9 +1,6 @@
 -- `depth_runs::runs_agree` meets its contract. The loop keeps that all words before i agree.
 use Prim.Native.Nat.{◌-◌}
-use borrow.Author.Rules.{rules}
-use borrow.Author.Tests.{not-true, not-false}
-use mathlib.Core.Path.{sym, ◌∙◌}
-use Rattle.depth_runs.proofs.Agreement.{InAgreement, agreement_none, agreement_more, agreement_no, agreement_yes}
+use Rattle.depth_runs.proofs.Agreement.{InAgreement}
 use Rattle.depth_runs.proofs.runs_agree.Given as goal
 
 abbrev pub invariant-loop-i : goal.invariant-loop-i

@@ -1,7 +1,6 @@
 -- `depths::begin_alike` meets its contract: roots alike and fronts alike, by what `label::front` ensures.
 use borrow.Author.Tests.{eq-eqb, ne_eqb}
 use Rattle.depth_runs.specs.Inner.Rows.{begin_alike}
-use borrow.Author.Rules.{rules}
 use Rattle.depths.proofs.begin_alike.Goals as goal
 
 pub returns-then-roots-i : goal.returns-then-roots-i

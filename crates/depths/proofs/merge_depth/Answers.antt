@@ -1,5 +1,4 @@
 -- `depths::merge_depth` meets its contract: what the passes leave in their rows, the test and the numbering come to the depth's outcome.
-use borrow.Author.Tests.{not-true, not-false}
 use mathlib.Core.Path.{sym, ◌∙◌}
 use Rattle.depths.proofs.OneDepth.{depth_backward, depth_refused, depth_to_number, depth_merged}
 use Rattle.depths.proofs.Firsts.{row_small}

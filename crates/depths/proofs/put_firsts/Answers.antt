@@ -1,10 +1,8 @@
 -- `depths::put_firsts` meets its contract. The loop keeps the first words of the words before i, and for each key the first of them that
 -- has it.
-use Prim.Native.Nat.{◌-◌}
-use lib.ListN.{length}
 use borrow.Author.Rules.{rules}
 use native.Mathlib.Omega.{arith}
-use Rattle.depths.proofs.Firsts.{InFirsts, firsts_none, firsts_small, firsts_key, firsts_lt, firsts_more, firsts_end}
+use Rattle.depths.proofs.Firsts.{firsts_none, firsts_small, firsts_key, firsts_lt, firsts_more, firsts_end}
 use Rattle.depths.proofs.put_firsts.Goals as goal
 
 pub loop-i-init : goal.loop-i-init

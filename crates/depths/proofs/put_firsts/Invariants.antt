@@ -2,9 +2,7 @@
 -- has it.
 use Prim.Native.Nat.{◌-◌}
 use lib.ListN.{length}
-use borrow.Author.Rules.{rules}
-use native.Mathlib.Omega.{arith}
-use Rattle.depths.proofs.Firsts.{InFirsts, firsts_none, firsts_small, firsts_key, firsts_lt, firsts_more, firsts_end}
+use Rattle.depths.proofs.Firsts.{InFirsts}
 use Rattle.depths.proofs.put_firsts.Given as goal
 
 abbrev pub invariant-loop-i : goal.invariant-loop-i

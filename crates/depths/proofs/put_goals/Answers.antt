@@ -1,8 +1,6 @@
 -- `depths::put_goals` meets its contract. The loop keeps that the first i numbers of the row are the first i goals, which are bytes.
-use Prim.Native.Nat.{◌-◌}
-use lib.ListN.{length}
 use borrow.Author.Rules.{rules}
-use Rattle.depths.proofs.Goals.{InBytes, bytes_none, bytes_more, bytes_end}
+use Rattle.depths.proofs.Goals.{bytes_none, bytes_more, bytes_end}
 use Rattle.depths.proofs.put_goals.Goals as goal
 
 pub loop-i-init : goal.loop-i-init

@@ -1,8 +1,6 @@
 -- `depths::put_starts` meets its contract. The loop keeps the starts of the runs of the words before i, and that of the last of them.
-use Prim.Native.Nat.{◌-◌}
-use lib.ListN.{length}
 use borrow.Author.Rules.{rules}
-use Rattle.depths.proofs.Starts.{InStarts, starts_none, starts_more, starts_end}
+use Rattle.depths.proofs.Starts.{starts_none, starts_more, starts_end}
 use Rattle.depths.proofs.put_starts.Goals as goal
 
 pub loop-i-init : goal.loop-i-init

@@ -1,8 +1,7 @@
 -- `depths::put_starts` meets its contract. The loop keeps the starts of the runs of the words before i, and that of the last of them.
 use Prim.Native.Nat.{◌-◌}
 use lib.ListN.{length}
-use borrow.Author.Rules.{rules}
-use Rattle.depths.proofs.Starts.{InStarts, starts_none, starts_more, starts_end}
+use Rattle.depths.proofs.Starts.{InStarts}
 use Rattle.depths.proofs.put_starts.Given as goal
 
 abbrev pub invariant-loop-i : goal.invariant-loop-i

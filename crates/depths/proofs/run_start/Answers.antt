@@ -2,7 +2,6 @@
 use borrow.Author.Tests.{eq-eqb, ne_eqb}
 use mathlib.Core.Path.{sym}
 use Rattle.depth_runs.specs.Inner.Rows.{joins, start_by}
-use borrow.Author.Rules.{rules}
 use Rattle.depths.proofs.run_start.Goals as goal
 
 pub returns-then-i-eq0 : goal.returns-then-i-eq0

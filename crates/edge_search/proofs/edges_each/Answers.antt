@@ -1,6 +1,5 @@
 -- `edge_search::edges_each` meets its contract: there is a vertex, and a part of the edges is no more than all.
 use native.Mathlib.Nat.{div-le_self, le_trans}
-use borrow.Author.Rules.{rules}
 use Rattle.edge_search.proofs.edges_each.Goals as goal
 
 pub returns : goal.returns

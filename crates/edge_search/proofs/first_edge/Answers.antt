@@ -2,7 +2,7 @@
 -- costs time only, so nothing is asked of it but to be small.
 use mathlib.Core.Path.{sym, ◌∙◌}
 use Rattle.edge_search.proofs.FirstEdges.{guess_near, first_is}
-use borrow.Author.Rules.{rules, Fits-under}
+use borrow.Author.Rules.{Fits-under}
 use Rattle.edge_search.proofs.first_edge.Goals as goal
 
 pub overflow_mul-guess : goal.overflow_mul-guess

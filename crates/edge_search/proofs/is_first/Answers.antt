@@ -1,7 +1,6 @@
 -- `edge_search::is_first` meets its contract: each way out is the test of the definition that the ones before it leave. The first edge of
 -- all has none before it.
 use Rattle.edge_search.proofs.FirstEdges.{first_past, first_under, first_front, first_behind}
-use borrow.Author.Rules.{rules}
 use Rattle.edge_search.proofs.is_first.Goals as goal
 
 pub returns-then-place-count : goal.returns-then-place-count

@@ -1,10 +1,8 @@
 -- `edge_search::search_edge` meets its contract. The loop's invariant: the edges below `low` leave lower vertices, and those from `high`
 -- on do not. The measure is what is between the two.
-use native.Mathlib.Omega.{arith}
 use Prim.Native.Nat.{◌-◌, ◌*◌}
 use lib.ListN.{get_or}
-use Rattle.edge_search.proofs.FirstEdges.{Halving, halving_start, halving_up, halving_down, halving_done}
-use borrow.Author.Rules.{rules}
+use Rattle.edge_search.proofs.FirstEdges.{Halving}
 use Rattle.edge_search.proofs.search_edge.Given as goal
 
 abbrev pub invariant-loop-low : goal.invariant-loop-low

@@ -1,8 +1,6 @@
 -- `edges::all_above` meets its contract. The loop's invariant: each edge passed is above the one before it.
 -- The measure is what is left of them.
-use Prim.Native.Nat.{◌-◌}
-use Rattle.edges.specs.Inner.Edges.{above, edge_in}
-use Rattle.edges.proofs.Tests.{Passed, passed_start, passed_next, passed_fails, passed_all}
+use Rattle.edges.proofs.Tests.{passed_start, passed_next, passed_fails, passed_all}
 use borrow.Author.Rules.{rules}
 use mathlib.Core.Path.{ap}
 use mathlib.Core.Bool.{not}

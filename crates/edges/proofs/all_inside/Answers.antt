@@ -1,8 +1,6 @@
 -- `edges::all_inside` meets its contract. The loop's invariant: all edges passed are within bounds.
 -- The measure is what is left of them.
-use Prim.Native.Nat.{◌-◌}
-use Rattle.edges.specs.Inner.Edges.{inside, edge_in}
-use Rattle.edges.proofs.Tests.{Passed, passed_start, passed_next, passed_fails, passed_all}
+use Rattle.edges.proofs.Tests.{passed_start, passed_next, passed_fails, passed_all}
 use borrow.Author.Rules.{rules}
 use mathlib.Core.Path.{ap}
 use mathlib.Core.Bool.{not}

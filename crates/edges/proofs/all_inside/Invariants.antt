@@ -2,8 +2,7 @@
 -- The measure is what is left of them.
 use Prim.Native.Nat.{◌-◌}
 use Rattle.edges.specs.Inner.Edges.{inside, edge_in}
-use Rattle.edges.proofs.Tests.{Passed, passed_start, passed_next, passed_fails, passed_all}
-use borrow.Author.Rules.{rules}
+use Rattle.edges.proofs.Tests.{Passed}
 use Rattle.edges.proofs.all_inside.Given as goal
 
 abbrev pub invariant-loop-k : goal.invariant-loop-k

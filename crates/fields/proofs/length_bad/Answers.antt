@@ -1,6 +1,5 @@
 -- `fields::length_bad` meets its contract: the two tests are the definition's.
 use Rattle.fields.proofs.Reading.{short, long}
-use borrow.Author.Rules.{rules}
 use Rattle.fields.proofs.length_bad.Goals as goal
 
 pub returns-then-file-lt5 : goal.returns-then-file-lt5

@@ -1,6 +1,5 @@
 -- `fields::word_count` meets its contract: it reads bytes 3 and 4.
 use Rattle.fields.proofs.Reading.{count_is_lem}
-use borrow.Author.Rules.{rules}
 use Rattle.fields.proofs.word_count.Goals as goal
 
 pub returns : goal.returns

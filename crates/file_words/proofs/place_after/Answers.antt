@@ -1,7 +1,6 @@
 -- `file_words::place_after` meets its contract: it asks what `word_at` asks, and goes on by one where that finds a word. The next index
 -- fits 16 bits because the index is below the word count.
 use Rattle.fields.proofs.Reading.{stays_length, stays_past, goes_on}
-use borrow.Author.Rules.{rules}
 use Rattle.file_words.proofs.place_after.Goals as goal
 
 -- the three ways out

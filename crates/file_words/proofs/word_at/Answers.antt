@@ -1,7 +1,6 @@
 -- `file_words::word_at` meets its contract: nothing for a wrong length or an index past the words, and else the word; the index fits 16
 -- bits because it is below the word count.
 use Rattle.fields.proofs.Reading.{nothing_length, nothing_past, here}
-use borrow.Author.Rules.{rules}
 use Rattle.file_words.proofs.word_at.Goals as goal
 
 pub returns-then-length_bad : goal.returns-then-length_bad

@@ -1,6 +1,5 @@
 -- `file_words::word_of` meets its contract: the three fields are those of the word.
 use Rattle.fields.proofs.Reading.{held_is}
-use borrow.Author.Rules.{rules}
 use Rattle.file_words.proofs.word_of.Goals as goal
 
 pub returns : goal.returns

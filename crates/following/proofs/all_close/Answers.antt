@@ -2,13 +2,12 @@
 -- what is left of them.
 use mathlib.Core.Path.{ap}
 use native.Mathlib.Omega.{arith}
-use Prim.Native.Nat.{◌+◌, ◌-◌, ◌*◌, ◌<◌}
+use Prim.Native.Nat.{◌+◌, ◌*◌, ◌<◌}
 use lib.ListN.{get_or}
 use Rattle.trellis.specs.Bounds.{most_q, most_words}
-use Rattle.edges.specs.Inner.Edges.{edge_in}
 use Rattle.edges.specs.declared.Edge.{Edge}
 use Rattle.partners.specs.Inner.Following.{slot}
-use Rattle.partners.proofs.Tests.{Agreeing, agree_start, agree_not, agree_next, agree_all}
+use Rattle.partners.proofs.Tests.{agree_start, agree_not, agree_next, agree_all}
 use borrow.Author.Rules.{rules}
 use Rattle.following.proofs.all_close.Goals as goal
 

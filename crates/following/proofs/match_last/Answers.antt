@@ -2,7 +2,6 @@
 use mathlib.Core.Bool.{false}
 use Rattle.twins.proofs.Marking.{small_of}
 use Rattle.following.proofs.Steps.{last_matched}
-use borrow.Author.Rules.{rules}
 use Rattle.following.proofs.match_last.Goals as goal
 
 pub returns : goal.returns

@@ -2,7 +2,6 @@
 use mathlib.Core.Bool.{false}
 use Rattle.twins.proofs.Marking.{small_of}
 use Rattle.following.proofs.Steps.{step_matched}
-use borrow.Author.Rules.{rules}
 use Rattle.following.proofs.match_step.Goals as goal
 
 pub returns : goal.returns

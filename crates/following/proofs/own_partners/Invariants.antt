@@ -1,9 +1,7 @@
 -- `following::own_partners` meets its contract. The loop's invariant: the vertices passed have their own numbers. The measure
 -- is what is left of them.
-use mathlib.Core.Path.{refl}
 use Prim.Native.Nat.{◌-◌}
-use Rattle.partners.proofs.Tests.{Own, own_start, own_next, own_all}
-use borrow.Author.Rules.{rules}
+use Rattle.partners.proofs.Tests.{Own}
 use Rattle.following.proofs.own_partners.Given as goal
 
 abbrev pub invariant-loop-v : goal.invariant-loop-v

@@ -3,14 +3,9 @@
 -- blocks are left.
 use borrow.Author.Rules.{rules}
 use mathlib.Core.Path.{ap, ◌∙◌}
-use Prim.Native.Nat.{◌-◌, ◌<◌}
 use native.Mathlib.Omega.{arith}
-use lib.ListN.{length, get_or}
-use Rattle.paths.specs.Chain.{unreached}
+use lib.ListN.{get_or}
 use Rattle.dearest.specs.Inner.Items.{item_of}
-use Rattle.frame.specs.Frame.{frame}
-use Rattle.forward.specs.Inner.Blocks.{Workspace}
-use Rattle.forward.specs.Inner.Fronts.{KeptAt}
 use Rattle.forward.proofs.First.{cost_low, kept_start}
 use Rattle.forward.proofs.Chained.{kept_end}
 use Rattle.forward.proofs.Held.{room_start, held_at, block_ready, block_kept}

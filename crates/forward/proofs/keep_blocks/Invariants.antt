@@ -1,19 +1,12 @@
 -- `forward::keep_blocks` puts the first beginning into the first slot and takes the slots through block after block. The loop's invariant:
 -- they are what is kept in front of block b, the limit is below the cost of no path, and the working room is there. The measure is how many
 -- blocks are left.
-use borrow.Author.Rules.{rules}
-use mathlib.Core.Path.{ap, ◌∙◌}
 use Prim.Native.Nat.{◌-◌, ◌<◌}
-use native.Mathlib.Omega.{arith}
-use lib.ListN.{length, get_or}
+use lib.ListN.{length}
 use Rattle.paths.specs.Chain.{unreached}
-use Rattle.dearest.specs.Inner.Items.{item_of}
 use Rattle.frame.specs.Frame.{frame}
 use Rattle.forward.specs.Inner.Blocks.{Workspace}
 use Rattle.forward.specs.Inner.Fronts.{KeptAt}
-use Rattle.forward.proofs.First.{cost_low, kept_start}
-use Rattle.forward.proofs.Chained.{kept_end}
-use Rattle.forward.proofs.Held.{room_start, held_at, block_ready, block_kept}
 use Rattle.forward.proofs.keep_blocks.Given as goal
 
 abbrev pub invariant-loop-b : goal.invariant-loop-b

@@ -1,9 +1,8 @@
 -- `frame::first_bad` tests the blocks in their order. The loop's invariant: no block before b is bad, whatever the sections are that have
 -- these views. The measure is how many blocks are left.
-use borrow.Author.Rules.{rules}
 use Prim.Native.Nat.{◌-◌}
 use lib.ListN.{length}
-use Rattle.frame.proofs.Checks.{InBlocks, blocks_start, blocks_index, blocks_unfit, blocks_more, blocks_none}
+use Rattle.frame.proofs.Checks.{InBlocks}
 use Rattle.frame.proofs.first_bad.Given as goal
 
 abbrev pub invariant-loop-b : goal.invariant-loop-b

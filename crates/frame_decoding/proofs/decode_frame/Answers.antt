@@ -1,7 +1,7 @@
 -- `frame_decoding::decode_frame` names a fault of the frame or the first bad block, or goes on with the blocks.
 use borrow.Author.Rules.{rules}
 use mathlib.Core.Path.{sym, ◌∙◌}
-use Rattle.frame.specs.Frame.{Frame, frame}
+use Rattle.frame.specs.Frame.{frame}
 use Rattle.frame.proofs.Checks.{FramePassed, views_of, framed_of, frame_passed, checked}
 use Rattle.decoding.proofs.Faults.{ends_frame, ends_block, past_frame}
 use Rattle.frame_decoding.proofs.decode_frame.Goals as goal

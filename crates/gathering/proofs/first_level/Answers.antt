@@ -1,7 +1,6 @@
 -- `gathering::first_level` meets its contract. The loop's invariant: the vertices passed are put. The measure is what is left of them.
 use native.Mathlib.Omega.{arith}
-use Prim.Native.Nat.{◌-◌}
-use Rattle.gathering.proofs.Growing.{Rooted, rooted_start, rooted_next, rooted_all}
+use Rattle.gathering.proofs.Growing.{rooted_start, rooted_next, rooted_all}
 use borrow.Author.Rules.{rules}
 use Rattle.gathering.proofs.first_level.Goals as goal
 

@@ -1,11 +1,7 @@
 -- `gathering::grow` meets its contract. The loop's invariant: the beginnings passed are put one step further. The measure is what is left
 -- of them.
 use native.Mathlib.Omega.{arith}
-use Prim.Native.Nat.{◌-◌}
-use Rattle.trellis.specs.Lists.{run}
-use Rattle.edges.specs.Inner.Edges.{edge_in}
-use Rattle.codes.specs.Inner.Codes.{grown_codes}
-use Rattle.gathering.proofs.Growing.{begins_of, Growing, growing_start, growing_next, growing_over, growing_all}
+use Rattle.gathering.proofs.Growing.{begins_of, growing_start, growing_next, growing_over, growing_all}
 use borrow.Author.Rules.{rules}
 use Rattle.gathering.proofs.grow.Goals as goal
 

@@ -1,14 +1,9 @@
 -- `gathering::grow_one` meets its contract. The loop's invariant: what is filled, and the edges of the vertex from k on, are all that is to
 -- be put there. The measure is what is left of the edges.
-use mathlib.Core.Path.{sym, ap, ◌∙◌}
-use native.Mathlib.Omega.{arith}
 use Prim.Native.Nat.{◌-◌}
 use Rattle.edges.specs.Inner.Edges.{edge_in}
-use Rattle.edges.specs.declared.Edge.{Edge}
 use Rattle.codes.specs.Inner.Codes.{code_vertex, further_code}
-use Rattle.gathering.proofs.Growing.{Putting, putting_start, putting_next, putting_over, putting_done, putting_stops}
-use Rattle.codes.proofs.Codes.{further_at}
-use borrow.Author.Rules.{rules}
+use Rattle.gathering.proofs.Growing.{Putting}
 use Rattle.gathering.proofs.grow_one.Given as goal
 
 abbrev pub invariant-loop-k : goal.invariant-loop-k

@@ -5,7 +5,7 @@ use Prim.Native.Nat.{◌-◌, ◌<◌}
 use Rattle.trellis.specs.Bounds.{most_words}
 use Rattle.edges.specs.Inner.Edges.{edge_in}
 use Rattle.edges.specs.declared.Edge.{Edge}
-use Rattle.gathering.proofs.Growing.{Noted, noted_start, noted_next, noted_all}
+use Rattle.gathering.proofs.Growing.{noted_start, noted_next, noted_all}
 use borrow.Author.Rules.{rules}
 use Rattle.gathering.proofs.starts_of.Goals as goal
 

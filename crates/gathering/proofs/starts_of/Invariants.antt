@@ -1,12 +1,6 @@
 -- `gathering::starts_of` meets its contract. The loop's invariant: the edges from k on are noted. The measure is k.
-use mathlib.Core.Path.{refl, ap}
-use native.Mathlib.Omega.{arith}
-use Prim.Native.Nat.{◌-◌, ◌<◌}
-use Rattle.trellis.specs.Bounds.{most_words}
 use Rattle.edges.specs.Inner.Edges.{edge_in}
-use Rattle.edges.specs.declared.Edge.{Edge}
-use Rattle.gathering.proofs.Growing.{Noted, noted_start, noted_next, noted_all}
-use borrow.Author.Rules.{rules}
+use Rattle.gathering.proofs.Growing.{Noted}
 use Rattle.gathering.proofs.starts_of.Given as goal
 
 abbrev pub invariant-loop-k : goal.invariant-loop-k

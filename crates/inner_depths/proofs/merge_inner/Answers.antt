@@ -2,9 +2,8 @@
 -- at depth t apart.
 use native.Mathlib.Omega.{arith}
 use borrow.Author.Rules.{rules}
-use Rattle.depths.specs.Inner.Words.{words}
 use Rattle.depths.proofs.Goals.{goal_row}
-use Rattle.inner_depths.proofs.AllDepths.{InDepths, depths_none, depths_ask, depths_more, depths_end}
+use Rattle.inner_depths.proofs.AllDepths.{depths_none, depths_ask, depths_more, depths_end}
 use Rattle.inner_depths.proofs.merge_inner.Goals as goal
 
 pub put_goals-requires : goal.put_goals-requires

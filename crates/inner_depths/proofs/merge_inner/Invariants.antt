@@ -1,10 +1,7 @@
 -- `inner_depths::merge_inner` meets its contract. The loop keeps what is found at the depths from t on, and that the row tells the endings
 -- at depth t apart.
-use native.Mathlib.Omega.{arith}
-use borrow.Author.Rules.{rules}
 use Rattle.depths.specs.Inner.Words.{words}
-use Rattle.depths.proofs.Goals.{goal_row}
-use Rattle.inner_depths.proofs.AllDepths.{InDepths, depths_none, depths_ask, depths_more, depths_end}
+use Rattle.inner_depths.proofs.AllDepths.{InDepths}
 use Rattle.inner_depths.proofs.merge_inner.Given as goal
 
 abbrev pub invariant-loop-t : goal.invariant-loop-t

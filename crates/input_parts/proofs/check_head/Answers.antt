@@ -1,7 +1,5 @@
 -- `input_parts::check_head` makes the tests of the definition in their order.
-use borrow.Author.Tests.{not-true, not-false}
 use Rattle.input_parts.proofs.Head.{head_sections, head_lengths, head_index, head_fine}
-use borrow.Author.Rules.{rules}
 use Rattle.input_parts.proofs.check_head.Goals as goal
 
 pub returns-then-not-is_within : goal.returns-then-not-is_within

@@ -1,10 +1,8 @@
 -- `input_parts::first_index` looks at the blocks in order. The loop's invariant: no block passed has an index that is not below K. The
 -- measure is how many are left.
 use Prim.Native.Nat.{◌-◌}
-use Rattle.table.proofs.Search.{Clear, clear_start, clear_next}
+use Rattle.table.proofs.Search.{Clear}
 use Rattle.input_parts.specs.Input.{input_blocks, index_bad}
-use Rattle.input_parts.proofs.Head.{index_high, index_low, index_found, index_none}
-use borrow.Author.Rules.{rules}
 use Rattle.input_parts.proofs.first_index.Given as goal
 
 abbrev pub invariant-loop-b : goal.invariant-loop-b

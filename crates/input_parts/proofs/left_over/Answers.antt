@@ -1,6 +1,5 @@
 -- `input_parts::left_over` holds the end of the last table against that of the input.
 use Rattle.input_parts.proofs.Head.{some_left, none_left}
-use borrow.Author.Rules.{rules}
 use Rattle.input_parts.proofs.left_over.Goals as goal
 
 pub returns-then-end-length : goal.returns-then-end-length

@@ -1,7 +1,5 @@
 -- `input_parts::lengths_bad` tests the bounds of B first, then the length of the list.
-use borrow.Author.Tests.{not-true, not-false}
 use Rattle.input_parts.proofs.Head.{lengths_outside, lengths_inside}
-use borrow.Author.Rules.{rules}
 use Rattle.input_parts.proofs.lengths_bad.Goals as goal
 
 pub returns-then-not-is_within : goal.returns-then-not-is_within

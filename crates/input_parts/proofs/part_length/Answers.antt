@@ -1,6 +1,5 @@
 -- `input_parts::part_length` gives what a table's W asks for, or all that is left where that is less.
 use Rattle.input_parts.proofs.Parts.{part_short, part_whole}
-use borrow.Author.Rules.{rules}
 use Rattle.input_parts.proofs.part_length.Goals as goal
 
 pub returns-then-rest-length : goal.returns-then-rest-length

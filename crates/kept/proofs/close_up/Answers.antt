@@ -1,8 +1,7 @@
 -- `kept::close_up` moves the items behind one place up, one after the other. The loop's invariant: those before i have moved, those from i
 -- on stand as they did. The measure is how many are left.
 use borrow.Author.Rules.{rules}
-use Prim.Native.Nat.{◌-◌, ◌<◌}
-use Rattle.kept.proofs.Admitting.{Moved, moved_start, moved_more, moved_all}
+use Rattle.kept.proofs.Admitting.{moved_start, moved_more, moved_all}
 use Rattle.kept.proofs.close_up.Goals as goal
 
 pub loop-i-init : goal.loop-i-init

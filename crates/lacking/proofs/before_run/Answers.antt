@@ -1,6 +1,5 @@
 -- `lacking::before_run` meets its contract, by its two ways out.
 use borrow.Author.Tests.{lt-ltb, le-ltb}
-use borrow.Author.Rules.{rules}
 use Rattle.lacking.specs.Inner.Rows.{before_run}
 use Rattle.lacking.proofs.before_run.Goals as goal
 

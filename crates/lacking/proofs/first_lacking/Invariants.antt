@@ -1,13 +1,7 @@
 -- `lacking::first_lacking` meets its contract. It leaves at once where an earlier word settles it; else the loop keeps that the runs of the
 -- words before k with i's ending have j's ending, and that the words before l with j's ending are in runs before that of k.
-use mathlib.Core.Path.{refl, sym, ◌∙◌}
 use Prim.Native.Nat.{◌-◌}
-use native.Mathlib.Omega.{arith}
-use borrow.Author.Rules.{rules}
-use borrow.Author.Tests.{not-true, not-false}
-use Rattle.lacking.proofs.Passing.{settled}
-use Rattle.lacking.proofs.Chains.{ahead}
-use Rattle.lacking.proofs.Lacking.{InLacking, lacking_none, lacking_more, lacking_hit, lacking_end}
+use Rattle.lacking.proofs.Lacking.{InLacking}
 use Rattle.lacking.proofs.first_lacking.Given as goal
 
 abbrev pub invariant-loop-k : goal.invariant-loop-k

@@ -1,7 +1,6 @@
 -- `lacking::in_run` meets its contract, by its two ways out.
 use borrow.Author.Tests.{lt-ltb, le-ltb}
 use Rattle.lacking.specs.Inner.Rows.{in_run}
-use borrow.Author.Rules.{rules}
 use Rattle.lacking.proofs.in_run.Goals as goal
 
 pub returns-then-l-w : goal.returns-then-l-w

@@ -1,8 +1,7 @@
 -- `lacking::put_next` meets its contract. The loop keeps the next words of the words from i on, and for each first word before i the
 -- nearest of them that has its ending.
 use native.Mathlib.Omega.{arith}
-use borrow.Author.Rules.{rules}
-use Rattle.lacking.proofs.Chains.{InNext, next_none, next_le, next_more, next_end}
+use Rattle.lacking.proofs.Chains.{next_none, next_le, next_more, next_end}
 use Rattle.lacking.proofs.put_next.Goals as goal
 
 pub loop-i-init : goal.loop-i-init

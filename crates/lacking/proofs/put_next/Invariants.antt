@@ -1,8 +1,6 @@
 -- `lacking::put_next` meets its contract. The loop keeps the next words of the words from i on, and for each first word before i the
 -- nearest of them that has its ending.
-use native.Mathlib.Omega.{arith}
-use borrow.Author.Rules.{rules}
-use Rattle.lacking.proofs.Chains.{InNext, next_none, next_le, next_more, next_end}
+use Rattle.lacking.proofs.Chains.{InNext}
 use Rattle.lacking.proofs.put_next.Given as goal
 
 abbrev pub invariant-loop-i : goal.invariant-loop-i

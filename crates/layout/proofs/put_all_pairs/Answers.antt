@@ -1,11 +1,7 @@
 -- `layout::put_all_pairs` writes the pairs of one step after another: the loop keeps what is written of the steps so far.
-use mathlib.Core.Path.{◌≡◌}
-use Prim.Native.Nat.{◌-◌, ◌*◌}
 use native.Mathlib.Omega.{arith}
-use lib.ListN.{length}
 use borrow.Author.Rules.{rules}
-use Rattle.layout.proofs.AllPieces.{InAll, all_none, row_room, row_more, all_room, pairs_more, all_end, step_words}
-use Rattle.takers.specs.Inner.Pieces.{step_pairs}
+use Rattle.layout.proofs.AllPieces.{all_none, row_room, row_more, all_room, pairs_more, all_end, step_words}
 use Rattle.layout.proofs.put_all_pairs.Goals as goal
 
 pub loop-t-init : goal.loop-t-init

@@ -1,9 +1,7 @@
 -- `layout::put_all_symbols` writes the symbols of one step after another: the loop keeps what is written of the steps so far.
-use Prim.Native.Nat.{◌-◌}
 use native.Mathlib.Omega.{arith}
 use borrow.Author.Rules.{rules}
-use Rattle.layout.proofs.AllPieces.{InAll, all_none, all_room, symbols_more, all_end, step_words}
-use Rattle.takers.specs.Inner.Pieces.{step_symbols}
+use Rattle.layout.proofs.AllPieces.{all_none, all_room, symbols_more, all_end, step_words}
 use Rattle.layout.proofs.put_all_symbols.Goals as goal
 
 pub loop-t-init : goal.loop-t-init

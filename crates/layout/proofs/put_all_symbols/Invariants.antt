@@ -1,8 +1,6 @@
 -- `layout::put_all_symbols` writes the symbols of one step after another: the loop keeps what is written of the steps so far.
 use Prim.Native.Nat.{◌-◌}
-use native.Mathlib.Omega.{arith}
-use borrow.Author.Rules.{rules}
-use Rattle.layout.proofs.AllPieces.{InAll, all_none, all_room, symbols_more, all_end, step_words}
+use Rattle.layout.proofs.AllPieces.{InAll}
 use Rattle.takers.specs.Inner.Pieces.{step_symbols}
 use Rattle.layout.proofs.put_all_symbols.Given as goal
 

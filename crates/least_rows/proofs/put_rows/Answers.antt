@@ -2,10 +2,10 @@
 -- least ranks, and the depths from t on have their costs saved. The measure is t.
 use borrow.Author.Rules.{rules}
 use Rattle.section_file.proofs.Seen.{goals_at, header}
-use Rattle.sweep.proofs.Sweeping.{InSweep, sweep_start, sweep_fits, sweep_more}
+use Rattle.sweep.proofs.Sweeping.{sweep_start, sweep_fits, sweep_more}
 use Rattle.sweep.proofs.Sweeping as sweep
 use Rattle.passes.proofs.Passing.{sweep_asked}
-use Rattle.least_rows.proofs.AllRows.{RowsFrom, save_asked, goals_count, last_asked, rows_none, rows_more, rows_end}
+use Rattle.least_rows.proofs.AllRows.{save_asked, goals_count, last_asked, rows_none, rows_more, rows_end}
 use Rattle.least_rows.proofs.put_rows.Goals as goal
 
 pub overflow_sub-at : goal.overflow_sub-at

@@ -1,11 +1,7 @@
 -- `least_rows::put_rows` makes the rows from the last depth to the first and saves each. The loop's invariant: the row of depth t holds the
 -- least ranks, and the depths from t on have their costs saved. The measure is t.
-use borrow.Author.Rules.{rules}
-use Rattle.section_file.proofs.Seen.{goals_at, header}
-use Rattle.sweep.proofs.Sweeping.{InSweep, sweep_start, sweep_fits, sweep_more}
-use Rattle.sweep.proofs.Sweeping as sweep
-use Rattle.passes.proofs.Passing.{sweep_asked}
-use Rattle.least_rows.proofs.AllRows.{RowsFrom, save_asked, goals_count, last_asked, rows_none, rows_more, rows_end}
+use Rattle.sweep.proofs.Sweeping.{InSweep}
+use Rattle.least_rows.proofs.AllRows.{RowsFrom}
 use Rattle.least_rows.proofs.put_rows.Given as goal
 
 abbrev pub invariant-loop-t : goal.invariant-loop-t

@@ -1,10 +1,8 @@
 -- `left_behind::left_behind` returns `ends` behind the last block; behind any other it takes the next block's row of the cost table. The
 -- loop's invariant: the numbers passed are taken. The measure is how many are left.
-use borrow.Author.Rules.{rules}
 use Prim.Native.Nat.{◌-◌}
-use native.Mathlib.Omega.{arith}
 use Rattle.trellis.specs.Bounds.{most_states}
-use Rattle.left_behind.proofs.Rows.{behind_last, RowTaken, taken_start, taken_more, behind_row}
+use Rattle.left_behind.proofs.Rows.{RowTaken}
 use Rattle.left_behind.proofs.left_behind.Given as goal
 
 abbrev pub invariant-loop-s : goal.invariant-loop-s

@@ -1,6 +1,5 @@
 -- `lines::edges_entering` reads how many edges the step before depth t has; no edge enters depth 0.
 use Rattle.lines.proofs.Lines.{entering_none, entering_some}
-use borrow.Author.Rules.{rules}
 use Rattle.lines.proofs.edges_entering.Goals as goal
 
 pub returns-then-t-eq0 : goal.returns-then-t-eq0

@@ -1,8 +1,7 @@
 -- `lines::put_depths` puts a line for each depth. The loop's invariant: the lines of the depths passed are put. The measure is how many
 -- are left.
 use Prim.Native.Nat.{suc, ◌-◌}
-use Rattle.lines.proofs.Lines.{Depths, depths_start, depths_next, depths_all}
-use borrow.Author.Rules.{rules}
+use Rattle.lines.proofs.Lines.{Depths}
 use Rattle.lines.proofs.put_depths.Given as goal
 
 abbrev pub invariant-loop-t : goal.invariant-loop-t

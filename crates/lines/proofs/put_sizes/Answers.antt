@@ -1,6 +1,5 @@
 -- `lines::put_sizes` puts the sizes, the depths and the sums one behind another.
 use Rattle.lines.proofs.Lines.{sizes_put}
-use borrow.Author.Rules.{rules}
 use Rattle.lines.proofs.put_sizes.Goals as goal
 
 pub returns : goal.returns

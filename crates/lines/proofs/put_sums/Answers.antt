@@ -1,6 +1,5 @@
 -- `lines::put_sums` puts the lines of both sums of the section's counts.
 use Rattle.lines.proofs.Lines.{sums_put}
-use borrow.Author.Rules.{rules}
 use Rattle.lines.proofs.put_sums.Goals as goal
 
 pub returns : goal.returns

@@ -1,6 +1,5 @@
 -- `listing::put_answer` puts the sizes where the answer's number is 7, and else the line of the refusal.
 use Rattle.listing.proofs.Answering.{sizes_answered, refusal_answered}
-use borrow.Author.Rules.{rules}
 use Rattle.listing.proofs.put_answer.Goals as goal
 
 pub returns-then-returned-eq7 : goal.returns-then-returned-eq7

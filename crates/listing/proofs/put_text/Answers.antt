@@ -1,6 +1,5 @@
 -- `listing::put_text` puts the refusal of a file that is too long, or what the answer of measuring comes to.
 use Rattle.listing.proofs.Outcomes.{made_long, made_measured}
-use borrow.Author.Rules.{rules}
 use Rattle.listing.proofs.put_text.Goals as goal
 
 pub returns-then-file-gt-MOST_BYTES : goal.returns-then-file-gt-MOST_BYTES

@@ -1,11 +1,9 @@
 -- `lowering::clear` writes the top to the first places of a row. The loop's invariant: the places passed hold it. The measure is how many
 -- are left.
-use borrow.Author.Rules.{rules}
 use Prim.Native.Nat.{◌-◌}
 use Rattle.trellis.specs.Bounds.{most_words}
 use Rattle.paths.specs.Inner.Ranked.{top_rank}
 use Rattle.lowering.specs.Inner.Loops.{Cleared}
-use Rattle.lowering.proofs.Lowered.{clear_start, clear_more, clear_end}
 use Rattle.lowering.proofs.clear.Given as goal
 
 abbrev pub invariant-loop-v : goal.invariant-loop-v

@@ -1,8 +1,7 @@
 -- `lowering::lower` takes the edges of a step one by one. The loop's invariant: what each vertex of the row has and what the edges to come
 -- give it come to what all its edges give. The measure is how many edges are left.
-use borrow.Author.Rules.{rules}
 use Prim.Native.Nat.{◌-◌}
-use Rattle.lowering.proofs.Lowered.{InLower, lower_start, edge_fits, lower_more, lower_end}
+use Rattle.lowering.proofs.Lowered.{InLower}
 use Rattle.lowering.proofs.lower.Given as goal
 
 abbrev pub invariant-loop-k : goal.invariant-loop-k

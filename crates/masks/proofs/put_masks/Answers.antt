@@ -1,9 +1,6 @@
 -- `masks::put_masks` goes from block to block. The loop's invariant: the masks of the blocks passed are written, and no others. The measure
 -- is how many blocks are left.
-use Prim.Native.Nat.{◌-◌, ◌≤◌}
-use lib.ListN.{length}
 use borrow.Author.Rules.{rules}
-use Rattle.masks.specs.Inner.Masks.{MasksPut}
 use Rattle.masks.proofs.Masks.{masks_start, masks_more, masks_end}
 use Rattle.masks.proofs.put_masks.Goals as goal
 

@@ -2,9 +2,7 @@
 -- is how many blocks are left.
 use Prim.Native.Nat.{◌-◌, ◌≤◌}
 use lib.ListN.{length}
-use borrow.Author.Rules.{rules}
 use Rattle.masks.specs.Inner.Masks.{MasksPut}
-use Rattle.masks.proofs.Masks.{masks_start, masks_more, masks_end}
 use Rattle.masks.proofs.put_masks.Given as goal
 
 abbrev pub invariant-loop-b : goal.invariant-loop-b

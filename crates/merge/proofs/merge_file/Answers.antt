@@ -1,7 +1,6 @@
 -- `merge::merge_file` is the check's refusal or what the words come to.
 use mathlib.Core.Path.{refl}
 use Rattle.merge.proofs.Answered.{table_asked, ends_refused, ends_table}
-use borrow.Author.Rules.{rules}
 use Rattle.merge.proofs.merge_file.Goals as goal
 
 pub merge_table-requires : goal.merge_table-requires

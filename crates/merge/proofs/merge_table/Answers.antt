@@ -2,7 +2,6 @@
 use native.Mathlib.Omega.{arith}
 use Rattle.merge.proofs.FileStage.{count_few, needed_fits, ends_map, part_roots, part_labels, part_goals, size_roots, size_labels}
 use Rattle.merge.proofs.FileStage.{size_goals, words_asked, ends_words}
-use borrow.Author.Rules.{rules}
 use Rattle.merge.proofs.merge_table.Goals as goal
 
 pub overflow_mul-needed : goal.overflow_mul-needed

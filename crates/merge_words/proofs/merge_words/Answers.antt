@@ -1,5 +1,5 @@
 -- `merge_words::merge_words` fills the inner rows, and then refuses at the first depth that is not rectangular, or finishes.
-use mathlib.Core.Path.{refl, ◌∙◌}
+use mathlib.Core.Path.{refl}
 use Rattle.merge_words.proofs.InnerStage.{inner_asked, inside, ends_written, refused, ends_refused}
 use Rattle.merge_words.proofs.merge_words.Goals as goal
 

@@ -3,7 +3,6 @@
 use mathlib.Core.Path.{refl}
 use native.Mathlib.Nat.{le_refl}
 use Rattle.merging.proofs.LastStage.{outer_asked, map_small, sizes_asked, length_asked, ends_short, parts, ends_done}
-use borrow.Author.Rules.{rules}
 use Rattle.merging.proofs.finish.Goals as goal
 
 pub put_outer-outer-requires : goal.put_outer-outer-requires

@@ -4,7 +4,6 @@ use native.Mathlib.Nat.{le_refl}
 use Rattle.merging_rows.proofs.StepEdges.{edges_asked}
 use Rattle.merging_rows.proofs.Numbers.{length_asked, section_asked}
 use Rattle.merging_rows.proofs.Ending.{file_asked, ends_short, ends_done}
-use borrow.Author.Rules.{rules}
 use Rattle.merging_rows.proofs.build.Goals as goal
 
 pub take_edges-edges-requires : goal.take_edges-edges-requires

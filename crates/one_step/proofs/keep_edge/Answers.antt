@@ -2,7 +2,6 @@
 -- otherwise one, which is admitted.
 use Rattle.edges.specs.Inner.Edges.{meant_edge}
 use Rattle.one_step.proofs.Streaming.{streamed_none, streamed_one}
-use borrow.Author.Rules.{rules}
 use Rattle.one_step.proofs.keep_edge.Goals as goal
 
 pub returns-then-cost-limit : goal.returns-then-cost-limit

@@ -2,10 +2,7 @@
 -- vertex from i on, give what is to be kept of all. The measure is what is left of the edges.
 use mathlib.Core.Path.{sym, ap, ◌∙◌}
 use native.Mathlib.Omega.{arith}
-use mathlib.Core.List.{List}
-use Prim.Native.Nat.{ℕ, ◌-◌}
 use Rattle.trellis.specs.Lists.{run}
-use Rattle.trellis.specs.Own as own
 use Rattle.edges.specs.Inner.Edges.{edge_in}
 use Rattle.edges.specs.declared.Edge.{Edge}
 use Rattle.dearest.specs.Inner.Items.{code_in}
@@ -14,7 +11,7 @@ use Rattle.one_step.specs.Inner.Steps.{candidate}
 use Rattle.totals.specs.Inner.Totals.{paid_for}
 use Rattle.one_step.specs.Inner.Loops.{limited}
 use Rattle.edge_search.proofs.FirstEdges.{froms_rise_lem}
-use Rattle.one_step.proofs.Streaming.{Streaming, streaming_start, streaming_next, streaming_done, streaming_stops, streamed_at}
+use Rattle.one_step.proofs.Streaming.{streaming_start, streaming_next, streaming_done, streaming_stops, streamed_at}
 use Rattle.one_step.proofs.Streaming.{streamed_all}
 use borrow.Author.Rules.{rules}
 use Rattle.one_step.proofs.keep_item.Goals as goal

@@ -1,22 +1,13 @@
 -- `one_step::keep_item` meets its contract. The loop's invariant: what is kept, and the candidates within the limit along the edges of the
 -- vertex from i on, give what is to be kept of all. The measure is what is left of the edges.
-use mathlib.Core.Path.{sym, ap, ◌∙◌}
-use native.Mathlib.Omega.{arith}
-use mathlib.Core.List.{List}
-use Prim.Native.Nat.{ℕ, ◌-◌}
-use Rattle.trellis.specs.Lists.{run}
-use Rattle.trellis.specs.Own as own
+use Prim.Native.Nat.{◌-◌}
 use Rattle.edges.specs.Inner.Edges.{edge_in}
-use Rattle.edges.specs.declared.Edge.{Edge}
 use Rattle.dearest.specs.Inner.Items.{code_in}
 use Rattle.codes.specs.Inner.Codes.{code_vertex}
 use Rattle.one_step.specs.Inner.Steps.{candidate}
 use Rattle.totals.specs.Inner.Totals.{paid_for}
 use Rattle.one_step.specs.Inner.Loops.{limited}
-use Rattle.edge_search.proofs.FirstEdges.{froms_rise_lem}
-use Rattle.one_step.proofs.Streaming.{Streaming, streaming_start, streaming_next, streaming_done, streaming_stops, streamed_at}
-use Rattle.one_step.proofs.Streaming.{streamed_all}
-use borrow.Author.Rules.{rules}
+use Rattle.one_step.proofs.Streaming.{Streaming}
 use Rattle.one_step.proofs.keep_item.Given as goal
 
 abbrev pub invariant-loop-i : goal.invariant-loop-i

@@ -2,15 +2,11 @@
 -- within the limit, which came one after another. The measure is what is left of the items.
 use mathlib.Core.Path.{sym}
 use native.Mathlib.Omega.{arith}
-use Prim.Native.Nat.{◌-◌}
 use lib.ListN.{take}
 use Rattle.trellis.specs.Lists.{run}
 use Rattle.edges.specs.Inner.Edges.{edge_in}
-use Rattle.one_step.specs.Inner.Steps.{candidates}
-use Rattle.one_step.specs.Inner.Loops.{limited}
 use Rattle.one_step.proofs.Limits.{limited_items, stepped_same}
-use Rattle.one_step.proofs.Streaming.{Stepping, stepping_start, stepping_next, stepping_all}
-use borrow.Author.Rules.{rules}
+use Rattle.one_step.proofs.Streaming.{stepping_start, stepping_next, stepping_all}
 use Rattle.one_step.proofs.step_within.Goals as goal
 
 pub loop-i-init : goal.loop-i-init

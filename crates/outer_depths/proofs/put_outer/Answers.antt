@@ -1,7 +1,6 @@
 -- `outer_depths::put_outer` writes the row of depth 0 and the row of depth n, which lie apart, and sets their two counts.
 use native.Mathlib.Omega.{arith}
 use Rattle.outer_depths.proofs.OuterRows.{first_room, last_fits, last_room, put}
-use borrow.Author.Rules.{rules}
 use Rattle.outer_depths.proofs.put_outer.Goals as goal
 
 pub put_depth-first-requires : goal.put_depth-first-requires

@@ -1,8 +1,6 @@
 -- `parity::add_row` clears one column after another: the loop keeps which are done, and that the others are as before.
-use Prim.Native.Nat.{◌-◌, ◌≤◌}
 use borrow.Author.Rules.{rules}
-use Rattle.rows.specs.Inner.Reduced.{cleared}
-use Rattle.parity.proofs.Columns.{Mapped, mapped_none, mapped_next, mapped_all}
+use Rattle.parity.proofs.Columns.{mapped_none, mapped_next, mapped_all}
 use Rattle.parity.proofs.add_row.Goals as goal
 
 pub loop-m-init : goal.loop-m-init

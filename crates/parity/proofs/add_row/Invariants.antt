@@ -1,8 +1,7 @@
 -- `parity::add_row` clears one column after another: the loop keeps which are done, and that the others are as before.
 use Prim.Native.Nat.{◌-◌, ◌≤◌}
-use borrow.Author.Rules.{rules}
 use Rattle.rows.specs.Inner.Reduced.{cleared}
-use Rattle.parity.proofs.Columns.{Mapped, mapped_none, mapped_next, mapped_all}
+use Rattle.parity.proofs.Columns.{Mapped}
 use Rattle.parity.proofs.add_row.Given as goal
 
 abbrev pub invariant-loop-m : goal.invariant-loop-m

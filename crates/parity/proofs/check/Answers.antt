@@ -1,9 +1,6 @@
 -- `parity::check` takes up row after row: the loop keeps that none of them is a sum of those before it, and that the columns are their
 -- check. A row of syndrome 0 is the first that is such a sum.
-use Prim.Native.Nat.{◌-◌, ◌≤◌}
-use lib.ListN.{length}
 use borrow.Author.Rules.{rules}
-use Rattle.rows.specs.Inner.Growing.{Grown}
 use Rattle.parity.proofs.Checking.{check_start, check_turn, check_stop, check_end}
 use Rattle.parity.proofs.check.Goals as goal
 

@@ -2,9 +2,7 @@
 -- check. A row of syndrome 0 is the first that is such a sum.
 use Prim.Native.Nat.{◌-◌, ◌≤◌}
 use lib.ListN.{length}
-use borrow.Author.Rules.{rules}
 use Rattle.rows.specs.Inner.Growing.{Grown}
-use Rattle.parity.proofs.Checking.{check_start, check_turn, check_stop, check_end}
 use Rattle.parity.proofs.check.Given as goal
 
 abbrev pub invariant-loop-j : goal.invariant-loop-j

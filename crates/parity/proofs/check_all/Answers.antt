@@ -1,8 +1,6 @@
 -- `parity::check_all` takes up row after row, each by its syndrome: the loop keeps that the columns are the check of those taken up so far.
-use Prim.Native.Nat.{◌-◌}
-use lib.ListN.{length}
 use borrow.Author.Rules.{rules}
-use Rattle.parity.proofs.Checking.{Taken, taken_none, taken_next, taken_all}
+use Rattle.parity.proofs.Checking.{taken_none, taken_next, taken_all}
 use Rattle.parity.proofs.check_all.Goals as goal
 
 pub loop-j-init : goal.loop-j-init

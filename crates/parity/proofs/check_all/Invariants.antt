@@ -1,8 +1,7 @@
 -- `parity::check_all` takes up row after row, each by its syndrome: the loop keeps that the columns are the check of those taken up so far.
 use Prim.Native.Nat.{◌-◌}
 use lib.ListN.{length}
-use borrow.Author.Rules.{rules}
-use Rattle.parity.proofs.Checking.{Taken, taken_none, taken_next, taken_all}
+use Rattle.parity.proofs.Checking.{Taken}
 use Rattle.parity.proofs.check_all.Given as goal
 
 abbrev pub invariant-loop-j : goal.invariant-loop-j

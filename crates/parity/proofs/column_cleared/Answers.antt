@@ -1,5 +1,4 @@
 -- `parity::column_cleared` adds z where bit p is set: the bit is the lowest one of y without its last p bits.
-use borrow.Author.Rules.{rules}
 use Rattle.parity.proofs.Columns.{column_by}
 use Rattle.parity.proofs.column_cleared.Goals as goal
 

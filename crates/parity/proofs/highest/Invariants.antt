@@ -1,6 +1,5 @@
 -- `parity::highest` halves z until 1 is left: the loop keeps how often it was halved.
-use borrow.Author.Rules.{rules}
-use Rattle.parity.proofs.TopBit.{Shifted, shifted_none, shifted_next, shifted_end}
+use Rattle.parity.proofs.TopBit.{Shifted}
 use Rattle.parity.proofs.highest.Given as goal
 
 abbrev pub invariant-loop-rest : goal.invariant-loop-rest

@@ -1,7 +1,6 @@
 -- `parity::syndrome` adds up one column after another: the loop keeps that what is summed up and what is left make the whole sum.
-use Prim.Native.Nat.{◌-◌, ◌≤◌}
 use borrow.Author.Rules.{rules}
-use Rattle.parity.proofs.Columns.{Summed, summed_none, summed_next, summed_all}
+use Rattle.parity.proofs.Columns.{summed_none, summed_next, summed_all}
 use Rattle.parity.proofs.syndrome.Goals as goal
 
 pub loop-m-init : goal.loop-m-init

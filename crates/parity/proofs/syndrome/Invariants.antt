@@ -1,7 +1,6 @@
 -- `parity::syndrome` adds up one column after another: the loop keeps that what is summed up and what is left make the whole sum.
 use Prim.Native.Nat.{◌-◌, ◌≤◌}
-use borrow.Author.Rules.{rules}
-use Rattle.parity.proofs.Columns.{Summed, summed_none, summed_next, summed_all}
+use Rattle.parity.proofs.Columns.{Summed}
 use Rattle.parity.proofs.syndrome.Given as goal
 
 abbrev pub invariant-loop-m : goal.invariant-loop-m

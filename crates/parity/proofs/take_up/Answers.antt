@@ -1,6 +1,5 @@
 -- `parity::take_up` returns at once by syndrome 0; else it adds the row by the highest bit, which is one of 16.
 use mathlib.Core.Path.{refl}
-use borrow.Author.Rules.{rules}
 use Rattle.parity.specs.Inner.Steps.{same, more}
 use Rattle.parity.proofs.take_up.Goals as goal
 

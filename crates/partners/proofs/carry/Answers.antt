@@ -2,13 +2,12 @@
 -- that the edge gives it, and all others have none. The measure is what is left of the edges.
 use mathlib.Core.Path.{refl, ap, ◌∙◌}
 use native.Mathlib.Omega.{arith}
-use Prim.Native.Nat.{◌-◌, ◌<◌}
-use borrow.Author.Tests.{not-true, not-false}
+use Prim.Native.Nat.{◌<◌}
 use Rattle.trellis.specs.Bounds.{most_words}
-use Rattle.edges.specs.Inner.Edges.{edge_in, meant_edge}
+use Rattle.edges.specs.Inner.Edges.{meant_edge}
 use Rattle.edges.specs.declared.Edge.{Edge}
 use Rattle.partners.specs.Inner.Following.{end_for}
-use Rattle.partners.proofs.Carrying.{Carried, end_asked, carried_start, carried_stuck, carried_next, carried_all}
+use Rattle.partners.proofs.Carrying.{end_asked, carried_start, carried_stuck, carried_next, carried_all}
 use borrow.Author.Rules.{rules}
 use Rattle.partners.proofs.carry.Goals as goal
 

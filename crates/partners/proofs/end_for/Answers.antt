@@ -1,7 +1,6 @@
 -- `partners::end_for` meets its contract: it reads the place that the definition names.
 use mathlib.Core.Path.{refl}
 use Rattle.partners.proofs.Carrying.{end_read}
-use borrow.Author.Rules.{rules}
 use Rattle.partners.proofs.end_for.Goals as goal
 
 pub returns : goal.returns

@@ -2,13 +2,12 @@
 -- has its end. The measure is what is left of the edges.
 use mathlib.Core.Path.{refl, ap}
 use native.Mathlib.Omega.{arith}
-use Prim.Native.Nat.{◌+◌, ◌-◌, ◌*◌, ◌<◌}
+use Prim.Native.Nat.{◌+◌, ◌*◌, ◌<◌}
 use Rattle.trellis.specs.Bounds.{most_q, most_words}
 use Rattle.twins.specs.Inner.Twins.{turned_in}
 use Rattle.edges.specs.declared.Edge.{Edge}
 use Rattle.twins.proofs.Marking.{small_of, slot_small}
-use Rattle.partners.proofs.Ends.{Passing, InBounds, passing_start, passing_next, passing_all}
-use borrow.Author.Rules.{rules}
+use Rattle.partners.proofs.Ends.{InBounds, passing_start, passing_next, passing_all}
 use Rattle.partners.proofs.ends_of.Goals as goal
 
 pub loop-k-init : goal.loop-k-init

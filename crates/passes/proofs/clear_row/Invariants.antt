@@ -1,12 +1,9 @@
 -- `passes::clear_row` writes the note of no path to every place of a row. The loop's invariant: the places passed have it. The measure is
 -- how many are left.
-use borrow.Author.Rules.{rules}
-use mathlib.Core.Path.{sym, ◌∙◌}
 use Prim.Native.Nat.{◌-◌}
 use Rattle.trellis.specs.Bounds.{most_states}
 use Rattle.paths.specs.Chain.{unreached}
 use Rattle.lowering.specs.Inner.Loops.{Cleared}
-use Rattle.lowering.proofs.Lowered.{clear_start, clear_more, clear_end}
 use Rattle.passes.proofs.clear_row.Given as goal
 
 abbrev pub invariant-loop-s : goal.invariant-loop-s

@@ -1,5 +1,4 @@
 -- `passes::pass_block` goes from the goals along the edges to the roots.
-use borrow.Author.Rules.{rules}
 use Rattle.passes.proofs.Passing.{sweep_asked, passed}
 use Rattle.passes.proofs.pass_block.Goals as goal
 

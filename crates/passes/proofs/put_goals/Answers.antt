@@ -1,9 +1,7 @@
 -- `passes::put_goals` goes over the goals. The loop's invariant: the places passed have what is left to pay in the states of their goals.
 -- The measure is how many goals are left.
 use borrow.Author.Rules.{rules}
-use Prim.Native.Nat.{◌-◌}
 use Rattle.section_file.proofs.Seen.{goals_at}
-use Rattle.passes.specs.Inner.Loops.{GoalsRanked}
 use Rattle.passes.proofs.Ends.{state_read, goals_start, goals_more, goals_end}
 use Rattle.passes.proofs.put_goals.Goals as goal
 

@@ -1,5 +1,4 @@
 -- `passes::put_goals_side` takes the array of depth n's parity.
-use borrow.Author.Rules.{rules}
 use Rattle.passes.proofs.Ends.{goals_even, goals_odd}
 use Rattle.passes.proofs.put_goals_side.Goals as goal
 

@@ -1,11 +1,9 @@
 -- `passes::put_roots` goes over the roots. The loop's invariant: the states of the roots passed have their costs and notes, and the others
 -- no path. The measure is how many roots are left.
 use borrow.Author.Rules.{rules}
-use mathlib.Core.Path.{refl, sym, ◌∙◌}
+use mathlib.Core.Path.{refl}
 use native.Mathlib.Omega.{arith}
-use Prim.Native.Nat.{◌-◌, ◌≤◌}
 use Rattle.section_file.proofs.Seen.{roots_at}
-use Rattle.passes.specs.Inner.Loops.{RootsPut}
 use Rattle.passes.proofs.Ends.{state_read, roots_start, roots_more, roots_end}
 use Rattle.passes.proofs.put_roots.Goals as goal
 

@@ -1,9 +1,7 @@
 -- `pieces::put_symbols` writes the symbols word by word: the loop keeps the piece that is written so far.
 use Prim.Native.Nat.{◌-◌}
-use native.Mathlib.Omega.{arith}
-use borrow.Author.Rules.{rules}
 use Rattle.takers.specs.Inner.Pieces.{symbols_of}
-use Rattle.pieces.proofs.Pieces.{InPiece, piece_none, symbols_piece, symbol_more, piece_end, word_below}
+use Rattle.pieces.proofs.Pieces.{InPiece}
 use Rattle.pieces.proofs.put_symbols.Given as goal
 
 abbrev pub invariant-loop-k : goal.invariant-loop-k

@@ -3,7 +3,6 @@
 use native.Mathlib.Omega.{arith}
 use Rattle.gathering.proofs.Depths.{near}
 use Rattle.read_back.proofs.Outcomes.{ends_many, ends_short, ends_file}
-use borrow.Author.Rules.{rules}
 use Rattle.read_back.proofs.put_words.Goals as goal
 
 pub returns-then-count-gt-MOST_WORDS : goal.returns-then-count-gt-MOST_WORDS

@@ -2,7 +2,6 @@
 use mathlib.Core.Path.{sym, ◌∙◌}
 use Rattle.whole_section.proofs.Sections.{whole_filled}
 use Rattle.read_back.proofs.Outcomes.{ends_unusable}
-use borrow.Author.Rules.{rules}
 use Rattle.read_back.proofs.read_back.Goals as goal
 
 pub put_words-requires : goal.put_words-requires

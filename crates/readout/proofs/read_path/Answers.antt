@@ -4,7 +4,7 @@ use mathlib.Core.Path.{refl}
 use native.Mathlib.Omega.{arith}
 use Prim.Native.Nat.{◌+◌, ◌-◌, ◌*◌}
 use Rattle.trellis.specs.Bounds.{most_paths}
-use Rattle.readout.proofs.Backward.{Backward, backward_start, backward_more, backward_all}
+use Rattle.readout.proofs.Backward.{backward_start, backward_more, backward_all}
 use Rattle.readout.proofs.read_path.Goals as goal
 
 -- src/lib.rt:32:5

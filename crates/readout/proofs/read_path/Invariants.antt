@@ -1,10 +1,5 @@
 -- One turn is `backward-more`, cited with what the functions on codes promise; a goal fits a byte, for it is a state (`NotedWell`).
-use borrow.Author.Rules.{rules}
-use mathlib.Core.Path.{refl}
-use native.Mathlib.Omega.{arith}
-use Prim.Native.Nat.{◌+◌, ◌-◌, ◌*◌}
-use Rattle.trellis.specs.Bounds.{most_paths}
-use Rattle.readout.proofs.Backward.{Backward, backward_start, backward_more, backward_all}
+use Rattle.readout.proofs.Backward.{Backward}
 use Rattle.readout.proofs.read_path.Given as goal
 
 abbrev pub invariant-loop-b : goal.invariant-loop-b

@@ -3,9 +3,8 @@
 use borrow.Author.Rules.{rules}
 use mathlib.Core.Path.{refl, ◌∙◌, ap}
 use native.Mathlib.Omega.{arith}
-use Prim.Native.Nat.{◌-◌}
 use Rattle.codes.specs.Inner.Codes.{code_root}
-use Rattle.readout.proofs.Paths.{InPaths, paths_start, paths_room, paths_near, paths_more, paths_all}
+use Rattle.readout.proofs.Paths.{paths_start, paths_room, paths_near, paths_more, paths_all}
 use Rattle.readout.proofs.read_paths.Goals as goal
 
 -- src/lib.rt:65:5

@@ -1,11 +1,7 @@
 -- One turn is `paths-more`, cited with what the functions on slots and `read_path` promise. The next path begins where r · blocks words are
 -- written, so it has room and its place is small (`paths-room`, `paths-near`).
-use borrow.Author.Rules.{rules}
-use mathlib.Core.Path.{refl, ◌∙◌, ap}
-use native.Mathlib.Omega.{arith}
 use Prim.Native.Nat.{◌-◌}
-use Rattle.codes.specs.Inner.Codes.{code_root}
-use Rattle.readout.proofs.Paths.{InPaths, paths_start, paths_room, paths_near, paths_more, paths_all}
+use Rattle.readout.proofs.Paths.{InPaths}
 use Rattle.readout.proofs.read_paths.Given as goal
 
 abbrev pub invariant-loop-r : goal.invariant-loop-r

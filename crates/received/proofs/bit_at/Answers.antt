@@ -3,7 +3,6 @@ use Prim.Native.Nat.{◌-◌, ◌/◌, ◌^◌}
 use native.Mathlib.Nat.{lt_of_le_of_lt}
 use lib.Bits.{and_le_r}
 use lib.Dec.{lit<}
-use borrow.Author.Rules.{rules}
 use Rattle.trellis.specs.Comparing.{marked_at}
 use Rattle.trellis.proofs.Bools.{one_if_le}
 use Rattle.received.proofs.Fitting.{bit_at}

@@ -1,6 +1,5 @@
 -- `received::fits` makes the tests of the definition one after the other.
 use Rattle.received.proofs.Fitting.{fits_label, fits_mask, fits_all}
-use borrow.Author.Rules.{rules}
 use mathlib.Core.Path.{ap}
 use mathlib.Core.Bool.{not}
 use Rattle.received.proofs.fits.Goals as goal

@@ -1,8 +1,7 @@
 -- `received::is_clear` tests the symbols in their order. The loop's invariant: none of those passed is erased and other than 0. The measure
 -- is how many are left.
-use borrow.Author.Rules.{rules}
 use Prim.Native.Nat.{◌-◌}
-use Rattle.received.proofs.Fitting.{stray_start, stray_found, stray_more, stray_none, InStray}
+use Rattle.received.proofs.Fitting.{InStray}
 use Rattle.received.proofs.is_clear.Given as goal
 
 abbrev pub invariant-loop-t : goal.invariant-loop-t

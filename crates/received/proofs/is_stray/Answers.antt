@@ -1,5 +1,4 @@
 -- `received::is_stray` is the test of the definition, by whether the symbol is erased.
-use borrow.Author.Rules.{rules}
 use Rattle.received.proofs.Fitting.{stray_erased, stray_kept}
 use Rattle.received.proofs.is_stray.Goals as goal
 

@@ -1,6 +1,5 @@
 -- `records::added` adds the record's additions to the one sum and its selections to the other.
 use mathlib.Core.Path.{refl}
-use borrow.Author.Rules.{rules}
 use Rattle.records.proofs.added.Goals as goal
 
 pub returns : goal.returns

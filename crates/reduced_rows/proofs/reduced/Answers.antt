@@ -1,9 +1,8 @@
 -- `reduced_rows::reduced` goes through the columns: the loop keeps that the rows written and those of the columns left are all reduced rows. A
 -- row is written at each turn, and counts where its column is below the power of 2.
-use Prim.Native.Nat.{◌-◌}
 use borrow.Author.Rules.{rules}
 use Rattle.parity.proofs.Checking.{power_at}
-use Rattle.reduced_rows.proofs.ReadingOff.{Reducing, reducing_none, reducing_next, reducing_end}
+use Rattle.reduced_rows.proofs.ReadingOff.{reducing_none, reducing_next, reducing_end}
 use Rattle.reduced_rows.proofs.reduced.Goals as goal
 
 pub loop-m-init : goal.loop-m-init

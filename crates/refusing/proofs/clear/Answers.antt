@@ -1,7 +1,6 @@
 -- `refusing::clear` clears one place after another: the loop keeps those that are cleared so far.
-use Prim.Native.Nat.{◌-◌}
 use borrow.Author.Rules.{rules}
-use Rattle.refusing.proofs.Clearing.{InClear, clear_none, clear_more, clear_end}
+use Rattle.refusing.proofs.Clearing.{clear_none, clear_more, clear_end}
 use Rattle.refusing.proofs.clear.Goals as goal
 
 pub loop-i-init : goal.loop-i-init

@@ -1,7 +1,6 @@
 -- `refusing::clear` clears one place after another: the loop keeps those that are cleared so far.
 use Prim.Native.Nat.{◌-◌}
-use borrow.Author.Rules.{rules}
-use Rattle.refusing.proofs.Clearing.{InClear, clear_none, clear_more, clear_end}
+use Rattle.refusing.proofs.Clearing.{InClear}
 use Rattle.refusing.proofs.clear.Given as goal
 
 abbrev pub invariant-loop-i : goal.invariant-loop-i

@@ -1,6 +1,5 @@
 -- `refusing::refuse` clears the map and gives the first witness, which there is at a depth that is not rectangular.
 use Rattle.refusing.proofs.FirstDepth.{refusal_at, refusal_none}
-use borrow.Author.Rules.{rules}
 use Rattle.refusing.proofs.refuse.Goals as goal
 
 pub returns-in-At : goal.returns-in-At

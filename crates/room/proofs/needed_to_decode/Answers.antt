@@ -1,5 +1,4 @@
 -- `room::needed_to_decode` asks the buffers one by one, from the last to the first.
-use borrow.Author.Rules.{rules}
 use Rattle.room.proofs.Fitting.{decode_by}
 use Rattle.room.proofs.needed_to_decode.Goals as goal
 

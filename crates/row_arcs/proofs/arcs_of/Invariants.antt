@@ -1,9 +1,7 @@
 -- `row_arcs::arcs_of` takes row after row: the loop keeps that the edges of the rows so far are in front.
-use mathlib.Core.Path.{refl}
 use Prim.Native.Nat.{◌-◌}
 use lib.ListN.{length}
-use borrow.Author.Rules.{rules}
-use Rattle.row_arcs.proofs.RowArcs.{InArcs, arcs_none, word_below, words_few, arc_small, arcs_next, arcs_end}
+use Rattle.row_arcs.proofs.RowArcs.{InArcs}
 use Rattle.row_arcs.proofs.arcs_of.Given as goal
 
 abbrev pub invariant-loop-b : goal.invariant-loop-b

@@ -1,5 +1,4 @@
 -- `row_arcs::bit_at` shifts the bit to the front and masks the others.
-use borrow.Author.Rules.{rules}
 use Rattle.row_arcs.proofs.OneEdge.{bit_is}
 use Rattle.row_arcs.proofs.bit_at.Goals as goal
 

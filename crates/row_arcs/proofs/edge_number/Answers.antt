@@ -1,6 +1,5 @@
 -- `row_arcs::edge_number` puts the three parts together, and by its bound nothing is lost.
 use native.Mathlib.Omega.{arith}
-use borrow.Author.Rules.{rules}
 use Rattle.row_arcs.proofs.OneEdge.{front_fits, number_is_lem}
 use Rattle.row_arcs.proofs.edge_number.Goals as goal
 

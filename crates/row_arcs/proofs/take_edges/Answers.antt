@@ -1,9 +1,8 @@
 -- `row_arcs::take_edges` takes one step after another: the loop keeps the edges of the steps so far, and how many each has.
 use mathlib.Core.Path.{refl}
-use Prim.Native.Nat.{◌-◌}
 use native.Mathlib.Omega.{arith}
 use borrow.Author.Rules.{rules}
-use Rattle.row_arcs.proofs.AllSteps.{InEdges, edges_none, words_most, steps_below, step_asked, step_room, step_from, step_most}
+use Rattle.row_arcs.proofs.AllSteps.{edges_none, words_most, steps_below, step_asked, step_room, step_from, step_most}
 use Rattle.row_arcs.proofs.AllSteps.{edges_next, edges_end}
 use Rattle.row_arcs.proofs.take_edges.Goals as goal
 

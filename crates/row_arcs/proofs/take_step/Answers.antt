@@ -2,7 +2,6 @@
 use mathlib.Core.Path.{sym}
 use native.Mathlib.Omega.{arith}
 use lib.Seq.{length-take-le}
-use borrow.Author.Rules.{rules}
 use Rattle.row_arcs.proofs.StepSums.{arcs_fit, arcs_narrow, base_fit, base_few, base_room, step_sums_lem}
 use Rattle.row_arcs.proofs.take_step.Goals as goal
 

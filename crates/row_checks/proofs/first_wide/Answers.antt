@@ -1,8 +1,5 @@
 -- `row_checks::first_wide` stops at the first wide row: none before row j is wide.
-use borrow.Author.Rules.{rules}
-use Prim.Native.Nat.{◌-◌}
-use lib.ListN.{length}
-use Rattle.row_checks.proofs.Checks.{NoneWide, wide_start, wide_next, wide_here, wide_end}
+use Rattle.row_checks.proofs.Checks.{wide_start, wide_next, wide_here, wide_end}
 use Rattle.row_checks.proofs.first_wide.Goals as goal
 
 pub loop-j-init : goal.loop-j-init

@@ -1,8 +1,7 @@
 -- `row_checks::first_wide` stops at the first wide row: none before row j is wide.
-use borrow.Author.Rules.{rules}
 use Prim.Native.Nat.{◌-◌}
 use lib.ListN.{length}
-use Rattle.row_checks.proofs.Checks.{NoneWide, wide_start, wide_next, wide_here, wide_end}
+use Rattle.row_checks.proofs.Checks.{NoneWide}
 use Rattle.row_checks.proofs.first_wide.Given as goal
 
 abbrev pub invariant-loop-j : goal.invariant-loop-j

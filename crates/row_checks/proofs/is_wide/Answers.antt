@@ -1,5 +1,4 @@
 -- `row_checks::is_wide` compares the row with 1 shifted by the width.
-use borrow.Author.Rules.{rules}
 use Rattle.row_checks.proofs.Checks.{wide_test}
 use Rattle.row_checks.proofs.is_wide.Goals as goal
 

@@ -1,5 +1,4 @@
 -- `row_checks::sizes_fit` compares one size after another.
-use borrow.Author.Rules.{rules}
 use Rattle.row_checks.proofs.Checks.{bits_unfit, symbols_unfit, by_count}
 use mathlib.Core.Path.{ap}
 use mathlib.Core.Bool.{not}

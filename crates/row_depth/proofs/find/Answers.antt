@@ -1,6 +1,5 @@
 -- `row_depth::find` goes on while none so far is x, and stops at the first that is, or behind the last.
-use Rattle.row_depth.proofs.Finding.{Missed, missed_none, missed_next, found_here, found_end}
-use Prim.Native.Nat.{◌-◌, ◌≤◌}
+use Rattle.row_depth.proofs.Finding.{missed_none, missed_next, found_here, found_end}
 use borrow.Author.Rules.{rules}
 use Rattle.row_depth.proofs.find.Goals as goal
 

@@ -1,7 +1,6 @@
 -- `row_depth::find` goes on while none so far is x, and stops at the first that is, or behind the last.
-use Rattle.row_depth.proofs.Finding.{Missed, missed_none, missed_next, found_here, found_end}
+use Rattle.row_depth.proofs.Finding.{Missed}
 use Prim.Native.Nat.{◌-◌, ◌≤◌}
-use borrow.Author.Rules.{rules}
 use Rattle.row_depth.proofs.find.Given as goal
 
 abbrev pub invariant-loop-j : goal.invariant-loop-j

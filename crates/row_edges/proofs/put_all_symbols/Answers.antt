@@ -1,9 +1,7 @@
 -- `row_edges::put_all_symbols` writes the symbols of one step after another: the loop keeps what is written of the steps so far.
-use Prim.Native.Nat.{◌-◌}
 use native.Mathlib.Omega.{arith}
 use borrow.Author.Rules.{rules}
-use Rattle.row_pieces.specs.Inner.Pieces.{symbols_from}
-use Rattle.row_edges.proofs.AllPieces.{InAll, all_none, lent_inside, lent_room, all_next, all_end, symbols_size}
+use Rattle.row_edges.proofs.AllPieces.{all_none, lent_inside, lent_room, all_next, all_end, symbols_size}
 use Rattle.row_edges.proofs.put_all_symbols.Goals as goal
 
 pub loop-t-init : goal.loop-t-init

@@ -1,10 +1,8 @@
 -- `row_file::put_labels` meets its contract. The loop's invariant: the labels passed are written. The measure is what is left of them.
-use Prim.Native.Nat.{◌-◌}
 use native.Mathlib.Omega.{arith}
-use lib.ListN.{length, length-set}
+use lib.ListN.{length-set}
 use borrow.Author.Rules.{rules}
-use Rattle.word_file.specs.TableBytes.{bytes_of}
-use Rattle.word_file.proofs.Writing.{Pieces, pieces_start, pieces_next}
+use Rattle.word_file.proofs.Writing.{pieces_start, pieces_next}
 use Rattle.row_file.proofs.Pieces.{label_bytes, pieces_end}
 use Rattle.row_file.proofs.put_labels.Goals as goal
 

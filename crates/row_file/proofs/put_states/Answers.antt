@@ -1,11 +1,9 @@
 -- `row_file::put_states` meets its contract. The loop's invariant: the states of the words passed are written. The measure is what is left
 -- of them. The first state fits a byte since the words are narrow.
-use Prim.Native.Nat.{◌-◌}
 use native.Mathlib.Omega.{arith}
-use lib.ListN.{length, get_or, length-set}
+use lib.ListN.{get_or, length-set}
 use borrow.Author.Rules.{rules}
-use Rattle.word_file.proofs.Writing.{Pieces, pieces_start, pieces_next}
-use Rattle.row_file.specs.Inner.Filing.{state_bytes}
+use Rattle.word_file.proofs.Writing.{pieces_start, pieces_next}
 use Rattle.row_file.proofs.States.{root_byte}
 use Rattle.row_file.proofs.Pieces.{states_are, pieces_whole}
 use Rattle.row_file.proofs.put_states.Goals as goal

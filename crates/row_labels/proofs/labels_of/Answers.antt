@@ -1,10 +1,7 @@
 -- `row_labels::labels_of` meets its contract. The loop's invariant: the labels of the rows passed stand in front. The measure is what is
 -- left of the rows.
-use Prim.Native.Nat.{◌-◌}
-use lib.ListN.{length}
 use borrow.Author.Rules.{rules}
-use Rattle.parity.proofs.Fronts.{Fills, fills_none}
-use Rattle.row_labels.specs.Inner.Labels.{labels_of}
+use Rattle.parity.proofs.Fronts.{fills_none}
 use Rattle.row_labels.proofs.Spread.{labels_next, labels_all}
 use Rattle.row_labels.proofs.labels_of.Goals as goal
 

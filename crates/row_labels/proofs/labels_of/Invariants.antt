@@ -2,10 +2,8 @@
 -- left of the rows.
 use Prim.Native.Nat.{◌-◌}
 use lib.ListN.{length}
-use borrow.Author.Rules.{rules}
-use Rattle.parity.proofs.Fronts.{Fills, fills_none}
+use Rattle.parity.proofs.Fronts.{Fills}
 use Rattle.row_labels.specs.Inner.Labels.{labels_of}
-use Rattle.row_labels.proofs.Spread.{labels_next, labels_all}
 use Rattle.row_labels.proofs.labels_of.Given as goal
 
 abbrev pub invariant-loop-b : goal.invariant-loop-b

@@ -3,7 +3,7 @@ use Prim.Native.Nat.{◌/◌, ◌^◌, ◌-◌}
 use native.Mathlib.Omega.{arith}
 use lib.Bits.{mask_lt}
 use borrow.Author.Rules.{rules}
-use Rattle.row_labels.proofs.Spread.{Spreading, spreading_none, spreading_next, spreading_fits, spreading_end}
+use Rattle.row_labels.proofs.Spread.{spreading_none, spreading_next, spreading_fits, spreading_end}
 use Rattle.row_labels.proofs.spread_bits.Goals as goal
 
 pub loop-left-init : goal.loop-left-init

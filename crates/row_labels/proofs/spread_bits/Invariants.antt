@@ -1,9 +1,5 @@
 -- `row_labels::spread_bits` meets its contract. The loop's invariant: all but the last `left` bits are spread. The measure is `left`.
-use Prim.Native.Nat.{◌/◌, ◌^◌, ◌-◌}
-use native.Mathlib.Omega.{arith}
-use lib.Bits.{mask_lt}
-use borrow.Author.Rules.{rules}
-use Rattle.row_labels.proofs.Spread.{Spreading, spreading_none, spreading_next, spreading_fits, spreading_end}
+use Rattle.row_labels.proofs.Spread.{Spreading}
 use Rattle.row_labels.proofs.spread_bits.Given as goal
 
 abbrev pub invariant-loop-left : goal.invariant-loop-left

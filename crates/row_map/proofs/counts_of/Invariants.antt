@@ -1,7 +1,6 @@
 -- `row_map::counts_of` sets the counts depth by depth: the loop keeps that those before t are set.
 use Prim.Native.Nat.{◌-◌}
-use Rattle.row_map.proofs.AllDepths.{Counting, counting_none, counting_next, counting_end}
-use borrow.Author.Rules.{rules}
+use Rattle.row_map.proofs.AllDepths.{Counting}
 use Rattle.row_map.proofs.counts_of.Given as goal
 
 abbrev pub invariant-loop-t : goal.invariant-loop-t

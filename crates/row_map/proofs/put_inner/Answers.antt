@@ -1,6 +1,4 @@
 -- `row_map::put_inner` puts the inner depths one behind another: the loop keeps that those before t stand.
-use Prim.Native.Nat.{◌-◌, ◌≤◌}
-use Rattle.row_map.specs.Inner.Maps.{InnerPut}
 use Rattle.row_map.proofs.AllDepths.{inner_none, inner_room, inner_asked, inner_next, inner_end}
 use borrow.Author.Rules.{rules}
 use Rattle.row_map.proofs.put_inner.Goals as goal

@@ -1,7 +1,6 @@
 -- `row_map::put_map` puts the inner depths, then depth 0 and depth n by the rows' states, and sets their dimensions: what stands then is
 -- the whole map, as `Whole` says.
 use Rattle.row_map.proofs.Whole.{lent_length, root_asked, goal_asked, counts_asked, map_put}
-use borrow.Author.Rules.{rules}
 use Rattle.row_map.proofs.put_map.Goals as goal
 
 pub slice_bounds-put_outer-end : goal.slice_bounds-put_outer-end

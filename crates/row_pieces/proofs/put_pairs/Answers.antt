@@ -1,10 +1,8 @@
 -- `row_pieces::put_pairs` writes the pairs edge by edge: the loop keeps the piece that is written so far.
-use Prim.Native.Nat.{◌-◌}
 use native.Mathlib.Omega.{arith}
-use lib.ListN.{length, length-set}
+use lib.ListN.{length-set}
 use borrow.Author.Rules.{rules}
-use Rattle.row_pieces.specs.Inner.Pieces.{pairs_from}
-use Rattle.row_pieces.proofs.Pieces.{Put, put_none, pairs_piece, pair_more, put_end}
+use Rattle.row_pieces.proofs.Pieces.{put_none, pairs_piece, pair_more, put_end}
 use Rattle.row_pieces.proofs.put_pairs.Goals as goal
 
 pub loop-k-init : goal.loop-k-init

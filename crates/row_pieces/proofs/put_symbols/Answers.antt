@@ -1,9 +1,6 @@
 -- `row_pieces::put_symbols` writes the symbols edge by edge: the loop keeps the piece that is written so far.
-use Prim.Native.Nat.{◌-◌, ◌+◌}
-use lib.ListN.{length}
 use borrow.Author.Rules.{rules}
-use Rattle.row_pieces.specs.Inner.Pieces.{symbols_from}
-use Rattle.row_pieces.proofs.Pieces.{Put, symbols_none, symbol_more, symbols_end}
+use Rattle.row_pieces.proofs.Pieces.{symbols_none, symbol_more, symbols_end}
 use Rattle.row_pieces.proofs.put_symbols.Goals as goal
 
 pub loop-k-init : goal.loop-k-init

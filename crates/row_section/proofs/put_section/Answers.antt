@@ -1,7 +1,6 @@
 -- `row_section::put_section` writes the sizes and then the parts one behind another; each has room behind those before it.
 use mathlib.Core.Path.{sym}
 use Rattle.row_section.proofs.Parts.{goals_asked, pairs_asked, symbols_asked, all_parts}
-use borrow.Author.Rules.{rules}
 use Rattle.row_section.proofs.put_section.Goals as goal
 
 pub slice_bounds-put_numbers-end-2 : goal.slice_bounds-put_numbers-end-2

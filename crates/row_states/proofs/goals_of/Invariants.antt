@@ -1,8 +1,7 @@
 -- `row_states::goals_of` fills an array from the front: the loop keeps that the first b rows' last bits stand.
 use Prim.Native.Nat.{◌-◌, ◌%◌, ◌^◌}
 use lib.ListN.{length}
-use Rattle.row_states.proofs.Keys.{Given, given_none, given_next, given_all}
-use borrow.Author.Rules.{rules}
+use Rattle.row_states.proofs.Keys.{Given}
 use Rattle.row_states.proofs.goals_of.Given as goal
 
 abbrev pub invariant-loop-b : goal.invariant-loop-b

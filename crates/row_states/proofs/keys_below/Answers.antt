@@ -1,7 +1,5 @@
 -- `row_states::keys_below` counts key by key.
-use Prim.Native.Nat.{◌-◌, ◌≤◌}
-use lib.ListN.{length}
-use Rattle.row_states.proofs.Keys.{Below, below_none, below_next, below_all}
+use Rattle.row_states.proofs.Keys.{below_none, below_next, below_all}
 use borrow.Author.Rules.{rules}
 use Rattle.row_states.proofs.keys_below.Goals as goal
 

@@ -1,8 +1,7 @@
 -- `row_states::keys_below` counts key by key.
 use Prim.Native.Nat.{◌-◌, ◌≤◌}
 use lib.ListN.{length}
-use Rattle.row_states.proofs.Keys.{Below, below_none, below_next, below_all}
-use borrow.Author.Rules.{rules}
+use Rattle.row_states.proofs.Keys.{Below}
 use Rattle.row_states.proofs.keys_below.Given as goal
 
 abbrev pub invariant-loop-v : goal.invariant-loop-v

@@ -1,8 +1,5 @@
 -- `row_states::ranks_of` fills an array from the front: the loop keeps that the ranks of the first b values stand.
-use Prim.Native.Nat.{◌-◌}
-use lib.ListN.{length}
-use Rattle.trellis.specs.Lists.{rank}
-use Rattle.row_states.proofs.Keys.{Given, given_none, given_next, given_all}
+use Rattle.row_states.proofs.Keys.{given_none, given_next, given_all}
 use borrow.Author.Rules.{rules}
 use Rattle.row_states.proofs.ranks_of.Goals as goal
 

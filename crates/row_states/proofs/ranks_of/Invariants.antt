@@ -2,8 +2,7 @@
 use Prim.Native.Nat.{◌-◌}
 use lib.ListN.{length}
 use Rattle.trellis.specs.Lists.{rank}
-use Rattle.row_states.proofs.Keys.{Given, given_none, given_next, given_all}
-use borrow.Author.Rules.{rules}
+use Rattle.row_states.proofs.Keys.{Given}
 use Rattle.row_states.proofs.ranks_of.Given as goal
 
 abbrev pub invariant-loop-b : goal.invariant-loop-b

@@ -1,8 +1,6 @@
 -- `row_states::roots_of` fills an array from the front: the loop keeps that the first b rows' first bits stand.
-use Prim.Native.Nat.{◌-◌, ◌/◌, ◌^◌}
-use lib.ListN.{length}
 use mathlib.Core.Path.{refl}
-use Rattle.row_states.proofs.Keys.{Given, given_none, given_next, given_all}
+use Rattle.row_states.proofs.Keys.{given_none, given_next, given_all}
 use borrow.Author.Rules.{rules}
 use Rattle.row_states.proofs.roots_of.Goals as goal
 

@@ -1,9 +1,7 @@
 -- `row_states::roots_of` fills an array from the front: the loop keeps that the first b rows' first bits stand.
 use Prim.Native.Nat.{◌-◌, ◌/◌, ◌^◌}
 use lib.ListN.{length}
-use mathlib.Core.Path.{refl}
-use Rattle.row_states.proofs.Keys.{Given, given_none, given_next, given_all}
-use borrow.Author.Rules.{rules}
+use Rattle.row_states.proofs.Keys.{Given}
 use Rattle.row_states.proofs.roots_of.Given as goal
 
 abbrev pub invariant-loop-b : goal.invariant-loop-b

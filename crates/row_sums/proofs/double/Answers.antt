@@ -1,7 +1,5 @@
 -- `row_sums::double` writes one number after another behind the others: the loop keeps which stand.
-use Prim.Native.Nat.{◌-◌, ◌≤◌}
 use borrow.Author.Rules.{rules}
-use Rattle.row_sums.specs.Inner.Doubled.{Doubled}
 use Rattle.row_sums.proofs.Doubling.{doubled_none, doubled_next, doubled_end}
 use Rattle.row_sums.proofs.double.Goals as goal
 

@@ -1,11 +1,10 @@
 -- `row_sums::put_sums` writes the empty sum, then doubles what stands by one row after another: the loop keeps that the sums of the
 -- rows so far are written.
 use mathlib.Core.Path.{refl}
-use Prim.Native.Nat.{◌-◌}
 use lib.ListN.{length}
 use lib.Pow.{pow_pos}
 use borrow.Author.Rules.{rules}
-use Rattle.row_sums.proofs.AllSums.{SumsPut, sums_none, sums_few, sums_inside, sums_room, sums_next, sums_length, sums_end}
+use Rattle.row_sums.proofs.AllSums.{sums_none, sums_few, sums_inside, sums_room, sums_next, sums_length, sums_end}
 use Rattle.row_sums.proofs.put_sums.Goals as goal
 
 pub offset_bounds-buffer-place : goal.offset_bounds-buffer-place

@@ -1,8 +1,7 @@
 -- `same_section::alike` meets its contract. The loop's invariant: the numbers passed are the same. The measure is what is left of them.
 use Prim.Native.Nat.{◌-◌}
 use lib.ListN.{get_or}
-use Rattle.partners.proofs.Tests.{Agreeing, agree_start, agree_not, agree_next, agree_all}
-use borrow.Author.Rules.{rules}
+use Rattle.partners.proofs.Tests.{Agreeing}
 use Rattle.same_section.proofs.alike.Given as goal
 
 abbrev pub invariant-loop-i : goal.invariant-loop-i

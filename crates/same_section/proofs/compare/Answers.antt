@@ -1,7 +1,6 @@
 -- `same_section::compare` meets its contract: where the second list is no section that is the answer, and else the two are compared.
 use mathlib.Core.Path.{◌≡◌, sym, ◌∙◌}
 use mathlib.Core.Bool.{true}
-use borrow.Author.Rules.{rules}
 use Rattle.section_file.specs.Usable.{is_section}
 use Rattle.whole_section.proofs.Sections.{whole_filled, whole_none}
 use Rattle.same_section.proofs.Answers.{second_unusable, both_compared}

@@ -1,6 +1,4 @@
 -- `same_section::same_code` meets its contract: each of its tests decides, by the laws of sections with the same code.
-use borrow.Author.Rules.{rules}
-use borrow.Author.Tests.{not-true, not-false}
 use Rattle.partners.specs.Inner.Following.{BothSeen}
 use Rattle.same_section.proofs.Comparing.{followed_code}
 use Rattle.same_section.proofs.Answers.{front_differs, front_same, all_same, more_steps}

@@ -1,6 +1,5 @@
 -- `same_section::same_section` meets its contract: where the first list is no section that is the answer, and else the two are compared.
 use mathlib.Core.Path.{sym, ◌∙◌}
-use borrow.Author.Rules.{rules}
 use Rattle.whole_section.proofs.Sections.{whole_filled, whole_none}
 use Rattle.same_section.proofs.Answers.{first_unusable}
 use Rattle.same_section.proofs.same_section.Goals as goal

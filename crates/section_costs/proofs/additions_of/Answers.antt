@@ -1,7 +1,6 @@
 -- `section_costs::additions_of` sums the edge counts, which stand behind the n + 1 vertex counts.
 use native.Mathlib.Omega.{arith}
 use Rattle.section_costs.proofs.Costs.{edges_sum}
-use borrow.Author.Rules.{rules}
 use Rattle.section_costs.proofs.additions_of.Goals as goal
 
 pub returns : goal.returns

@@ -1,7 +1,6 @@
 -- `section_costs::selections_of` takes the vertices of all depths from the edges and the roots.
 use native.Mathlib.Omega.{arith}
 use Rattle.section_costs.proofs.Costs.{selected}
-use borrow.Author.Rules.{rules}
 use Rattle.section_costs.proofs.selections_of.Goals as goal
 
 pub returns : goal.returns

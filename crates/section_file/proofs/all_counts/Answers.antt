@@ -1,11 +1,9 @@
 -- `section_file::all_counts` meets its contract. The loop's invariant: all counts passed are in bounds.
 -- The measure is what is left of them.
 use mathlib.Core.Path.{◌∙◌, ap}
-use Prim.Native.Nat.{◌+◌, ◌-◌}
-use lib.ListN.{get_or}
 use Rattle.trellis.specs.Bounds.{most_words}
 use Rattle.trellis.specs.Lists.{within}
-use Rattle.edges.proofs.Tests.{Passed, passed_start, passed_next, passed_fails, passed_all}
+use Rattle.edges.proofs.Tests.{passed_start, passed_next, passed_fails, passed_all}
 use borrow.Author.Rules.{rules}
 use mathlib.Core.Bool.{not}
 use Rattle.section_file.proofs.all_counts.Goals as goal

@@ -1,5 +1,4 @@
 -- `sections::view_at` takes the view out of the answer.
-use borrow.Author.Rules.{rules}
 use Rattle.sections.proofs.Sections.{view_read}
 use Rattle.sections.proofs.view_at.Goals as goal
 

@@ -1,8 +1,5 @@
 -- `settling::copy_row` copies number by number. The loop's invariant: those passed are copied. The measure is how many are left.
 use borrow.Author.Rules.{rules}
-use Prim.Native.Nat.{◌-◌, ◌≤◌}
-use Rattle.trellis.specs.Bounds.{most_states}
-use Rattle.settling.specs.Inner.Settled.{RowCopied}
 use Rattle.settling.proofs.Settling.{copy_start, copy_more, copy_end}
 use Rattle.settling.proofs.copy_row.Goals as goal
 

@@ -3,10 +3,9 @@
 use borrow.Author.Rules.{rules}
 use mathlib.Core.Path.{refl}
 use native.Mathlib.Omega.{arith}
-use lib.ListN.{length}
 use Rattle.cost_table.proofs.Rows.{one_below, row_inside, row_back}
 use Rattle.cost_table.proofs.Tables.{block_at}
-use Rattle.settling.proofs.Settling.{InSettle, settle_start, last_is, row_fits, settle_more, settle_end}
+use Rattle.settling.proofs.Settling.{settle_start, last_is, row_fits, settle_more, settle_end}
 use Rattle.settling.proofs.settle.Goals as goal
 
 pub loop-b-init : goal.loop-b-init

@@ -1,12 +1,7 @@
 -- `settling::settle` goes from the last block to the first. The loop's invariant: from block b on the table has its costs, before it the
 -- notes are still there, and the costs behind are at hand. The measure is b.
-use borrow.Author.Rules.{rules}
-use mathlib.Core.Path.{refl}
-use native.Mathlib.Omega.{arith}
 use lib.ListN.{length}
-use Rattle.cost_table.proofs.Rows.{one_below, row_inside, row_back}
-use Rattle.cost_table.proofs.Tables.{block_at}
-use Rattle.settling.proofs.Settling.{InSettle, settle_start, last_is, row_fits, settle_more, settle_end}
+use Rattle.settling.proofs.Settling.{InSettle}
 use Rattle.settling.proofs.settle.Given as goal
 
 abbrev pub invariant-loop-b : goal.invariant-loop-b

@@ -1,10 +1,8 @@
 -- `settling::settle_roots` goes over the roots. The loop's invariant: the roots passed have their costs, and the other states what they
 -- had; and the roots stand where they were looked for. The measure is how many roots are left.
-use borrow.Author.Rules.{rules}
-use mathlib.Core.Path.{sym, ◌∙◌}
 use Prim.Native.Nat.{◌-◌, ◌≤◌}
 use Rattle.settling.specs.Inner.Settled.{RootsSettled}
-use Rattle.settling.proofs.Settling.{RootsRead, counts_there, roots_read, roots_start, state_lt, still_fits, roots_more, roots_end}
+use Rattle.settling.proofs.Settling.{RootsRead}
 use Rattle.settling.proofs.settle_roots.Given as goal
 
 abbrev pub invariant-loop-v : goal.invariant-loop-v

@@ -2,7 +2,6 @@
 use Rattle.sheet_records.specs.Sheet.{records_of}
 use Rattle.sheet_lines.proofs.Lines.{lines_put}
 use Rattle.sheet.proofs.Whole.{made_refused, drawn, blocks_inside, few_asked, made_lines}
-use borrow.Author.Rules.{rules}
 use Rattle.sheet.proofs.put_sheet.Goals as goal
 
 pub returns-then-refusal-ne0 : goal.returns-then-refusal-ne0

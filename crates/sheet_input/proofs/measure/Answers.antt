@@ -1,6 +1,5 @@
 -- `sheet_input::measure` takes the answer 7 for a section's, whose counts stand in the sizes, and any other for the table's own refusal.
 use Rattle.sheet_input.proofs.Measuring.{measured_refused, measured_accepted}
-use borrow.Author.Rules.{rules}
 use Rattle.sheet_input.proofs.measure.Goals as goal
 
 pub returns-then-returned-ne7 : goal.returns-then-returned-ne7

@@ -3,7 +3,7 @@ use mathlib.Core.List.{List}
 use Prim.Native.Nat.{ℕ, ◌-◌}
 use lib.ListN.{length, take, drop}
 use Rattle.input_parts.proofs.Parts.{part_taken, part_few}
-use Rattle.sheet_input.proofs.Tables.{InTables, tables_start, sections_few, tables_refused, tables_next, tables_all}
+use Rattle.sheet_input.proofs.Tables.{tables_start, sections_few, tables_refused, tables_next, tables_all}
 use borrow.Author.Rules.{rules}
 use Rattle.sheet_input.proofs.measure_tables.Goals as goal
 

@@ -1,10 +1,6 @@
 -- `sheet_input::measure_tables` goes from table to table. The loop's invariant is `InTables`; the measure is how many tables are left.
-use mathlib.Core.List.{List}
-use Prim.Native.Nat.{ℕ, ◌-◌}
-use lib.ListN.{length, take, drop}
-use Rattle.input_parts.proofs.Parts.{part_taken, part_few}
-use Rattle.sheet_input.proofs.Tables.{InTables, tables_start, sections_few, tables_refused, tables_next, tables_all}
-use borrow.Author.Rules.{rules}
+use Prim.Native.Nat.{◌-◌}
+use Rattle.sheet_input.proofs.Tables.{InTables}
 use Rattle.sheet_input.proofs.measure_tables.Given as goal
 
 abbrev pub invariant-loop-j : goal.invariant-loop-j

@@ -1,6 +1,5 @@
 -- `sheet_input::read` answers by the fault of the head where there is one, and else by what the tables come to.
 use Rattle.input_parts.proofs.Head.{head_read, read_head, head_passed}
-use borrow.Author.Rules.{rules}
 use Rattle.sheet_input.proofs.read.Goals as goal
 
 pub check_head-refusal-requires : goal.check_head-refusal-requires

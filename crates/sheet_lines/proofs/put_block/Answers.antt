@@ -1,6 +1,5 @@
 -- `sheet_lines::put_block` puts the line of the record's four numbers.
 use Rattle.sheet_lines.proofs.Lines.{block_put}
-use borrow.Author.Rules.{rules}
 use Rattle.sheet_lines.proofs.put_block.Goals as goal
 
 pub returns : goal.returns

@@ -1,11 +1,7 @@
 -- `sheet_lines::put_blocks` puts the lines one behind another. The loop's invariant: the lines of the records passed are put. The measure
 -- is how many are left.
-use Prim.Native.Nat.{◌-◌}
-use lib.ListN.{take}
-use Rattle.text.proofs.Putting.{Pieces, pieces_start}
-use Rattle.sheet_records.specs.Sheet.{block_line}
+use Rattle.text.proofs.Putting.{pieces_start}
 use Rattle.sheet_lines.proofs.Lines.{block_next, blocks_all}
-use borrow.Author.Rules.{rules}
 use Rattle.sheet_lines.proofs.put_blocks.Goals as goal
 
 pub loop-b-init : goal.loop-b-init

@@ -2,10 +2,8 @@
 -- is how many are left.
 use Prim.Native.Nat.{◌-◌}
 use lib.ListN.{take}
-use Rattle.text.proofs.Putting.{Pieces, pieces_start}
+use Rattle.text.proofs.Putting.{Pieces}
 use Rattle.sheet_records.specs.Sheet.{block_line}
-use Rattle.sheet_lines.proofs.Lines.{block_next, blocks_all}
-use borrow.Author.Rules.{rules}
 use Rattle.sheet_lines.proofs.put_blocks.Given as goal
 
 abbrev pub invariant-loop-b : goal.invariant-loop-b

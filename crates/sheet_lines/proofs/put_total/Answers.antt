@@ -1,6 +1,5 @@
 -- `sheet_lines::put_total` puts the sums that counting gives; so few records are never too many for it.
 use Rattle.sheet_lines.proofs.Lines.{total_put, not_many}
-use borrow.Author.Rules.{rules}
 use Rattle.sheet_lines.proofs.put_total.Goals as goal
 
 pub returns-in-Totals : goal.returns-in-Totals

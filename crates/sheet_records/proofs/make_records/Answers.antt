@@ -1,7 +1,6 @@
 -- `sheet_records::make_records` fills the array from the front. The loop's invariant is `InRecords`; the measure is how many blocks are
 -- left.
-use Prim.Native.Nat.{◌-◌}
-use Rattle.sheet_records.proofs.Making.{InRecords, records_start, section_below, records_next, records_all}
+use Rattle.sheet_records.proofs.Making.{records_start, section_below, records_next, records_all}
 use borrow.Author.Rules.{rules}
 use Rattle.sheet_records.proofs.make_records.Goals as goal
 

@@ -1,10 +1,7 @@
 -- `step_limits::keep_step` meets its contract: what is kept within the bound is enough, or else the bound is the greatest in the next turn,
 -- and nothing is left out. The loop's invariant: the bound is below the cost of no path. The measure is what the bound leaves out below it.
-use mathlib.Core.Path.{◌≡◌, sym, ◌∙◌}
-use Prim.Native.Nat.{◌-◌, ◌<◌}
-use lib.ListN.{length, take}
-use Rattle.trellis.specs.Bounds.{most_paths}
-use Rattle.paths.specs.Chain.{unreached}
+use mathlib.Core.Path.{sym, ◌∙◌}
+use lib.ListN.{take}
 use Rattle.one_step.proofs.Limits.{unlimited, stepped_enough, bound_less}
 use borrow.Author.Rules.{rules}
 use Rattle.step_limits.proofs.keep_step.Goals as goal

@@ -1,11 +1,9 @@
 -- `steps::keep_section` meets its contract. The loop's invariant: what is kept at depth t, and the steps that are left, give what is kept
 -- in the end, and the limit is below the cost of no path. The measure is what is left of the steps.
 use mathlib.Core.Path.{refl}
-use Prim.Native.Nat.{◌-◌, ◌<◌}
-use Rattle.paths.specs.Chain.{unreached}
 use Rattle.whole_section.proofs.Places.{counts_near, count_near, count_in, step_at, twice_near, pairs_near, symbols_near, next_near}
 use Rattle.whole_section.proofs.Places.{next_less}
-use Rattle.steps.proofs.Depths.{Deep, deep_start, deep_room, deep_each, deep_next, deep_all}
+use Rattle.steps.proofs.Depths.{deep_start, deep_room, deep_each, deep_next, deep_all}
 use borrow.Author.Rules.{rules, Fits-under}
 use Rattle.steps.proofs.keep_section.Goals as goal
 

@@ -2,7 +2,7 @@
 -- measure is t.
 use borrow.Author.Rules.{rules}
 use Rattle.section_file.proofs.Seen.{header}
-use Rattle.sweep.proofs.Sweeping.{InSweep, sweep_start, sweep_fits, sweep_asked, sweep_more, sweep_end}
+use Rattle.sweep.proofs.Sweeping.{sweep_start, sweep_fits, sweep_asked, sweep_more, sweep_end}
 use Rattle.sweep.proofs.sweep.Goals as goal
 
 pub loop-t-init : goal.loop-t-init

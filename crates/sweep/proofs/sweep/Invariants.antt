@@ -1,8 +1,6 @@
 -- `sweep::sweep` makes the rows from the last depth to the first. The loop's invariant: the row of depth t holds the least costs. The
 -- measure is t.
-use borrow.Author.Rules.{rules}
-use Rattle.section_file.proofs.Seen.{header}
-use Rattle.sweep.proofs.Sweeping.{InSweep, sweep_start, sweep_fits, sweep_asked, sweep_more, sweep_end}
+use Rattle.sweep.proofs.Sweeping.{InSweep}
 use Rattle.sweep.proofs.sweep.Given as goal
 
 abbrev pub invariant-loop-t : goal.invariant-loop-t

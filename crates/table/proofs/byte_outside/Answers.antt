@@ -1,6 +1,5 @@
 -- `table::byte_outside` meets its contract: widening keeps the byte, so the test is that of the byte in the file.
 use mathlib.Core.Path.{◌∙◌}
-use borrow.Author.Rules.{rules}
 use Rattle.table.proofs.byte_outside.Goals as goal
 
 pub returns : goal.returns

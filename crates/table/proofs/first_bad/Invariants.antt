@@ -1,12 +1,9 @@
 -- `table::first_bad` meets its contract. The loop's invariant: no word passed is bad. A word that is bad is then the first, and where the
 -- loop ends there is none.
-use mathlib.Core.Path.{◌≡◌, sym, ◌∙◌}
 use Prim.Native.Nat.{◌-◌}
-use borrow.Author.Rules.{rules}
 use Rattle.fields.specs.Fields.{word_count}
 use Rattle.table.specs.File.{word_bad}
-use Rattle.table.proofs.Search.{Clear, clear_start, clear_next, clear_found, clear_all}
-use Rattle.table.proofs.Checks.{word_bad_is}
+use Rattle.table.proofs.Search.{Clear}
 use Rattle.table.proofs.first_bad.Given as goal
 
 abbrev pub invariant-loop-i : goal.invariant-loop-i

@@ -1,6 +1,5 @@
 -- `table::is_before` meets its contract: the code compares root, label and goal in the order of the definition, and labels compare as
 -- numbers.
-use borrow.Author.Rules.{rules}
 use Rattle.table.proofs.Order.{first_below, first_above, second_below, second_above, by_third}
 use Rattle.table.proofs.is_before.Goals as goal
 

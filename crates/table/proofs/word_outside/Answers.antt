@@ -1,6 +1,5 @@
 -- `table::word_outside` meets its contract: root, goal and label are tested in the definition's order.
 use Rattle.table.proofs.Checks.{bad_root, bad_goal, by_label}
-use borrow.Author.Rules.{rules}
 use Rattle.table.proofs.word_outside.Goals as goal
 
 pub returns-then-w-states : goal.returns-then-w-states

@@ -2,7 +2,6 @@
 use mathlib.Core.Path.{refl}
 use native.Mathlib.Omega.{arith}
 use Rattle.takers.proofs.Scanning.{arc_from, arc_symbol, arc_is}
-use borrow.Author.Rules.{rules}
 use Rattle.takers.proofs.arc_at.Goals as goal
 
 pub overflow_mul-result : goal.overflow_mul-result

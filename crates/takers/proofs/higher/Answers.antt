@@ -1,5 +1,4 @@
 -- `takers::higher` gives the raised number: each branch is one case of the definition.
-use borrow.Author.Rules.{rules}
 use borrow.Author.Tests.{le-leb, lt-leb}
 use Rattle.takers.proofs.higher.Goals as goal
 

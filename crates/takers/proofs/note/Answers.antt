@@ -1,6 +1,5 @@
 -- `takers::note` writes one number or none: each branch is one case of the piece.
 use mathlib.Core.Path.{refl}
-use borrow.Author.Rules.{rules}
 use Rattle.trellis.proofs.Write.{wrote_none}
 use Rattle.takers.proofs.note.Goals as goal
 

@@ -1,9 +1,6 @@
 -- `takers::take_edges` takes one step after another: the loop keeps the first words of the steps so far.
-use mathlib.Core.Path.{refl}
 use Prim.Native.Nat.{◌-◌}
-use native.Mathlib.Omega.{arith}
-use borrow.Author.Rules.{rules}
-use Rattle.takers.proofs.Steps.{InSteps, steps_none, step_rows, step_room, row_next, step_from, step_few, steps_more, steps_end}
+use Rattle.takers.proofs.Steps.{InSteps}
 use Rattle.takers.proofs.take_edges.Given as goal
 
 abbrev pub invariant-loop-t : goal.invariant-loop-t

@@ -1,11 +1,9 @@
 -- `takers::take_step` writes the words that lead higher than all before them. The loop keeps the words noted so far, and for each key one
 -- more than the highest vertex.
-use mathlib.Core.Path.{refl}
 use Prim.Native.Nat.{◌-◌}
 use lib.ListN.{length}
-use borrow.Author.Rules.{rules}
 use Rattle.takers.specs.Inner.Takers.{row_edge}
-use Rattle.takers.proofs.Scanning.{InTakers, takers_none, takers_more, takers_end}
+use Rattle.takers.proofs.Scanning.{InTakers}
 use Rattle.takers.proofs.take_step.Given as goal
 
 abbrev pub invariant-loop-i : goal.invariant-loop-i

@@ -1,6 +1,5 @@
 -- `text::put_byte` stores the byte where there is room, and leaves the text as it is where there is none.
 use Rattle.text.proofs.Putting.{put_one, put_full}
-use borrow.Author.Rules.{rules}
 use Rattle.text.proofs.put_byte.Goals as goal
 
 pub returns-then-at-text : goal.returns-then-at-text

@@ -1,8 +1,5 @@
 -- `text::put_bytes` puts its bytes one by one. The loop's invariant: those passed are put. The measure is how many are left.
-use Prim.Native.Nat.{◌-◌}
-use lib.ListN.{length}
-use Rattle.text.proofs.Putting.{Pieces, single, pieces_start, pieces_next, bytes_all}
-use borrow.Author.Rules.{rules}
+use Rattle.text.proofs.Putting.{pieces_start, pieces_next, bytes_all}
 use Rattle.text.proofs.put_bytes.Goals as goal
 
 pub loop-i-init : goal.loop-i-init

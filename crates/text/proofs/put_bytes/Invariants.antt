@@ -1,8 +1,7 @@
 -- `text::put_bytes` puts its bytes one by one. The loop's invariant: those passed are put. The measure is how many are left.
 use Prim.Native.Nat.{◌-◌}
 use lib.ListN.{length}
-use Rattle.text.proofs.Putting.{Pieces, single, pieces_start, pieces_next, bytes_all}
-use borrow.Author.Rules.{rules}
+use Rattle.text.proofs.Putting.{Pieces, single}
 use Rattle.text.proofs.put_bytes.Given as goal
 
 abbrev pub invariant-loop-i : goal.invariant-loop-i

@@ -1,11 +1,6 @@
 -- `text::put_line` puts the word, then the numbers one by one, then the newline byte. The loop's invariant: the word and the numbers passed
 -- are put. The measure is how many numbers are left.
-use mathlib.Core.Path.{◌∙◌}
-use Prim.Native.Nat.{◌-◌}
-use lib.ListN.{length}
-use Rattle.text.specs.Line.{spaced}
-use Rattle.text.proofs.Putting.{Pieces, pieces_start, pieces_next, line_put}
-use borrow.Author.Rules.{rules}
+use Rattle.text.proofs.Putting.{pieces_start, pieces_next, line_put}
 use Rattle.text.proofs.put_line.Goals as goal
 
 pub loop-i-init : goal.loop-i-init

@@ -1,6 +1,5 @@
 -- `text::put_number` puts a space and, behind it, the digits that `spell` left at the end of twenty bytes.
 use Rattle.text.proofs.Spelling.{number_put}
-use borrow.Author.Rules.{rules}
 use Rattle.text.proofs.put_number.Goals as goal
 
 pub returns : goal.returns

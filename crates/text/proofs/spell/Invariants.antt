@@ -1,8 +1,6 @@
 -- `text::spell` finds the digits from the last one on. The loop's invariant: the digits of the number are those of what is left of it and
 -- those behind. The measure is the place.
-use native.Mathlib.Omega.{arith}
-use Rattle.text.proofs.Spelling.{Left, left_all, left_room, left_next, left_none}
-use borrow.Author.Rules.{rules}
+use Rattle.text.proofs.Spelling.{Left}
 use Rattle.text.proofs.spell.Given as goal
 
 abbrev pub invariant-loop-rest : goal.invariant-loop-rest

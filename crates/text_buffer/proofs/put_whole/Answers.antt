@@ -1,6 +1,5 @@
 -- `text_buffer::put_whole` copies the text where it fits, and else leaves the buffer as it was.
 use Rattle.text_buffer.proofs.Buffer.{whole_short, whole_put}
-use borrow.Author.Rules.{rules}
 use Rattle.text_buffer.proofs.put_whole.Goals as goal
 
 pub returns-then-text-length : goal.returns-then-text-length

@@ -1,6 +1,5 @@
 -- `totals::paid` meets its contract: nothing is paid where the cost is below what is left, or else the difference.
 use Rattle.totals.proofs.Costs.{paid_none, paid_some}
-use borrow.Author.Rules.{rules}
 use Rattle.totals.proofs.paid.Goals as goal
 
 pub returns-then-cost-ahead : goal.returns-then-cost-ahead

@@ -1,6 +1,5 @@
 -- `totals::total` meets its contract, by what its calls ensure: three numbers of 32 bits have a sum of 64 bits.
 use Rattle.totals.proofs.Costs.{total_is}
-use borrow.Author.Rules.{rules}
 use Rattle.totals.proofs.total.Goals as goal
 
 pub returns : goal.returns

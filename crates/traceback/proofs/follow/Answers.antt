@@ -1,8 +1,7 @@
 -- `traceback::follow` goes from block to block by the notes. The loop's invariant: whatever chain the notes are of, the words written are
 -- the beginning of its path, and what is left of the path starts in this state. The measure is how many blocks are left.
 use borrow.Author.Rules.{rules}
-use Prim.Native.Nat.{◌-◌}
-use Rattle.passes.proofs.Chains.{InFollow, follow_start, here, follow_more, follow_end}
+use Rattle.passes.proofs.Chains.{follow_start, here, follow_more, follow_end}
 use Rattle.traceback.proofs.follow.Goals as goal
 
 pub loop-b-init : goal.loop-b-init

@@ -1,8 +1,7 @@
 -- `traceback::follow` goes from block to block by the notes. The loop's invariant: whatever chain the notes are of, the words written are
 -- the beginning of its path, and what is left of the path starts in this state. The measure is how many blocks are left.
-use borrow.Author.Rules.{rules}
 use Prim.Native.Nat.{◌-◌}
-use Rattle.passes.proofs.Chains.{InFollow, follow_start, here, follow_more, follow_end}
+use Rattle.passes.proofs.Chains.{InFollow}
 use Rattle.traceback.proofs.follow.Given as goal
 
 abbrev pub invariant-loop-b : goal.invariant-loop-b

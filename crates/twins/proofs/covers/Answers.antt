@@ -1,9 +1,5 @@
 -- `twins::covers` meets its contract. The loop's invariant: all vertices passed are met. The measure is what is left of them.
-use Prim.Native.Nat.{◌-◌}
-use lib.Dec.{eqb}
-use Rattle.trellis.specs.Lists.{any}
-use Rattle.twins.specs.Inner.Twins.{turned_in}
-use Rattle.edges.proofs.Tests.{Passed, passed_start}
+use Rattle.edges.proofs.Tests.{passed_start}
 use Rattle.twins.proofs.Marking.{covered_fails, covered_next, covered_all}
 use borrow.Author.Rules.{rules}
 use Rattle.twins.proofs.covers.Goals as goal

@@ -3,9 +3,7 @@ use Prim.Native.Nat.{◌-◌}
 use lib.Dec.{eqb}
 use Rattle.trellis.specs.Lists.{any}
 use Rattle.twins.specs.Inner.Twins.{turned_in}
-use Rattle.edges.proofs.Tests.{Passed, passed_start}
-use Rattle.twins.proofs.Marking.{covered_fails, covered_next, covered_all}
-use borrow.Author.Rules.{rules}
+use Rattle.edges.proofs.Tests.{Passed}
 use Rattle.twins.proofs.covers.Given as goal
 
 abbrev pub invariant-loop-v : goal.invariant-loop-v

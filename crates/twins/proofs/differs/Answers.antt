@@ -1,6 +1,5 @@
 -- `twins::differs` meets its contract, by the two tests of the definition.
 use borrow.Author.Tests.{eq-eqb, ne_eqb}
-use borrow.Author.Rules.{rules}
 use Rattle.twins.proofs.differs.Goals as goal
 
 pub returns-then-seen-eq0 : goal.returns-then-seen-eq0

@@ -2,10 +2,8 @@
 -- The measure is what is left of the edges.
 use mathlib.Core.Path.{refl, ap}
 use native.Mathlib.Omega.{arith}
-use Prim.Native.Nat.{◌-◌}
-use Rattle.twins.specs.Inner.Twins.{turned_in}
 use Rattle.edges.specs.declared.Edge.{Edge}
-use Rattle.twins.proofs.Marking.{Marking, small_of, marking_start, marking_next, marking_all}
+use Rattle.twins.proofs.Marking.{small_of, marking_start, marking_next, marking_all}
 use borrow.Author.Rules.{rules}
 use Rattle.twins.proofs.marks.Goals as goal
 

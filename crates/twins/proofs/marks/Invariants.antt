@@ -1,12 +1,8 @@
 -- `twins::marks` meets its contract. The loop's invariant: just the vertices passed are marked.
 -- The measure is what is left of the edges.
-use mathlib.Core.Path.{refl, ap}
-use native.Mathlib.Omega.{arith}
 use Prim.Native.Nat.{◌-◌}
 use Rattle.twins.specs.Inner.Twins.{turned_in}
-use Rattle.edges.specs.declared.Edge.{Edge}
-use Rattle.twins.proofs.Marking.{Marking, small_of, marking_start, marking_next, marking_all}
-use borrow.Author.Rules.{rules}
+use Rattle.twins.proofs.Marking.{Marking}
 use Rattle.twins.proofs.marks.Given as goal
 
 abbrev pub invariant-loop-k : goal.invariant-loop-k

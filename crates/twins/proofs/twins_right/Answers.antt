@@ -1,6 +1,5 @@
 -- `twins::twins_right` meets its contract: where the depth is not an inner one, nothing is asked.
 use Rattle.edges.proofs.Tests.{if_so}
-use borrow.Author.Rules.{rules}
 use mathlib.Core.Path.{ap}
 use mathlib.Core.Bool.{not}
 use Rattle.twins.proofs.twins_right.Goals as goal

@@ -1,13 +1,8 @@
 -- `twins::without_twins` meets its contract. The loop's invariant: no two edges passed make twins, and for each vertex and
 -- symbol that they have the array has their one vertex at the other end. The measure is what is left of them.
-use mathlib.Core.Path.{refl, ap}
-use native.Mathlib.Omega.{arith}
-use Prim.Native.Nat.{◌+◌, ◌-◌, ◌*◌, ◌<◌}
-use Rattle.trellis.specs.Bounds.{most_q, most_words}
+use Prim.Native.Nat.{◌-◌}
 use Rattle.twins.specs.Inner.Twins.{turned_in}
-use Rattle.edges.specs.declared.Edge.{Edge}
-use Rattle.twins.proofs.Marking.{Apart, Small, small_of, apart_start, slot_small, twins_found, twins_not, twins_none}
-use borrow.Author.Rules.{rules}
+use Rattle.twins.proofs.Marking.{Apart}
 use Rattle.twins.proofs.without_twins.Given as goal
 
 abbrev pub invariant-loop-k : goal.invariant-loop-k

@@ -4,7 +4,6 @@ use Rattle.usable.specs.Inner.Steps.{edges_right}
 use Rattle.edges.specs.Inner.Edges.{EdgesSmall}
 use Rattle.edges.proofs.Tests.{and_fails, and_rest}
 use Rattle.usable.proofs.Steps.{small_edges}
-use borrow.Author.Rules.{rules}
 use mathlib.Core.Path.{ap}
 use mathlib.Core.Bool.{not}
 use Rattle.usable.proofs.edges_right.Goals as goal

@@ -5,7 +5,6 @@ use Rattle.trellis.specs.Bounds.{most_symbols}
 use Rattle.trellis.specs.Layout.{n_of}
 use Rattle.section_file.specs.Inner.View.{Laid}
 use Rattle.usable.proofs.Steps.{n_few, laid, part_sizes, part_counts, part_cut, part_states, part_steps, part_usable}
-use borrow.Author.Rules.{rules}
 use mathlib.Core.Path.{ap}
 use mathlib.Core.Bool.{not}
 use Rattle.usable.proofs.front_part.Goals as goal

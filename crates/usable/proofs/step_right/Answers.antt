@@ -5,7 +5,6 @@ use native.Mathlib.Nat.{le_of_lt}
 use native.Mathlib.Omega.{arith}
 use Rattle.section_file.proofs.Seen.{Near, near_of, before_in}
 use Rattle.usable.proofs.Steps.{StepRead, step_read, step_there, step_is}
-use borrow.Author.Rules.{rules}
 use Rattle.usable.proofs.step_right.Goals as goal
 
 pub overflow_add-n : goal.overflow_add-n

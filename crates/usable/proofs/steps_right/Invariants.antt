@@ -1,12 +1,7 @@
 -- `usable::steps_right` meets its contract. The loop's invariant: all steps passed are right, and their edges are counted.
 -- The measure is what is left.
 use Prim.Native.Nat.{◌-◌}
-use native.Mathlib.Nat.{le_of_lt}
-use native.Mathlib.Omega.{arith}
-use Rattle.edges.proofs.Tests.{passed_fails, passed_all}
-use Rattle.section_file.proofs.Seen.{near_of, before_in}
-use Rattle.usable.proofs.Steps.{InSteps, steps_start, steps_next}
-use borrow.Author.Rules.{rules}
+use Rattle.usable.proofs.Steps.{InSteps}
 use Rattle.usable.proofs.steps_right.Given as goal
 
 abbrev pub invariant-loop-t : goal.invariant-loop-t

@@ -1,7 +1,6 @@
 -- `usable::usable_at` meets its contract: past the end of the slice there is no section, and else the section is at the front of
 -- what is left of the list.
 use Rattle.usable.proofs.Steps.{part_past, part_from}
-use borrow.Author.Rules.{rules}
 use Rattle.usable.proofs.usable_at.Goals as goal
 
 pub returns-then-s-at : goal.returns-then-s-at

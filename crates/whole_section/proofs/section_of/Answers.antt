@@ -1,7 +1,6 @@
 -- `whole_section::section_of` meets its contract, by what `usable_at` answers and where the section ends.
 use mathlib.Core.Path.{sym, ◌∙◌}
 use Rattle.whole_section.proofs.Sections.{whole_usable, whole_longer, whole_unusable}
-use borrow.Author.Rules.{rules}
 use Rattle.whole_section.proofs.section_of.Goals as goal
 
 pub returns-then-at-s : goal.returns-then-at-s

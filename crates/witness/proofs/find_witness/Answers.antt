@@ -3,7 +3,7 @@
 use native.Mathlib.Omega.{arith}
 use borrow.Author.Rules.{rules}
 use Rattle.depths.proofs.Goals.{goal_row}
-use Rattle.witness.proofs.Words.{InRows, rows_none, rows_small, rows_more, rows_are, rows_witness}
+use Rattle.witness.proofs.Words.{rows_none, rows_small, rows_more, rows_are, rows_witness}
 use Rattle.witness.proofs.find_witness.Goals as goal
 
 pub loop-u-init : goal.loop-u-init

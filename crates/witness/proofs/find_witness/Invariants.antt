@@ -1,9 +1,6 @@
 -- `witness::find_witness` meets its contract. The loop keeps that the row tells the endings at depth u apart; at depth t the rows' first
 -- triple is the witness.
-use native.Mathlib.Omega.{arith}
-use borrow.Author.Rules.{rules}
-use Rattle.depths.proofs.Goals.{goal_row}
-use Rattle.witness.proofs.Words.{InRows, rows_none, rows_small, rows_more, rows_are, rows_witness}
+use Rattle.witness.proofs.Words.{InRows}
 use Rattle.witness.proofs.find_witness.Given as goal
 
 abbrev pub invariant-loop-u : goal.invariant-loop-u

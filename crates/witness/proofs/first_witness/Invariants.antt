@@ -1,12 +1,8 @@
 -- `witness::first_witness` meets its contract. Both loops keep that no triple before the present one refutes the table.
-use mathlib.Core.Path.{sym, ◌∙◌}
 use Prim.Native.Nat.{◌-◌}
-use native.Mathlib.Omega.{arith}
-use borrow.Author.Rules.{rules}
 use Rattle.lacking.specs.Inner.Search.{NoneBefore}
 use Rattle.lacking.specs.Inner.Rows.{refutes_in}
-use Rattle.lacking.proofs.Search.{before_none, none_left}
-use Rattle.lacking.proofs.Passing.{InTries, tries_none, tries_lt, tries_asked, tries_more, tries_hit, tries_end}
+use Rattle.lacking.proofs.Passing.{InTries}
 use Rattle.witness.proofs.first_witness.Given as goal
 
 abbrev pub invariant-loop-next : goal.invariant-loop-next

@@ -1,6 +1,5 @@
 -- `witness::to_try` meets its contract, by its two ways out.
 use mathlib.Core.Path.{◌∙◌}
-use borrow.Author.Rules.{rules}
 use Rattle.lacking.proofs.Passing.{try_first, try_run}
 use Rattle.witness.proofs.to_try.Goals as goal
 

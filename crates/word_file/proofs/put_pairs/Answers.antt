@@ -1,9 +1,7 @@
 -- `word_file::put_pairs` meets its contract. The loop's invariant: the pairs passed are written. The measure is what is left of them.
 use native.Mathlib.Omega.{arith}
-use Prim.Native.Nat.{◌-◌}
 use lib.ListN.{length-set}
-use Rattle.word_file.specs.Inner.Written.{pair_of_code}
-use Rattle.word_file.proofs.Writing.{Pieces, pieces_start, pair_is, pieces_next, pieces_all}
+use Rattle.word_file.proofs.Writing.{pieces_start, pair_is, pieces_next, pieces_all}
 use borrow.Author.Rules.{rules}
 use Rattle.word_file.proofs.put_pairs.Goals as goal
 

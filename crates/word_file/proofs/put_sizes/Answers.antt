@@ -2,7 +2,6 @@
 use native.Mathlib.Omega.{arith}
 use lib.ListN.{length-set}
 use Rattle.word_file.proofs.Writing.{sizes_put}
-use borrow.Author.Rules.{rules}
 use Rattle.word_file.proofs.put_sizes.Goals as goal
 
 pub bounds-file-1 : goal.bounds-file-1

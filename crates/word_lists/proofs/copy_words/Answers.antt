@@ -1,9 +1,8 @@
 -- `word_lists::copy_words` copies one word after another: the loop keeps those that are copied so far.
 use mathlib.Core.Path.{ap}
-use Prim.Native.Nat.{◌-◌}
 use borrow.Author.Rules.{rules}
 use Rattle.fields.specs.declared.Word.{Word}
-use Rattle.word_lists.proofs.Copying.{InCopy, copy_none, copy_more, copy_end}
+use Rattle.word_lists.proofs.Copying.{copy_none, copy_more, copy_end}
 use Rattle.word_lists.proofs.copy_words.Goals as goal
 
 pub loop-i-init : goal.loop-i-init

@@ -2,7 +2,6 @@
 use mathlib.Core.Path.{ap}
 use Rattle.answers.specs.Answers.{decoded_outcome}
 use Rattle.outcomes.proofs.Held.{holds_by}
-use borrow.Author.Rules.{rules}
 use Rattle.answers.proofs.decode.outcome.Goals as goal
 
 pub returns-in-Distance : goal.returns-in-Distance

@@ -2,7 +2,6 @@
 use mathlib.Core.Path.{ap}
 use Rattle.answers.specs.Answers.{decoded_list_outcome}
 use Rattle.outcomes.proofs.Held.{holds_by}
-use borrow.Author.Rules.{rules}
 use Rattle.answers.proofs.decode_list.outcome.Goals as goal
 
 pub returns-in-Paths : goal.returns-in-Paths

@@ -2,7 +2,6 @@
 use mathlib.Core.Path.{ap}
 use Rattle.answers.specs.Answers.{merged_outcome}
 use Rattle.outcomes.proofs.Held.{holds_by}
-use borrow.Author.Rules.{rules}
 use Rattle.answers.proofs.merge.outcome.Goals as goal
 
 pub returns-in-Section : goal.returns-in-Section

@@ -1,6 +1,5 @@
 -- `answers::merge_rows::outcome` has each case of the answer as its outcome.
 use mathlib.Core.Path.{ap}
-use borrow.Author.Rules.{rules}
 use Rattle.outcomes.proofs.Held.{holds_by}
 use Rattle.answers.specs.Answers.{merged_rows_outcome}
 use Rattle.answers.proofs.merge_rows.outcome.Goals as goal

@@ -2,7 +2,6 @@
 use mathlib.Core.Path.{ap}
 use Rattle.answers.specs.Answers.{read_back_outcome}
 use Rattle.outcomes.proofs.Held.{holds_by}
-use borrow.Author.Rules.{rules}
 use Rattle.answers.proofs.read_back.outcome.Goals as goal
 
 pub returns-in-File : goal.returns-in-File

@@ -2,7 +2,6 @@
 use mathlib.Core.Path.{ap}
 use Rattle.answers.specs.Answers.{same_section_outcome}
 use Rattle.outcomes.proofs.Held.{holds_by}
-use borrow.Author.Rules.{rules}
 use Rattle.answers.proofs.same_section.outcome.Goals as goal
 
 pub returns-in-Same : goal.returns-in-Same

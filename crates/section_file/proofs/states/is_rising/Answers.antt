@@ -1,9 +1,7 @@
 -- `section_file::states::is_rising` meets its contract. The loop's invariant: all states passed are below the bound and ascend.
 -- The measure is what is left of them.
-use Prim.Native.Nat.{◌-◌}
-use lib.ListN.{get_or}
 use Rattle.section_file.specs.Inner.Steps.{state_right}
-use Rattle.edges.proofs.Tests.{Passed, passed_start, passed_next, passed_fails, passed_all}
+use Rattle.edges.proofs.Tests.{passed_start, passed_next, passed_fails, passed_all}
 use borrow.Author.Rules.{rules}
 use mathlib.Core.Path.{ap}
 use mathlib.Core.Bool.{not}

@@ -3,8 +3,7 @@
 use Prim.Native.Nat.{◌-◌}
 use lib.ListN.{get_or}
 use Rattle.section_file.specs.Inner.Steps.{state_right}
-use Rattle.edges.proofs.Tests.{Passed, passed_start, passed_next, passed_fails, passed_all}
-use borrow.Author.Rules.{rules}
+use Rattle.edges.proofs.Tests.{Passed}
 use Rattle.section_file.proofs.states.is_rising.Given as goal
 
 abbrev pub invariant-loop-v : goal.invariant-loop-v

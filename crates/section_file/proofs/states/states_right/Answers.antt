@@ -2,7 +2,6 @@
 use native.Mathlib.Omega.{arith}
 use Rattle.section_file.proofs.Seen.{near_of}
 use Rattle.section_file.proofs.Reading.{roots_there, roots_wrong, goals_there, states_by_goals}
-use borrow.Author.Rules.{rules}
 use mathlib.Core.Path.{ap}
 use mathlib.Core.Bool.{not}
 use Rattle.section_file.proofs.states.states_right.Goals as goal
