@@ -7,7 +7,7 @@ use Rattle.trellis.specs.Lists.{each}
 use Rattle.trellis.specs.Outcome.{Outcome}
 use Rattle.trellis.specs.Selections.{selections}
 use Rattle.trellis.specs.Layout.{n_of, vertex_count_of, edge_count_of, section_words}
-use Rattle.trellis.specs.Bounds.{costs_aBlock}
+use Rattle.trellis.specs.Bounds.{costs_a_block}
 use Rattle.merging.specs.Merging.{Merging, merging}
 use Rattle.read_back.specs.ReadingBack.{ReadingBack, reading_back}
 use Rattle.merging_rows.specs.MergingRows.{MergingRows, merging_rows}
@@ -70,7 +70,7 @@ left (merge_rows s n rows file_places map_places section_places) =
 left (read_back c places) = left_by_reading (reading_back (left c).section (nines places))
 left (decode c received erased) =
     let blocks = length received in
-    left_by_decoding (decoding (frame (left c).section 1 (replicate blocks 0) received erased 0 0) (nines (costs_aBlock * blocks))
+    left_by_decoding (decoding (frame (left c).section 1 (replicate blocks 0) received erased 0 0) (nines (costs_a_block * blocks))
     (nines blocks) (nines blocks) (nines blocks))
 
 -- what of a call the paper names: the outcome's number and values; all of a buffer; and by the counts that stand in the section, the
@@ -183,7 +183,7 @@ tie = decode crossed_merged (0 ∷ 1 ∷ []) (0 ∷ 0 ∷ [])
 
 -- the places of the states other than 0 in the cost table: no path starts there
 abbrev elsewhere : List ℕ
-elsewhere = replicate (costs_aBlock - 1) 4294967295
+elsewhere = replicate (costs_a_block - 1) 4294967295
 
 abbrev pub cases : List Marked
 cases =

@@ -9,7 +9,8 @@ ghost use Rattle.answers.specs.Answers.{decoded_outcome};
 ghost use Rattle.frame.specs.Frame.{frame};
 ghost use Rattle.decoding.specs.Decoding.{left, decoding};
 
-use answers::decode::Decoded;
+pub use answers::decode::{Decoded, outcome};
+pub use frame::{first_bad, frame_bad};
 use frame_decoding::decode_frame;
 
 // Decodes one frame over the K sections that lie one behind another in `sections`: the first path of least distance from state `start`

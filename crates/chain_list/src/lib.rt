@@ -10,7 +10,7 @@ ghost use Rattle.sections.specs.Inner.Found.{AllFound};
 ghost use Rattle.frame.specs.Frame.{frame};
 ghost use Rattle.path_list.specs.Listing.{left, framed, listing};
 
-use answers::decode_list::DecodedList;
+pub use answers::decode_list::{DecodedList, outcome};
 use frame::{first_bad, frame_bad};
 use list_room::list_blocks;
 use section_file::View;

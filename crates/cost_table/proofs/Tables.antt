@@ -7,7 +7,7 @@ use Prim.Native.Nat.{ℕ, suc, ◌-◌, ◌*◌, ◌≤◌, ◌<◌}
 use native.Mathlib.Decide.{dec_lt}
 use native.Mathlib.Omega.{arith}
 use lib.ListN.{length, get_or, take, drop, replicate, length-replicate, get_or-replicate, get_or-eq_default}
-use Rattle.trellis.specs.Bounds.{most_states, most_words, most_sections, costs_aBlock}
+use Rattle.trellis.specs.Bounds.{most_states, most_words, most_sections, costs_a_block}
 use Rattle.trellis.specs.Layout.{n_of, vertex_count_of, root_state}
 use Rattle.trellis.specs.Comparing.{symbol_cost, distance_by}
 use Rattle.trellis.proofs.Lists.{rest_of}
@@ -27,7 +27,7 @@ pub record InFill (H : HeldBlocks) (ends old notes left prices even odd : List �
   pub b_le : b ≤ length H.indices
   pub long : length notes ≡ length old
   pub working : Working left prices even odd
-  pub kept : (i : ℕ) → costs_aBlock * length H.indices ≤ i → get_or notes i 0 ≡ get_or old i 0
+  pub kept : (i : ℕ) → costs_a_block * length H.indices ≤ i → get_or notes i 0 ≡ get_or old i 0
   pub unrooted : Unrooted H b notes
   pub left_is : (C : Chain) → ChainOf H C → EndsAs C ends → LeftAt C b left
   pub noted : (C : Chain) → ChainOf H C → EndsAs C ends → NotesFrom C b notes
@@ -92,7 +92,7 @@ block_at {H} {b} {i} R h e =
 module _ {H : HeldBlocks} {ends old mid notes left new_left prices new_prices even new_even odd new_odd row l : List ℕ} {b : ℕ}
     (I : InFill H ends old mid left prices even odd b) (h : 0 < b) (p : l ≡ block_part H (b - 1))
     (F : BlockFilled l (get_or H.received (b - 1) 0) (get_or H.erased (b - 1) 0) left new_left row)
-    (W : Working new_left new_prices new_even new_odd) (P : RowWritten (costs_aBlock * (b - 1)) row mid notes) where
+    (W : Working new_left new_prices new_even new_odd) (P : RowWritten (costs_a_block * (b - 1)) row mid notes) where
   B : BlockFilled (block_part H (b - 1)) (get_or H.received (b - 1) 0) (get_or H.erased (b - 1) 0) left new_left row
   B = subst (λ x. BlockFilled x (get_or H.received (b - 1) 0) (get_or H.erased (b - 1) 0) left new_left row) p F
 

@@ -4,7 +4,7 @@
 #![tactic(auto)]
 
 ghost use Rattle.std.specs.Prelude.{◌≡◌, ◌*◌, ◌<◌, ◌≤◌, length};
-ghost use Rattle.trellis.specs.Bounds.{most_states, costs_aBlock};
+ghost use Rattle.trellis.specs.Bounds.{most_states, costs_a_block};
 ghost use Rattle.section_file.specs.Inner.View.{Seen};
 ghost use Rattle.cost_table.specs.Inner.Filled.{EndRow, Working, BlockFilled, held_blocks, Ready, Filled};
 
@@ -58,7 +58,7 @@ pub fn fill(
     costs: &mut [u32],
 ) -> [u32; COSTS_A_BLOCK]
     requires { Ready (held_blocks sections.now starts.now views indices.now received.now erased.now)
-        × (length ends ≡ most_states) × (costs_aBlock * length indices.now ≤ length costs.old) }
+        × (length ends ≡ most_states) × (costs_a_block * length indices.now ≤ length costs.old) }
     ensures { Filled (held_blocks sections.now starts.now views indices.now received.now
         erased.now) ends result costs.old costs.new }
 {

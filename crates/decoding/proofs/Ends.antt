@@ -9,7 +9,7 @@ use native.Mathlib.Nat.{sub-zero}
 use native.Mathlib.Decide.{dec_lt}
 use native.Mathlib.Omega.{arith}
 use lib.ListN.{length, get_or, drop, get_or-eq_default, length-drop}
-use Rattle.trellis.specs.Bounds.{most_symbols, costs_aBlock}
+use Rattle.trellis.specs.Bounds.{most_symbols, costs_a_block}
 use Rattle.trellis.specs.Word.{Word}
 use Rattle.trellis.specs.Comparing.{label_distance}
 use Rattle.trellis.specs.Layout.{n_of, section_words}
@@ -112,7 +112,7 @@ module _ {f : Frame} {starts : List ℕ} {views : List View} (K : FrameChecked f
   pub cheap : Cheap (chain_of f)
   cheap = record { below = λ b h w. omega (arith, distance_to b w) }
 
-  module _ {ends to_pay costs notes : List ℕ} (E : EndRow f.end ends) (L : costs_aBlock * block_count f ≤ length costs)
+  module _ {ends to_pay costs notes : List ℕ} (E : EndRow f.end ends) (L : costs_a_block * block_count f ≤ length costs)
       (F : Filled held_of ends to_pay costs notes) where
     ends_as_lem : EndsAs (chain_of f) ends
     ends_as_lem = record { at = E.at }
@@ -150,16 +150,16 @@ module _ {f : Frame} {starts : List ℕ} {views : List View} (K : FrameChecked f
           over_is (table_of f) costs new (omega (arith, long, L)) (S.long ∙ F.long) at
           (λ i h. S.kept i (omega (arith, long)) ∙ F.kept i (omega (arith, long)))
         where
-          long : length (table_of f) ≡ costs_aBlock * block_count f
-          long = length_run _ 0 (costs_aBlock * block_count f)
+          long : length (table_of f) ≡ costs_a_block * block_count f
+          long = length_run _ 0 (costs_a_block * block_count f)
 
           at : (i : ℕ) → i < length (table_of f) → get_or new i 0 ≡ get_or (table_of f) i 0
           at i h =
               let l = long in
-              let e : costs_aBlock * (i / costs_aBlock) + i % costs_aBlock ≡ i = omega arith in
-              ap (λ j. get_or new j 0) (sym e) ∙ costs_from.at (i / costs_aBlock) (i % costs_aBlock) (omega arith) (omega arith) (omega arith)
-              ∙ least_is (i / costs_aBlock) (i % costs_aBlock)
-              ∙ sym (each_at (λ j. table_from (j / costs_aBlock) (j % costs_aBlock)) (costs_aBlock * block_count f) i 0 (omega arith))
+              let e : costs_a_block * (i / costs_a_block) + i % costs_a_block ≡ i = omega arith in
+              ap (λ j. get_or new j 0) (sym e) ∙ costs_from.at (i / costs_a_block) (i % costs_a_block) (omega arith) (omega arith) (omega arith)
+              ∙ least_is (i / costs_a_block) (i % costs_a_block)
+              ∙ sym (each_at (λ j. table_from (j / costs_a_block) (j % costs_a_block)) (costs_a_block * block_count f) i 0 (omega arith))
 
     -- the mark for no path in the start state
     pub best_none : get_or to_pay f.start 0 ≡ unreached → best_of f ≡ none

@@ -1,7 +1,7 @@
 -- What decoding a chain leaves: document 01's answer and the whole content of the four buffers, from the buffers before the call. The
 -- answer is read off the plain list of all paths in word order: the first of least distance.
 use Rattle.std.specs.Prelude.{cond, List, map, ◌≡◌, ℕ, ◌-◌, ◌*◌, ◌/◌, ◌%◌, ltb, length}
-use Rattle.trellis.specs.Bounds.{costs_aBlock}
+use Rattle.trellis.specs.Bounds.{costs_a_block}
 use Rattle.trellis.specs.Lists.{each, first, over}
 use Rattle.trellis.specs.Comparing.{erasure_cost}
 use Rattle.trellis.specs.Word.{Word, word_at}
@@ -37,8 +37,8 @@ module _ (f : Frame) where
   table_of =
       each
       (λ i.
-      cost_table (block_words f) (ends_in f.end) (word_distance f) (block_count f - i / costs_aBlock) (i / costs_aBlock) (i % costs_aBlock))
-      (costs_aBlock * block_count f)
+      cost_table (block_words f) (ends_in f.end) (word_distance f) (block_count f - i / costs_a_block) (i / costs_a_block) (i % costs_a_block))
+      (costs_a_block * block_count f)
 
   -- block after block, the masks of a path's words
   unfoldable pub masks_of : List Word → List ℕ

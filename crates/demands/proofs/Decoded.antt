@@ -9,7 +9,7 @@ use native.Mathlib.Nat.{zero-add}
 use native.Mathlib.Decide.{dec_lt}
 use native.Mathlib.Omega.{arith}
 use lib.ListN.{length, get_or, length-map, get_or-map}
-use Rattle.trellis.specs.Bounds.{most_states, costs_aBlock}
+use Rattle.trellis.specs.Bounds.{most_states, costs_a_block}
 use Rattle.trellis.specs.Lists.{◌∈◌, sum, first, over}
 use Rattle.trellis.specs.Word.{Word, word, word_at, Before}
 use Rattle.trellis.specs.Comparing.{marked_in, Compared}
@@ -40,17 +40,17 @@ unfolding table_of
 tabled f costs = record { at = at }
   where
     place : ℕ → ℕ
-    place i = least_distance f (i / costs_aBlock) (i % costs_aBlock)
+    place i = least_distance f (i / costs_a_block) (i % costs_a_block)
 
     at : (b s : ℕ) → b < block_count f → s < most_states
-        → get_or (over (table_of f) costs) (costs_aBlock * b + s) 0
+        → get_or (over (table_of f) costs) (costs_a_block * b + s) 0
         ≡ least_distance f b s
     at b s h l =
-        let n = length_run place 0 (costs_aBlock * block_count f) in
-        let e : (costs_aBlock * b + s) / costs_aBlock ≡ b = omega arith in
-        let r : (costs_aBlock * b + s) % costs_aBlock ≡ s = omega arith in
-        over_front (table_of f) costs (costs_aBlock * b + s) (omega arith)
-        ∙ each_at place (costs_aBlock * block_count f) (costs_aBlock * b + s) 0 (omega arith)
+        let n = length_run place 0 (costs_a_block * block_count f) in
+        let e : (costs_a_block * b + s) / costs_a_block ≡ b = omega arith in
+        let r : (costs_a_block * b + s) % costs_a_block ≡ s = omega arith in
+        over_front (table_of f) costs (costs_a_block * b + s) (omega arith)
+        ∙ each_at place (costs_a_block * block_count f) (costs_a_block * b + s) 0 (omega arith)
         ∙ ap₂ (least_distance f) e r
 
 -- the words of a block stand in order, since its section is usable

@@ -1,7 +1,7 @@
 -- What decoding a chain comes to, for all arguments: "The decoder names a path of least distance, the first such in word order, and says
 -- there is none only when there is none." And what becomes of it if an erased symbol costs something.
 use Rattle.std.specs.Prelude.{◌≡◌, ◌↔◌, List, ℕ, suc, ◌+◌, ◌-◌, ◌*◌, ◌<◌, get_or}
-use Rattle.trellis.specs.Bounds.{most_states, costs_aBlock}
+use Rattle.trellis.specs.Bounds.{most_states, costs_a_block}
 use Rattle.trellis.specs.Lists.{◌∈◌, sum}
 use Rattle.trellis.specs.Comparing.{marked_in, Compared}
 use Rattle.trellis.specs.Word.{Word, word_at}
@@ -31,7 +31,7 @@ module _ (f : Frame) where
 
   -- the cost table has a place for each state of each block
   pub record Tabled (costs : List ℕ) : Type 0 where
-    pub at : (b s : ℕ) → b < block_count f → s < most_states → get_or costs (costs_aBlock * b + s) 0 ≡ least_distance b s
+    pub at : (b s : ℕ) → b < block_count f → s < most_states → get_or costs (costs_a_block * b + s) 0 ≡ least_distance b s
 
   -- no list of words is a path
   pub record NoneFound (r : Decoding) : Type 0 where

@@ -12,7 +12,7 @@ use native.Mathlib.Omega.{arith}
 use lib.Dec.{ltb}
 use lib.ListN.{get_or}
 use borrow.Author.Tests.{lt-ltb, le-ltb}
-use Rattle.trellis.specs.Bounds.{most_paths, most_states, costs_aBlock}
+use Rattle.trellis.specs.Bounds.{most_paths, most_states, costs_a_block}
 use Rattle.trellis.specs.Layout.{n_of, vertex_count_of, roots_place, goals_place}
 use Rattle.trellis.specs.Comparing.{symbol_cost, distance_by}
 use Rattle.paths.specs.Chain.{unreached, ends_in}
@@ -72,7 +72,7 @@ module _ (f : Frame) (b : ℕ) where
     behind s k = L.at s k ∙ go (dec_lt (suc b) (block_count f))
       where
         go : Dec (suc b < block_count f)
-            → cond (ltb (suc b) (block_count f)) (get_or costs (costs_aBlock * suc b + s) 0) (get_or ends s 0) ≡ least_at f (suc b) s
+            → cond (ltb (suc b) (block_count f)) (get_or costs (costs_a_block * suc b + s) 0) (get_or ends s 0) ≡ least_at f (suc b) s
         go (yes i) = rw (lt-ltb (suc b) (block_count f) i) (D.at (suc b) s i k)
         go (no i) =
             let z : others ≡ 0 = omega arith in

@@ -9,7 +9,7 @@ use native.Mathlib.Omega.{arith}
 use lib.ListN.{length, get_or, set, length-set}
 use lib.Seq.{get_or-set_same}
 use borrow.Author.Tests.{lt-ltb}
-use Rattle.trellis.specs.Bounds.{most_paths, most_states, costs_aBlock}
+use Rattle.trellis.specs.Bounds.{most_paths, most_states, costs_a_block}
 use Rattle.trellis.specs.Lists.{keep, run}
 use Rattle.trellis.specs.Word.{Word}
 use Rattle.paths.specs.Chain.{unreached, ends_in}
@@ -82,7 +82,7 @@ onward f k m b xs =
 module _ {f : Frame} {costs : List ℕ} (D : Tabled f costs) where
   cost_start : {from : ℕ} → f.start < most_states → 1 ≤ block_count f → from ≡ f.start → get_or costs from 0 ≡ least_at f 0 f.start
   cost_start {from} below some e =
-      let z : from ≡ costs_aBlock * 0 + f.start = omega arith in
+      let z : from ≡ costs_a_block * 0 + f.start = omega arith in
       ap (λ i. get_or costs i 0) z ∙ D.at 0 f.start some below
 
   pub cost_low : {from : ℕ} → f.start < most_states → 1 ≤ block_count f → from ≡ f.start → get_or costs from 0 < unreached

@@ -78,13 +78,13 @@ module _ {s : List ℕ} {at : View} (S : Seen s at) where
     deep : t < n_of s
     deep = omega (arith, at_is.n_is)
 
-    module _ {y count : ℕ} (y_is : y ≡ get_or s (4 + at.n + t) 0) (count_is_lem : (count ≡ y) × (count < 65536)) where
+    module _ {y count : ℕ} (y_is : y ≡ get_or s (4 + at.n + t) 0) (count_is : (count ≡ y) × (count < 65536)) where
       abbrev edges : List Edge
       edges = run (edge_in (part_from pairs s) (part_from symbols s)) 0 count
 
       next_codes : flat_map (grown_codes edges) (take have codes) ≡ map coded (level s (suc t))
       next_codes =
-          ap₂ (λ es cs. flat_map (grown_codes es) cs) (edges_are S d.places h y_is count_is_lem) d.filled
+          ap₂ (λ es cs. flat_map (grown_codes es) cs) (edges_are S d.places h y_is count_is) d.filled
           ∙ level_coded S.sound t deep
 
       next_count : length (flat_map (grown_codes edges) (take have codes)) ≡ length (level s (suc t))
@@ -98,14 +98,14 @@ module _ {s : List ℕ} {at : View} (S : Seen s at) where
           long = m.long;
           filled = m.filled b ∙ next_codes ∙ ap (λ u. map coded (level s u)) (sym (add-one t));
           count = m.count b ∙ zero-add _ ∙ next_count ∙ ap (λ u. length (level s u)) (sym (add-one t));
-          places = places_next S d.places h y_is count_is_lem;
+          places = places_next S d.places h y_is count_is;
         }
 
         pub depth_over : most_words < r → Gathered s new r
         depth_over b = record {
           long = m.long;
           filled = λ c. absurd (omega arith);
-          count_is_lem = λ c. absurd (omega arith);
+          count_is = λ c. absurd (omega arith);
           over = λ c. omega (arith, m.over b, next_count, levels_rise S.sound (n_of s - suc t) (suc t) (omega (arith, deep)));
         }
 
@@ -115,6 +115,6 @@ module _ {s : List ℕ} {at : View} (S : Seen s at) where
       record {
         long = d.long;
         filled = λ b. d.filled ∙ ap (λ k. map coded (level s k)) e;
-        count_is_lem = λ b. d.count ∙ ap (λ k. length (level s k)) e;
+        count_is = λ b. d.count ∙ ap (λ k. length (level s k)) e;
         over = λ b. absurd (omega (arith, d.room));
       }

@@ -9,6 +9,7 @@ ghost use Rattle.takers.specs.Inner.Pieces.{SmallMap, step_takers, Taken, step_p
 
 pub mod states;
 
+pub use takers::{Edges, take_edges, take_step};
 use numbers::wide;
 use pieces::{put_pairs, put_symbols};
 use trellis::MOST_SYMBOLS;

@@ -9,7 +9,7 @@ use native.Mathlib.Numerals.{add-one}
 use native.Mathlib.Omega.{arith}
 use lib.ListN.{length, get_or, set, length-set}
 use borrow.Author.Tests.{lt-ltb, le-ltb}
-use Rattle.trellis.specs.Bounds.{most_states, costs_aBlock}
+use Rattle.trellis.specs.Bounds.{most_states, costs_a_block}
 use Rattle.trellis.proofs.Buffers.{put_more}
 use Rattle.left_behind.specs.Inner.Behind.{LeftBehind}
 
@@ -17,7 +17,7 @@ pub behind_last : {costs ends : List ℕ} {blocks b : ℕ} → length ends ≡ m
 behind_last {costs} {ends} {blocks} {b} l h = record {
   long = l;
   at = λ s k.
-      sym (ap (λ t. cond t (get_or costs (costs_aBlock * suc b + s) 0) (get_or ends s 0)) (le-ltb (suc b) blocks (omega arith)));
+      sym (ap (λ t. cond t (get_or costs (costs_a_block * suc b + s) 0) (get_or ends s 0)) (le-ltb (suc b) blocks (omega arith)));
 }
 
 -- ---- a row of the table
@@ -40,11 +40,11 @@ taken_more {costs} {left} {first} {s} I h = record {
 }
 
 pub behind_row : {costs ends left : List ℕ} {blocks b first s : ℕ} → RowTaken costs first left s → most_states ≤ s → b + 1 < blocks
-    → first ≡ costs_aBlock * (b + 1) → LeftBehind costs ends blocks b left
+    → first ≡ costs_a_block * (b + 1) → LeftBehind costs ends blocks b left
 behind_row {costs} {ends} {left} {blocks} {b} {first} {s} I l h e = record {
   long = I.long;
   at = λ u k.
-      let p : first + u ≡ costs_aBlock * suc b + u = omega (arith, add-one b) in
+      let p : first + u ≡ costs_a_block * suc b + u = omega (arith, add-one b) in
       I.at u (omega arith) ∙ ap (λ i. get_or costs i 0) p
-      ∙ sym (ap (λ t. cond t (get_or costs (costs_aBlock * suc b + u) 0) (get_or ends u 0)) (lt-ltb (suc b) blocks (omega arith)));
+      ∙ sym (ap (λ t. cond t (get_or costs (costs_a_block * suc b + u) 0) (get_or ends u 0)) (lt-ltb (suc b) blocks (omega arith)));
 }

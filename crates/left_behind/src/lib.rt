@@ -3,7 +3,7 @@
 #![tactic(auto)]
 
 ghost use Rattle.std.specs.Prelude.{◌≡◌, ◌+◌, ◌*◌, ◌<◌, ◌≤◌, length};
-ghost use Rattle.trellis.specs.Bounds.{most_states, most_blocks, costs_aBlock};
+ghost use Rattle.trellis.specs.Bounds.{most_states, most_blocks, costs_a_block};
 ghost use Rattle.left_behind.specs.Inner.Behind.{LeftBehind};
 
 use trellis::COSTS_A_BLOCK;
@@ -15,7 +15,7 @@ pub fn left_behind(
     blocks: usize,
     b: usize,
 ) -> [u32; COSTS_A_BLOCK]
-    requires { (blocks ≤ most_blocks) × (b < blocks) × (costs_aBlock * blocks ≤ length costs.now) × (length ends ≡ most_states) }
+    requires { (blocks ≤ most_blocks) × (b < blocks) × (costs_a_block * blocks ≤ length costs.now) × (length ends ≡ most_states) }
     ensures { LeftBehind costs.now ends blocks b result }
 {
     let mut left = ends;

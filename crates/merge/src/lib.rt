@@ -11,9 +11,9 @@ ghost use Rattle.depths.specs.Inner.Words.{words};
 ghost use Rattle.merging.specs.Merging.{Ends, merging, merged_table};
 ghost use Rattle.merging.specs.Inner.Sizes.{any_sizes, sized_table, sizing, EndsSized, Measured};
 
-use answers::merge::Merged;
+pub use answers::merge::{Merged, outcome};
 use merge_words::merge_words;
-use merging::ANY_SIZES;
+pub use merging::ANY_SIZES;
 use numbers::wide;
 use word_lists::copy_words;
 

@@ -9,7 +9,7 @@ ghost use Rattle.answers.specs.Answers.{merged_rows_outcome};
 ghost use Rattle.merging_rows.specs.MergingRows.{left, merged_rows, merging_rows};
 ghost use Rattle.merging_rows.specs.Inner.Stages.{BaseAsked, RowsEnd};
 
-use answers::merge_rows::MergedRows;
+pub use answers::merge_rows::{MergedRows, outcome};
 use merging_rows::build;
 use parity::ROW_BITS;
 use row_checks::{first_wide, sizes_fit, words_of};

@@ -11,7 +11,7 @@ use native.Mathlib.Numerals.{add-one}
 use native.Mathlib.Omega.{arith}
 use lib.ListN.{length, get_or, drop, set, length-set}
 use lib.Seq.{get_or-set_same, get_or-set_other, get_or-drop, drop-drop}
-use Rattle.trellis.specs.Bounds.{most_states, costs_aBlock}
+use Rattle.trellis.specs.Bounds.{most_states, costs_a_block}
 use Rattle.trellis.specs.Word.{Word, word, word_at}
 use Rattle.trellis.specs.Layout.{n_of, section_words}
 use Rattle.paths.specs.Chain.{unreached}
@@ -26,15 +26,15 @@ use Rattle.passes.specs.Inner.Chains.{Chain, least_from, path_from, LeftAt, Note
 use Rattle.passes.specs.Inner.Chains.{FollowedTo}
 
 -- a table filled from its last row on, one row more: `P c s x` is what is asked of the number x at state s of row c
-pub row_more : (P : ℕ → ℕ → ℕ → Type 0) {b : ℕ} {row old new : List ℕ} → RowWritten (costs_aBlock * b) row old new
+pub row_more : (P : ℕ → ℕ → ℕ → Type 0) {b : ℕ} {row old new : List ℕ} → RowWritten (costs_a_block * b) row old new
     → ((s : ℕ) → s < most_states → P b s (get_or row s 0))
-    → ((c s : ℕ) → suc b ≤ c → s < most_states → P c s (get_or old (costs_aBlock * c + s) 0))
-    → (c s : ℕ) → b ≤ c → s < most_states → P c s (get_or new (costs_aBlock * c + s) 0)
+    → ((c s : ℕ) → suc b ≤ c → s < most_states → P c s (get_or old (costs_a_block * c + s) 0))
+    → (c s : ℕ) → b ≤ c → s < most_states → P c s (get_or new (costs_a_block * c + s) 0)
 row_more P {b} {row} {old} {new} R here behind c s g e = go (ℕ_discrete c b)
   where
-    go : Dec (c ≡ b) → P c s (get_or new (costs_aBlock * c + s) 0)
-    go (yes z) = subst (λ x. P x s (get_or new (costs_aBlock * x + s) 0)) (sym z) (subst (P b s) (sym (R.at s e)) (here s e))
-    go (no z) = subst (P c s) (sym (R.kept (costs_aBlock * c + s) (inr (omega arith)))) (behind c s (omega arith) e)
+    go : Dec (c ≡ b) → P c s (get_or new (costs_a_block * c + s) 0)
+    go (yes z) = subst (λ x. P x s (get_or new (costs_a_block * x + s) 0)) (sym z) (subst (P b s) (sym (R.at s e)) (here s e))
+    go (no z) = subst (P c s) (sym (R.kept (costs_a_block * c + s) (inr (omega arith)))) (behind c s (omega arith) e)
 
 -- ---- backward
 
@@ -107,12 +107,12 @@ module _ (C : Chain) where
 
   -- the notes and the costs, a row more
   pub notes_more : {b : ℕ} {row old new : List ℕ} → NotesFrom C (suc b) old → ((s : ℕ) → s < most_states → NoteAt C b s (get_or row s 0))
-      → RowWritten (costs_aBlock * b) row old new → NotesFrom C b new
+      → RowWritten (costs_a_block * b) row old new → NotesFrom C b new
   notes_more {b} F K R = record {
     at = λ c s g h e. row_more (λ c s x. c < C.blocks → NoteAt C c s x) R (λ s e h. K s e) (λ c s g e h. F.at c s g h e) c s g e h;
   }
 
-  pub costs_more : {b : ℕ} {row old new : List ℕ} → CostsFrom C (suc b) old → LeftAt C b row → RowWritten (costs_aBlock * b) row old new
+  pub costs_more : {b : ℕ} {row old new : List ℕ} → CostsFrom C (suc b) old → LeftAt C b row → RowWritten (costs_a_block * b) row old new
       → CostsFrom C b new
   costs_more {b} F L R = record {
     at = λ c s g h e.
@@ -162,7 +162,7 @@ module _ {C : Chain} {start : ℕ} where
 
   pub words_more : {b s label goal : ℕ} {notes labels new_labels goals new_goals : List ℕ} → NotesFrom C 0 notes
       → InWords C start labels new_labels goals new_goals b s → b < C.blocks → b < length new_labels → b < length new_goals
-      → label ≡ get_or notes (costs_aBlock * b + s) 0 % distance_unit / label_unit → goal ≡ note_goal (get_or notes (costs_aBlock * b + s) 0)
+      → label ≡ get_or notes (costs_a_block * b + s) 0 % distance_unit / label_unit → goal ≡ note_goal (get_or notes (costs_a_block * b + s) 0)
       → InWords C start labels (set new_labels b label) goals (set new_goals b goal) (b + 1) goal
   words_more {b} {s} {label} {goal} {notes} {labels} {new_labels} {goals} {new_goals} P I h x y l g =
       rw (add-one b)
@@ -182,7 +182,7 @@ module _ {C : Chain} {start : ℕ} where
       Z = I.written
 
       note : ℕ
-      note = get_or notes (costs_aBlock * b + s) 0
+      note = get_or notes (costs_a_block * b + s) 0
 
       chosen : Word
       chosen = note_word s note
@@ -237,14 +237,14 @@ follow_start F = record {
 -- what is read of the notes
 pub record Here (notes labels goals : List ℕ) (b s note : ℕ) : Type 0 where
   pub s_lt : s < most_states
-  pub place_lt : costs_aBlock * b + s < length notes
+  pub place_lt : costs_a_block * b + s < length notes
   pub labels_lt : b < length labels
   pub goals_lt : b < length goals
   pub few : b < 256
 
 module _ {blocks start : ℕ} {notes labels new_labels goals new_goals : List ℕ} {b s : ℕ} (F : Followed blocks start notes labels goals)
     (I : InFollow blocks start notes labels new_labels goals new_goals b s) (h : b < blocks) where
-  pub here : Here notes new_labels new_goals b s (get_or notes (costs_aBlock * b + s) 0)
+  pub here : Here notes new_labels new_goals b s (get_or notes (costs_a_block * b + s) 0)
   here =
       let W = I.words F.chain F.blocks_is F.noted F.some in
       let O = onward_of W.onward (F.noted.at b s (omega arith) (omega (arith, F.blocks_is)) W.state) in
@@ -256,8 +256,8 @@ module _ {blocks start : ℕ} {notes labels new_labels goals new_goals : List �
         few = omega (arith, F.few);
       }
 
-  pub follow_more : {label goal t : ℕ} → label ≡ get_or notes (costs_aBlock * b + s) 0 % distance_unit / label_unit
-      → goal ≡ note_goal (get_or notes (costs_aBlock * b + s) 0) → t ≡ goal
+  pub follow_more : {label goal t : ℕ} → label ≡ get_or notes (costs_a_block * b + s) 0 % distance_unit / label_unit
+      → goal ≡ note_goal (get_or notes (costs_a_block * b + s) 0) → t ≡ goal
       → InFollow blocks start notes labels (set new_labels b label) goals (set new_goals b goal) (b + 1) t
   follow_more {label} {goal} l g e =
       let H = here in

@@ -59,7 +59,7 @@ module _ {s : List ℕ} (g : Sound s) where
   unfolding file_of_codes table_bytes
   file_is_lem goals {codes} {count} e G h =
       let full : take count codes ≡ map coded (level s (n_of s)) = G.filled h in
-      let size : count ≡ length (section_words s) = G.count_is_lem h ∙ sym (words_count s) in
+      let size : count ≡ length (section_words s) = G.count_is h ∙ sym (words_count s) in
       let pairs : flat_map (pair_of_code goals) (take count codes) ≡ flat_map pair_bytes (section_words s) =
       ap (flat_map (pair_of_code goals)) full ∙ flat_map_map (pair_of_code goals) coded (level s (n_of s))
       ∙ flat_map_same _ _ (level s (n_of s)) (pair_of goals e)
@@ -88,7 +88,7 @@ module _ (s f : List ℕ) {at : View} (S : Seen s at × (is_section s ≡ true))
 
   module _ (h : count ≤ most_words) where
     count_words : count ≡ length (section_words s)
-    count_words = G.count_is_lem h ∙ sym (words_count s)
+    count_words = G.count_is h ∙ sym (words_count s)
 
     pub ends_short : length f < 5 + 4 * count → left (short_buffer (5 + 4 * count)) f ≡ reading_back s f
     unfolding reading_back

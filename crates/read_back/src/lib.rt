@@ -8,12 +8,13 @@ ghost use Rattle.section_file.specs.Inner.View.{Seen};
 ghost use Rattle.section_file.specs.Usable.{is_section};
 ghost use Rattle.read_back.specs.ReadingBack.{left, reading_back};
 
-use answers::read_back::ReadBack;
+pub use answers::read_back::{ReadBack, outcome};
+pub use codes::{further, label_of, root_of, vertex_of};
 use gathering::gather;
 use section_file::View;
 use trellis::MOST_WORDS;
 use usable::Part;
-use whole_section::section_of;
+pub use whole_section::section_of;
 use word_file::put_file;
 
 // Writes the table file of a section's words.

@@ -8,7 +8,8 @@ ghost use Rattle.fields.specs.Fields.{file_word};
 ghost use Rattle.fields.specs.Inner.Answer.{held_word, found_at};
 ghost use Rattle.fields.specs.Inner.ReadOn.{place_after};
 
-use fields::{Found, Word};
+pub use fields::{Found, Word, byte_at, length_bad, two_bytes, word_count};
+pub use file_words::word_at;
 use file_words::{found_at, place_after, word_of};
 
 // The lent bytes and the index of the next word.

@@ -8,7 +8,7 @@ use native.Mathlib.Decide.{dec_lt}
 use native.Mathlib.Omega.{arith}
 use lib.ListN.{length}
 use borrow.Author.Tests.{lt-ltb, le-ltb}
-use Rattle.trellis.specs.Bounds.{most_paths, most_blocks, costs_aBlock}
+use Rattle.trellis.specs.Bounds.{most_paths, most_blocks, costs_a_block}
 use Rattle.room.specs.Room.{short_of, needed_to_decode, needed_to_list}
 use Rattle.room.specs.Inner.Fitting.{RoomToDecode, Few, RoomToList}
 
@@ -26,17 +26,17 @@ long_enough there needed follows h = simp (le-ltb there needed h)
 
 -- the buffers asked one by one, from the last to the first
 pub decode_by : (blocks costs labels goals masks : ℕ) {m g l r : ℕ} → m ≡ short_of masks blocks 0 → g ≡ short_of goals blocks m
-    → l ≡ short_of labels blocks g → r ≡ short_of costs (costs_aBlock * blocks) l → r ≡ needed_to_decode blocks costs labels goals masks
+    → l ≡ short_of labels blocks g → r ≡ short_of costs (costs_a_block * blocks) l → r ≡ needed_to_decode blocks costs labels goals masks
 unfolding needed_to_decode
 decode_by blocks costs labels goals masks a b c d =
-    d ∙ ap (short_of costs (costs_aBlock * blocks)) (c ∙ ap (short_of labels blocks) (b ∙ ap (short_of goals blocks) a))
+    d ∙ ap (short_of costs (costs_a_block * blocks)) (c ∙ ap (short_of labels blocks) (b ∙ ap (short_of goals blocks) a))
 
 pub list_by : (blocks paths costs distances labels goals : ℕ) {g l d r : ℕ} → g ≡ short_of goals (paths * blocks) 0
-    → l ≡ short_of labels (paths * blocks) g → d ≡ short_of distances paths l → r ≡ short_of costs (costs_aBlock * blocks) d
+    → l ≡ short_of labels (paths * blocks) g → d ≡ short_of distances paths l → r ≡ short_of costs (costs_a_block * blocks) d
     → r ≡ needed_to_list blocks paths costs distances labels goals
 unfolding needed_to_list
 list_by blocks paths costs distances labels goals a b c d =
-    d ∙ ap (short_of costs (costs_aBlock * blocks)) (c ∙ ap (short_of distances paths) (b ∙ ap (short_of labels (paths * blocks)) a))
+    d ∙ ap (short_of costs (costs_a_block * blocks)) (c ∙ ap (short_of distances paths) (b ∙ ap (short_of labels (paths * blocks)) a))
 
 -- one buffer is long enough, and those behind it need nothing
 record Fits (there needed follows : ℕ) : Type 0 where

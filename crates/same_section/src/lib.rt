@@ -10,7 +10,7 @@ ghost use Rattle.section_file.specs.Inner.View.{Seen};
 ghost use Rattle.section_file.specs.Usable.{is_section};
 ghost use Rattle.same_section.specs.Comparing.{same_code, comparing};
 
-use answers::same_section::SameSection;
+pub use answers::same_section::{SameSection, outcome};
 use following::follow;
 use numbers::number;
 use section_file::View;

@@ -12,6 +12,7 @@ ghost use Rattle.section_file.specs.Inner.View.{view_of};
 
 pub mod states;
 
+pub use edges::{Edge, edge_at};
 use numbers::{number, total, wide};
 
 // Document 01's bounds as numbers of the width that they are compared in.

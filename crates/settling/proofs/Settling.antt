@@ -11,7 +11,7 @@ use native.Mathlib.Decide.{dec_lt}
 use native.Mathlib.Omega.{arith}
 use lib.ListN.{length, get_or, take, drop, set, length-set, length-take, length-drop, replicate, length-replicate, get_or-replicate}
 use lib.Seq.{get_or-set_other, get_or-take, get_or-drop}
-use Rattle.trellis.specs.Bounds.{most_states, costs_aBlock}
+use Rattle.trellis.specs.Bounds.{most_states, costs_a_block}
 use Rattle.trellis.specs.Layout.{vertex_count_of, roots_place, goals_place, root_state}
 use Rattle.trellis.proofs.Buffers.{put_more}
 use Rattle.paths.specs.Chain.{unreached}
@@ -159,8 +159,8 @@ pub record InSettle (blocks : ℕ) (last old new behind : List ℕ) (b : ℕ) : 
   pub b_le : b ≤ blocks
   pub long : length new ≡ length old
   pub marked : CostsBehind behind
-  pub kept : (i : ℕ) → costs_aBlock * blocks ≤ i → get_or new i 0 ≡ get_or old i 0
-  pub unsettled : (i : ℕ) → i < costs_aBlock * b → get_or new i 0 ≡ get_or old i 0
+  pub kept : (i : ℕ) → costs_a_block * blocks ≤ i → get_or new i 0 ≡ get_or old i 0
+  pub unsettled : (i : ℕ) → i < costs_a_block * b → get_or new i 0 ≡ get_or old i 0
   pub left_is : (C : Chain) → C.blocks ≡ blocks → Cheap C → LeftAt C blocks last → NotesFrom C 0 old → LeftAt C b behind
   pub costs : (C : Chain) → C.blocks ≡ blocks → Cheap C → LeftAt C blocks last → NotesFrom C 0 old → CostsFrom C b new
 
@@ -186,15 +186,15 @@ last_is {C} {last = last} e E I = subst (λ b. LeftAt C b last) e (left_last C l
 
 -- a row as it is lent
 abbrev row_of : ℕ → List ℕ → List ℕ
-row_of first l = take (first + costs_aBlock - first) (drop first l)
+row_of first l = take (first + costs_a_block - first) (drop first l)
 
-row_at : (first : ℕ) (l : List ℕ) (s : ℕ) → s < costs_aBlock → get_or (row_of first l) s 0 ≡ get_or l (first + s) 0
-row_at first l s h = get_or-take (first + costs_aBlock - first) (drop first l) s 0 (omega arith) ∙ get_or-drop first l s 0
+row_at : (first : ℕ) (l : List ℕ) (s : ℕ) → s < costs_a_block → get_or (row_of first l) s 0 ≡ get_or l (first + s) 0
+row_at first l s h = get_or-take (first + costs_a_block - first) (drop first l) s 0 (omega arith) ∙ get_or-drop first l s 0
 
 module _ {blocks : ℕ} {last old mid behind : List ℕ} {b : ℕ} (I : InSettle blocks last old mid behind b) (h : 0 < b)
-    (fits : costs_aBlock * blocks ≤ length old) where
+    (fits : costs_a_block * blocks ≤ length old) where
   abbrev first : ℕ
-  first = costs_aBlock * (b - 1)
+  first = costs_a_block * (b - 1)
 
   -- the notes of the block are still there
   row_is : (s : ℕ) → s < most_states → get_or (row_of first mid) s 0 ≡ get_or old (first + s) 0

@@ -8,7 +8,8 @@ ghost use Rattle.table.specs.File.{table_file};
 ghost use Rattle.input_parts.specs.Input.{any_table, most_input};
 ghost use Rattle.input_parts.specs.Inner.Read.{HeadPassed, TableMeasured, Read};
 
-use input_parts::{block_count, check_head, left_over, part_length, section_count};
+pub use input_parts::{block_count, section_index};
+use input_parts::{check_head, left_over, part_length, section_count};
 use listing::ANY_MAP;
 use merging::ANY_SIZES;
 use outcomes::{Returned, no_value};

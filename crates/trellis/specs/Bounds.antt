@@ -41,8 +41,8 @@ abbrev pub most_rows : ℕ
 most_rows = 10
 
 -- the cost table has a place for each state below this bound, block after block
-abbrev pub costs_aBlock : ℕ
-costs_aBlock = most_states
+abbrev pub costs_a_block : ℕ
+costs_a_block = most_states
 
 -- input longer than 65,535 bytes is not read as a table
 abbrev pub most_bytes : ℕ

@@ -10,7 +10,8 @@ ghost use Rattle.depths.specs.Inner.Words.{words};
 ghost use Rattle.lacking.specs.Inner.Search.{as_witness, FirstIn};
 ghost use Rattle.lacking.specs.Inner.Rows.{InnerDepth, SearchRows, to_try, refutes_in};
 
-use lacking::{NOTHING, Witness, first_lacking, in_run, put_next};
+pub use lacking::Witness;
+use lacking::{NOTHING, first_lacking, in_run, put_next};
 use numbers::wide;
 use trellis::MOST_WORDS;
 

@@ -1,7 +1,7 @@
 -- The blocks of a frame as the code holds them, and what passing them backward leaves: a note for each state before each block, of whatever
 -- chain they are, wherever its paths may end.
 use Rattle.std.specs.Prelude.{◌≡◌, List, ℕ, suc, ◌+◌, ◌*◌, ◌≤◌, ◌<◌, length, get_or, drop}
-use Rattle.trellis.specs.Bounds.{most_states, most_words, most_sections, most_blocks, costs_aBlock}
+use Rattle.trellis.specs.Bounds.{most_states, most_words, most_sections, most_blocks, costs_a_block}
 use Rattle.trellis.specs.Word.{Word}
 use Rattle.trellis.specs.Layout.{n_of, vertex_count_of, root_state, section_words}
 use Rattle.trellis.specs.Comparing.{label_distance}
@@ -78,14 +78,14 @@ module _ (H : HeldBlocks) where
   pub record Unrooted (b : ℕ) (notes : List ℕ) : Type 0 where
     pub at : (c s : ℕ) → b ≤ c → c < length H.indices → s < most_states
         → ((u : ℕ) → u < vertex_count_of (block_part c) 0 → root_state (block_part c) u ≡ s → ⊥)
-        → get_or notes (costs_aBlock * c + s) 0 ≡ unreached
+        → get_or notes (costs_a_block * c + s) 0 ≡ unreached
 
   -- the notes are there, and places beyond them are as they were; `left` has what is left to pay behind the last block, and `new` before
   -- the first
   pub record Filled (left new old notes : List ℕ) : Type 0 where
     pub long : length notes ≡ length old
     pub new_long : length new ≡ most_states
-    pub kept : (i : ℕ) → costs_aBlock * length H.indices ≤ i → get_or notes i 0 ≡ get_or old i 0
+    pub kept : (i : ℕ) → costs_a_block * length H.indices ≤ i → get_or notes i 0 ≡ get_or old i 0
     pub unrooted : Unrooted 0 notes
     pub noted : (C : Chain) → ChainOf C → EndsAs C left → NotesFrom C 0 notes
     pub left_is : (C : Chain) → ChainOf C → EndsAs C left → LeftAt C 0 new

@@ -1,6 +1,6 @@
 -- The slots in front of a block stand for the k best beginnings of a frame's paths up to there.
 use Rattle.std.specs.Prelude.{◌≡◌, List, ℕ, ◌+◌, ◌-◌, ◌*◌, ◌≤◌, ◌<◌, length, get_or}
-use Rattle.trellis.specs.Bounds.{most_states, costs_aBlock}
+use Rattle.trellis.specs.Bounds.{most_states, costs_a_block}
 use Rattle.trellis.specs.Word.{Word}
 use Rattle.paths.specs.Chain.{unreached, ends_in}
 use Rattle.paths.specs.Inner.Chains.{chain_least}
@@ -16,8 +16,8 @@ module _ (f : Frame) where
 
   -- the cost table is there, and there is a path from the start state
   pub record Tabled (costs : List ℕ) : Type 0 where
-    pub long : costs_aBlock * block_count f ≤ length costs
-    pub at : (b s : ℕ) → b < block_count f → s < most_states → get_or costs (costs_aBlock * b + s) 0 ≡ least_at b s
+    pub long : costs_a_block * block_count f ≤ length costs
+    pub at : (b s : ℕ) → b < block_count f → s < most_states → get_or costs (costs_a_block * b + s) 0 ≡ least_at b s
     pub some : least_at 0 f.start < unreached
 
   -- the slots are the k best beginnings in front of block b, and what comes of them is what is kept of the whole chain

@@ -30,7 +30,7 @@ pub record Starts (e : ℕ → Edge) (count : ℕ) (starts : List ℕ) : Type 0 
 pub record Gathered (s : List ℕ) (codes : List ℕ) (count : ℕ) : Type 0 where
   pub long : length codes ≡ most_words
   pub filled : count ≤ most_words → take count codes ≡ map coded (level s (n_of s))
-  pub count_is_lem : count ≤ most_words → count ≡ length (level s (n_of s))
+  pub count_is : count ≤ most_words → count ≡ length (level s (n_of s))
   pub over : most_words < count → most_words < length (level s (n_of s))
 
 -- from place at on the states of the vertices of depth 0, each of six bits

@@ -1,7 +1,7 @@
 -- A chain of blocks, one behind another: what passing them backward leaves, and what following the notes forward writes. Which words a
 -- block has, what they cost and where a path may end are the chain's, and none of them is fixed here.
 use Rattle.std.specs.Prelude.{◌≡◌, Bool, ◌⊎◌, List, ◌∷◌, ℕ, suc, ◌+◌, ◌-◌, ◌*◌, ◌/◌, ◌%◌, ◌≤◌, ◌<◌, length, get_or}
-use Rattle.trellis.specs.Bounds.{most_states, costs_aBlock}
+use Rattle.trellis.specs.Bounds.{most_states, costs_a_block}
 use Rattle.trellis.specs.Word.{Word, word_at}
 use Rattle.paths.specs.Chain.{unreached}
 use Rattle.paths.specs.Inner.Chains.{chain_least, chain_trace}
@@ -38,11 +38,11 @@ module _ (C : Chain) where
 
   -- the notes from block b on
   pub record NotesFrom (b : ℕ) (notes : List ℕ) : Type 0 where
-    pub at : (c s : ℕ) → b ≤ c → c < C.blocks → s < most_states → NoteAt c s (get_or notes (costs_aBlock * c + s) 0)
+    pub at : (c s : ℕ) → b ≤ c → c < C.blocks → s < most_states → NoteAt c s (get_or notes (costs_a_block * c + s) 0)
 
   -- the cost table from block b on
   pub record CostsFrom (b : ℕ) (costs : List ℕ) : Type 0 where
-    pub at : (c s : ℕ) → b ≤ c → c < C.blocks → s < most_states → get_or costs (costs_aBlock * c + s) 0 ≡ least_from c s
+    pub at : (c s : ℕ) → b ≤ c → c < C.blocks → s < most_states → get_or costs (costs_a_block * c + s) 0 ≡ least_from c s
 
   -- the labels and goals of the first b words of the path from state `start` are written, and places beyond them are as they were
   pub record Written (start b : ℕ) (labels new_labels goals new_goals : List ℕ) : Type 0 where
@@ -54,8 +54,8 @@ module _ (C : Chain) where
 -- a block's row is written from one place on, and the other places are as they were
 pub record RowWritten (first : ℕ) (row old new : List ℕ) : Type 0 where
   pub long : length new ≡ length old
-  pub at : (s : ℕ) → s < costs_aBlock → get_or new (first + s) 0 ≡ get_or row s 0
-  pub kept : (i : ℕ) → (i < first) ⊎ (first + costs_aBlock ≤ i) → get_or new i 0 ≡ get_or old i 0
+  pub at : (s : ℕ) → s < costs_a_block → get_or new (first + s) 0 ≡ get_or row s 0
+  pub kept : (i : ℕ) → (i < first) ⊎ (first + costs_a_block ≤ i) → get_or new i 0 ≡ get_or old i 0
 
 -- the notes of a chain that has a path from state `start`, and room for its words
 pub record Followed (blocks start : ℕ) (notes labels goals : List ℕ) : Type 0 where
@@ -64,7 +64,7 @@ pub record Followed (blocks start : ℕ) (notes labels goals : List ℕ) : Type 
   pub noted : NotesFrom chain 0 notes
   pub start_lt : start < most_states
   pub some : least_from chain 0 start < unreached
-  pub long : costs_aBlock * blocks ≤ length notes
+  pub long : costs_a_block * blocks ≤ length notes
   pub few : blocks ≤ 256
   pub labels_long : blocks ≤ length labels
   pub goals_long : blocks ≤ length goals

@@ -1,7 +1,7 @@
 -- Notes turned into the costs of a cost table. The costs behind a block are known, and a block adds less than `note_cycle` to them; so the
 -- remainder by it that a note has tells what the block adds.
 use Rattle.std.specs.Prelude.{◌≡◌, List, ℕ, ◌*◌, ◌≤◌, ◌<◌, length, get_or}
-use Rattle.trellis.specs.Bounds.{most_states, costs_aBlock}
+use Rattle.trellis.specs.Bounds.{most_states, costs_a_block}
 use Rattle.trellis.specs.Word.{Word}
 use Rattle.trellis.specs.Layout.{vertex_count_of, root_state}
 use Rattle.paths.specs.Chain.{unreached}
@@ -56,10 +56,10 @@ pub record Settling (sections starts indices ends notes : List ℕ) : Type 0 whe
   pub ends_as : EndsAs chain ends
   pub noted : NotesFrom chain 0 notes
   pub ends_long : length ends ≡ most_states
-  pub long : costs_aBlock * length indices ≤ length notes
+  pub long : costs_a_block * length indices ≤ length notes
 
 -- the table has its costs, whatever chain the notes are of, and places beyond it are as they were
 pub record Settled (blocks : ℕ) (ends old new : List ℕ) : Type 0 where
   pub long : length new ≡ length old
-  pub kept : (i : ℕ) → costs_aBlock * blocks ≤ i → get_or new i 0 ≡ get_or old i 0
+  pub kept : (i : ℕ) → costs_a_block * blocks ≤ i → get_or new i 0 ≡ get_or old i 0
   pub costs : (C : Chain) → C.blocks ≡ blocks → Cheap C → EndsAs C ends → NotesFrom C 0 old → CostsFrom C 0 new
