@@ -1,21 +1,43 @@
 // The program `blocks`: reads the input of a block sheet from standard input, to its end or as far as it can matter, and prints the sheet,
-// or why the input is refused. What it prints is proved of `block_sheet`, and that bytes behind those read change nothing is a theorem of
-// `sheet`; here it is only read, called and written.
+// or why the input is refused. What it prints is proved of `print_sheet`, whatever reader and writer it is given: the text of the whole
+// input, also where only the front of it is read. `main` gives it standard input and standard output.
 
 #![tactic(auto)]
 
+ghost use Rattle.std.specs.Prelude.{◌≡◌, ◌<◌, ◌≤◌, OnOk, IfSome, All, length, take};
+ghost use Rattle.std.specs.Io.KnownBytes.{Appends};
+ghost use Rattle.sheet_records.specs.Sheet.{sheet_text};
+
 use answers::listing::Listed;
 use sheet::ANY_SHEET;
+use sheet_input::MOST_INPUT;
+use std::alloc::Global;
+use std::io::{self, Read, Write};
 
-fn main() {
-    let mut input = sheet_input::input_buffer();
-    let got = io::read_full(0, &mut input);
-    let mut text = [0u8; ANY_SHEET];
-    match sheet::block_sheet(&input[..got], &mut text) {
-        Listed::Text(length) => {
-            io::write_all(1, &text[..length]);
-        }
+// Puts the sheet of `input`, or the line of its refusal, at the front of `text`, and returns how many bytes it has.
+fn put_text(input: &[u8], text: &mut [u8; ANY_SHEET]) -> usize
+    ensures inside { result ≤ length text.new }
+    ensures text { take result text.new ≡ sheet_text input.now }
+{
+    match sheet::block_sheet(input, text) {
+        Listed::Text(length) => length,
         // Every sheet fits.
-        Listed::Short(needed) => {}
+        Listed::Short(_) => unreachable!(),
     }
+}
+
+// Reads the input of a block sheet, to its end or as far as it can matter, and writes the sheet or the line of its refusal.
+fn print_sheet<R: Read + Drop, W: Write>(alloc: Global, input: R, output: &mut W) -> io::Result<()>
+    ensures { OnOk result (IfSome (R.remaining input) (λ bytes. All (λ b. b < 256) bytes
+        → Appends (W.contents output.old) (W.contents output.new) (sheet_text bytes))) }
+{
+    let mut front = Vec::new(alloc);
+    input.take(MOST_INPUT as u64).read_to_end(&mut front)?;
+    let mut text = [0u8; ANY_SHEET];
+    let length = put_text(&front, &mut text);
+    output.write_all(&text[..length])
+}
+
+fn main(rt: HostRuntime) -> io::Result<()> {
+    print_sheet(rt.alloc(), rt.stdin(), &mut rt.stdout())
 }

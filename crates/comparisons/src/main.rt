@@ -7,6 +7,7 @@
 ghost use Rattle.std.specs.Prelude.{◌≤◌};
 
 use comparing::Comparison;
+use std::io;
 
 // The symbols 0 to 3, twice.
 const OTHER: u16 = 0x1b1b;
@@ -64,13 +65,11 @@ fn one_unless_same(a: Comparison, b: Comparison) -> u32
     if a.distance == b.distance { 0 } else { 1 }
 }
 
-fn put_line(name: &[u8], x: u32) {
-    io::write_all(1, name);
-    io::print_decimal(1, x as u64);
-    io::write_all(1, b"\n");
+fn put_line(rt: &impl Print, name: &str, x: u32) -> io::Result<()> {
+    println!(rt; "{name} {x}")
 }
 
-fn main() {
+fn main(rt: HostRuntime) -> io::Result<()> {
     let mut i: usize = 0;
     let mut sum: u32 = 0;
     let mut otherwise: u32 = 0;
@@ -82,7 +81,7 @@ fn main() {
         otherwise += one_unless_same(found, one_at_a_time(x, erased));
         i += 1;
     }
-    put_line(b"comparisons ", i as u32);
-    put_line(b"distances ", sum);
-    put_line(b"otherwise ", otherwise);
+    put_line(&rt, "comparisons", i as u32)?;
+    put_line(&rt, "distances", sum)?;
+    put_line(&rt, "otherwise", otherwise)
 }

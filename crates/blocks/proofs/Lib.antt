@@ -1,0 +1,3 @@
+-- Laws that the proofs of the functions cite, lowest first.
+pub mod Short
+pub mod Printed
