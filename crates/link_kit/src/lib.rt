@@ -1,6 +1,6 @@
 // The kit's front door. Rattle programs get the layers' functions with their enums and promises from here. Programs in C or Rust, which
-// take no enum of ours, get one call for each: it returns document 01's number, puts the numbers returned with it into `values`, and leaves
-// every buffer as its layer does. No call asks anything of its arguments.
+// take no enum of ours, get one call for each, which `link_kit_c` exports: it returns document 01's number, puts the numbers returned with it
+// into `values`, and leaves every buffer as its layer does. No call asks anything of its arguments.
 
 #![tactic(auto)]
 
@@ -34,13 +34,7 @@ pub use same_section::same_section;
 pub use sheet::block_sheet;
 
 // Merges the table in `file`.
-#[unsafe(no_mangle)]
-pub extern "C" fn link_merge(
-    file: &[u8],
-    map: &mut [u16],
-    section: &mut [u16],
-    values: &mut [u32; 4],
-) -> u32
+pub fn link_merge(file: &[u8], map: &mut [u16], section: &mut [u16], values: &mut [u32; 4]) -> u32
     ensures { MergeLeft (merging file.now map.old section.old) result
         map.new section.new values.new }
 {
@@ -48,8 +42,7 @@ pub extern "C" fn link_merge(
 }
 
 // Merges the table of all sums of generator rows.
-#[unsafe(no_mangle)]
-pub extern "C" fn link_merge_rows(
+pub fn link_merge_rows(
     bits: usize,
     n: usize,
     rows: &[u16],
@@ -66,24 +59,21 @@ pub extern "C" fn link_merge_rows(
 }
 
 // Writes the table file of a section's words into `file`.
-#[unsafe(no_mangle)]
-pub extern "C" fn link_read_back(section: &[u16], file: &mut [u8], values: &mut [u32; 4]) -> u32
+pub fn link_read_back(section: &[u16], file: &mut [u8], values: &mut [u32; 4]) -> u32
     ensures { ReadBackLeft (reading_back section.now file.old) result file.new values.new }
 {
     c_sections::read_back_numbered(section, file, values)
 }
 
 // Whether two lists of numbers are sections that differ only by the numbers of inner vertices: 1 or 0.
-#[unsafe(no_mangle)]
-pub extern "C" fn link_same_section(a: &[u16], b: &[u16], values: &mut [u32; 4]) -> u32
+pub fn link_same_section(a: &[u16], b: &[u16], values: &mut [u32; 4]) -> u32
     ensures { Numbered (comparing a.now b.now) result values.new }
 {
     c_sections::same_section_numbered(a, b, values)
 }
 
 // Decodes a chain of blocks over k sections.
-#[unsafe(no_mangle)]
-pub extern "C" fn link_decode(
+pub fn link_decode(
     sections: &[u16],
     k: usize,
     indices: &[u8],
@@ -108,8 +98,7 @@ pub extern "C" fn link_decode(
 }
 
 // Lists the best paths of a chain of blocks over k sections, so many as `paths` says or all where fewer exist.
-#[unsafe(no_mangle)]
-pub extern "C" fn link_decode_list(
+pub fn link_decode_list(
     sections: &[u16],
     k: usize,
     indices: &[u8],
@@ -136,16 +125,14 @@ pub extern "C" fn link_decode_list(
 }
 
 // Writes the printed sizes of the table in `file` into `text`.
-#[unsafe(no_mangle)]
-pub extern "C" fn link_listing(file: &[u8], text: &mut [u8], values: &mut [u32; 4]) -> u32
+pub fn link_listing(file: &[u8], text: &mut [u8], values: &mut [u32; 4]) -> u32
     ensures { ListingLeft (listing file.now text.old) result text.new values.new }
 {
     c_texts::listing_numbered(file, text, values)
 }
 
 // Writes the block sheet of `input` into `text`.
-#[unsafe(no_mangle)]
-pub extern "C" fn link_block_sheet(input: &[u8], text: &mut [u8], values: &mut [u32; 4]) -> u32
+pub fn link_block_sheet(input: &[u8], text: &mut [u8], values: &mut [u32; 4]) -> u32
     ensures { ListingLeft (sheet input.now text.old) result text.new values.new }
 {
     c_texts::block_sheet_numbered(input, text, values)
