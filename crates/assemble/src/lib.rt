@@ -8,9 +8,9 @@ ghost use Rattle.trellis.specs.Lists.{over};
 ghost use Rattle.trellis.specs.Inner.Write.{Wrote};
 ghost use Rattle.assemble.specs.Inner.Numbers.{first_numbers, size_numbers, SizesAsked, length_by, LengthAsked, numbers_of, Parts};
 
-pub use outer_depths::{Outer, OuterDepth, put_outer};
 use layout::states;
 use numbers::wide;
+pub use outer_depths::{Outer, OuterDepth, put_outer};
 use takers::Edges;
 use trellis::MOST_SYMBOLS;
 

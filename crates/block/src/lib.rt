@@ -7,9 +7,9 @@ ghost use Rattle.trellis.specs.Bounds.{most_symbols};
 ghost use Rattle.paths.specs.Inner.Ranked.{distance_unit, top_rank, PriceRoom};
 ghost use Rattle.block.specs.Inner.Prices.{Prices};
 
-pub use received::fits;
 use paths::{DISTANCE_UNIT, LABEL_UNIT};
 use received::bit_at;
+pub use received::fits;
 use trellis::{MOST_Q, MOST_SYMBOLS};
 
 // A cost and, below it, the symbol at its place in the label.

@@ -9,9 +9,9 @@ ghost use Rattle.takers.specs.Inner.Pieces.{SmallMap, step_takers, Taken, step_p
 
 pub mod states;
 
-pub use takers::{Edges, take_edges, take_step};
 use numbers::wide;
 use pieces::{put_pairs, put_symbols};
+pub use takers::{Edges, take_edges, take_step};
 use trellis::MOST_SYMBOLS;
 
 // The pairs of all steps' edges, one step behind another, from place `at` on. `words` and `counts` are what take_edges left.

@@ -9,8 +9,8 @@ ghost use Rattle.trellis.specs.Layout.{n_of, joined_up};
 ghost use Rattle.text.specs.Inner.Put.{Put};
 ghost use Rattle.lines.specs.Text.{entering, depth_line, sums, sizes_of};
 
-pub use section_costs::{additions_of, selections_of};
 use numbers::{number, wide};
+pub use section_costs::{additions_of, selections_of};
 use text::put_line;
 
 fn edges_entering(sizes: &[u16], n: usize, t: usize) -> usize

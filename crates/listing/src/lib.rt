@@ -10,12 +10,12 @@ ghost use Rattle.text_buffer.specs.Listing.{left, listing};
 ghost use Rattle.listing.specs.Inner.Made.{text_from, TextMade};
 
 pub use answers::listing::{Listed, outcome};
-pub use text_buffer::put_whole;
 use answers::merge::Merged;
 use lines::put_sizes;
 use merging::ANY_SIZES;
 use numbers::wide;
 use refusal_line::put_refusal;
+pub use text_buffer::put_whole;
 use trellis::{MOST_BYTES, MOST_SYMBOLS, MOST_WORDS};
 
 // What is returned for input of any length over the bound.

@@ -15,8 +15,8 @@ ghost use Rattle.lowering.specs.Inner.Rows.{side};
 ghost use Rattle.passes.specs.Inner.Blocks.{BlockPassed};
 ghost use Rattle.passes.specs.Inner.Loops.{GoalsRanked, RootsAsked, RootsPut};
 
-pub use ranks::{cost_of, goal_of};
 use numbers::wide;
+pub use ranks::{cost_of, goal_of};
 use ranks::{note_of, ranked_left};
 use section_file::View;
 use trellis::{COSTS_A_BLOCK, MOST_WORDS};

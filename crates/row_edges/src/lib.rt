@@ -7,8 +7,8 @@ ghost use Rattle.trellis.specs.Layout.{joined_up};
 ghost use Rattle.trellis.specs.Inner.Write.{Wrote};
 ghost use Rattle.row_pieces.specs.Inner.Pieces.{step_pairs, step_symbols, PiecesAsked};
 
-pub use row_arcs::take_edges;
 use numbers::wide;
+pub use row_arcs::take_edges;
 use row_pieces::{put_pairs, put_symbols};
 use trellis::MOST_SYMBOLS;
 

@@ -20,7 +20,10 @@ use trellis::{MOST_BLOCKS, MOST_SECTIONS, MOST_WORDS};
 const ANY_TABLE: usize = 5 + 4 * 65535;
 
 // The longest input whose answer can depend on its last byte.
-pub const MOST_INPUT: usize = 3 + MOST_BLOCKS + (MOST_SECTIONS - 1) * (5 + 4 * MOST_WORDS) + ANY_TABLE;
+pub const MOST_INPUT: usize = 3
+    + MOST_BLOCKS
+    + (MOST_SECTIONS - 1) * (5 + 4 * MOST_WORDS)
+    + ANY_TABLE;
 
 // A buffer for a program that reads its input: what does not fit changes no answer.
 pub fn input_buffer() -> [u8; MOST_INPUT]

@@ -12,11 +12,11 @@ ghost use Rattle.section_file.specs.Inner.View.{Seen};
 ghost use Rattle.least_rows.specs.Inner.Rows.{rows_long};
 ghost use Rattle.one_step.specs.Inner.Loops.{Gone};
 
-pub use step_limits::NONE_ABOVE;
 use edge_search::edges_each;
 use least_rows::ROWS;
 use numbers::wide;
 use section_file::View;
+pub use step_limits::NONE_ABOVE;
 use step_limits::{keep_step, limit_of};
 use trellis::MOST_PATHS;
 
