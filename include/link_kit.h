@@ -1,4 +1,4 @@
-/* The link kit for C and C++ on x86-64, eight functions: link with liblink_kit.a, which `rt staticlib link_kit` writes. Table files, sections, frames,
+/* The link kit for C and C++ on x86-64, eight functions: link with liblink_kit.a, which `bash build archive` writes. Table files, sections, frames,
  * block sheets and outcomes are those of document 01, the customer's paper on tables, sections and outcomes, with what the requests of document 02
  * changed; docs/FORMATS.md says all of them, with a worked table. The outcome numbers are the LINK_ constants below.
  *
