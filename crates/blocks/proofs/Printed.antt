@@ -1,12 +1,9 @@
 -- Every sheet fits, so it stands whole at the front of the buffer. Bytes behind those that are read change nothing.
-use Rattle.std.proofs.Common.{◌≡◌, ℕ, ◌<◌, ◌≤◌, List, [], ◌++◌, length, take, drop, get_or, arith}
+use Rattle.std.proofs.Common.{◌≡◌, ℕ, ◌<◌, ◌≤◌, List, length, take, drop, get_or, arith}
 use Rattle.std.specs.Prelude.{Some, None, Ok, Err, OnOk, IfSome, All}
 use Rattle.std.specs.declared.option.Option.{Option}
 use Rattle.std.specs.declared.result.Result.{Result}
-use Rattle.std.specs.Option.{option_map}
 use Rattle.std.specs.Io.KnownBytes.{Appends}
-use Rattle.std.specs.Io.Take.{take_limit, take_inner, take_remaining}
-use Rattle.std.specs.declared.io.traits.Take.{Take}
 use Rattle.std.proofs.lemmas.Bool.{le-ltb}
 use Rattle.std.proofs.lemmas.List.{get_or_past}
 use Rattle.std.proofs.lemmas.List.Elements.{All-get_or, All-take}
@@ -69,21 +66,11 @@ front_enough input h =
     ∙ ap₂ take (ap (λ (m : Listing). get_or m.outcome.values 0 0) e) (ap (λ (m : Listing). m.text) e)
     ∙ take-append_seam (sheet_text input) (drop (length (sheet_text input)) buffer)
 
--- what a reader gives to its end or to the bound, and a writer then takes, is the text of all that the reader has
-text_written : {V E : Type 0} (known old new : Option (List ℕ)) (r : Result V E) (items bytes : List ℕ) → bytes ≡ sheet_text items
-    → IfSome (option_map (take most_input) known) (λ xs. items ≡ xs) → OnOk r (Appends old new bytes)
+-- a writer that takes the sheet of what a reader gave, to its end or to a full buffer, has the sheet of all that the reader has
+pub written : {V E : Type 0} (known old new : Option (List ℕ)) (r : Result V E) {room : ℕ} (read bytes : List ℕ) → room ≡ most_input
+    → bytes ≡ sheet_text read → IfSome known (λ xs. read ≡ take room xs) → OnOk r (Appends old new bytes)
     → OnOk r (IfSome known (λ input. AreBytes input → Appends old new (sheet_text input)))
-text_written known old new (Err e) items bytes put read wrote = tt
-text_written None old new (Ok v) items bytes put read wrote = tt
-text_written (Some input) old new (Ok v) items bytes put read wrote = λ h. subst (Appends old new) (put ∙ ap sheet_text read ∙ front_enough input h) wrote
-
-pub written : {R V E : Type 0} (remaining : R → Option (List ℕ)) {t : Take R} {input : R} {none items front bytes : List ℕ}
-    (old new : Option (List ℕ)) (r : Result V E) → take_limit t ≡ most_input → take_inner t ≡ input
-    → IfSome (take_remaining remaining t) (λ xs. items ≡ none ++ xs) → none ≡ [] → front ≡ items → bytes ≡ sheet_text front
-    → OnOk r (Appends old new bytes)
-    → OnOk r (IfSome (remaining input) (λ all. All (λ b. b < 256) all → Appends old new (sheet_text all)))
-written remaining {t} {input} {none} {items} {front} {bytes} old new r limit_is inner_is read none_is front_is put wrote =
-    let a = subst (λ k. IfSome (option_map (take k) (remaining t.inner)) (λ xs. items ≡ none ++ xs)) limit_is read in
-    let b = subst (λ i. IfSome (option_map (take most_input) (remaining i)) (λ xs. items ≡ none ++ xs)) inner_is a in
-    let c = subst (λ l. IfSome (option_map (take most_input) (remaining input)) (λ xs. items ≡ l ++ xs)) none_is b in
-    text_written (remaining input) old new r items bytes (put ∙ ap sheet_text front_is) c wrote
+written known old new (Err e) read bytes long put front wrote = tt
+written None old new (Ok v) read bytes long put front wrote = tt
+written (Some input) old new (Ok v) read bytes long put front wrote =
+    λ h. subst (Appends old new) (put ∙ ap sheet_text (front ∙ ap (λ n. take n input) long) ∙ front_enough input h) wrote

@@ -9,9 +9,9 @@ ghost use Rattle.std.specs.Io.KnownBytes.{Appends};
 ghost use Rattle.sheet_records.specs.Sheet.{sheet_text};
 
 use answers::listing::Listed;
+use filling::fill;
 use sheet::ANY_SHEET;
-use sheet_input::MOST_INPUT;
-use std::alloc::Global;
+use sheet_input::input_buffer;
 use std::io::{self, Read, Write};
 
 // Puts the sheet of `input`, or the line of its refusal, at the front of `text`, and returns how many bytes it has.
@@ -27,17 +27,17 @@ fn put_text(input: &[u8], text: &mut [u8; ANY_SHEET]) -> usize
 }
 
 // Reads the input of a block sheet, to its end or as far as it can matter, and writes the sheet or the line of its refusal.
-fn print_sheet<R: Read + Drop, W: Write>(alloc: Global, input: R, output: &mut W) -> io::Result<()>
+fn print_sheet<R: Read + Drop, W: Write>(mut input: R, output: &mut W) -> io::Result<()>
     ensures { OnOk result (IfSome (R.remaining input) (λ bytes. All (λ b. b < 256) bytes
         → Appends (W.contents output.old) (W.contents output.new) (sheet_text bytes))) }
 {
-    let mut front = Vec::new(alloc);
-    input.take(MOST_INPUT as u64).read_to_end(&mut front)?;
+    let mut front = input_buffer();
+    let read = fill(&mut input, &mut front)?;
     let mut text = [0u8; ANY_SHEET];
-    let length = put_text(&front, &mut text);
+    let length = put_text(&front[..read], &mut text);
     output.write_all(&text[..length])
 }
 
 fn main(rt: HostRuntime) -> io::Result<()> {
-    print_sheet(rt.alloc(), rt.stdin(), &mut rt.stdout())
+    print_sheet(rt.stdin(), &mut rt.stdout())
 }

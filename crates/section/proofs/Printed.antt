@@ -1,12 +1,9 @@
 -- Every text fits, so the listing stands whole at the front of the buffer. A file longer than the bound has the text of its front.
-use Rattle.std.proofs.Common.{◌≡◌, ℕ, ◌+◌, ◌<◌, ◌≤◌, List, [], ◌++◌, length, take, drop, get_or, arith}
+use Rattle.std.proofs.Common.{◌≡◌, ℕ, ◌+◌, ◌<◌, ◌≤◌, List, length, take, drop, get_or, arith}
 use Rattle.std.specs.Prelude.{Some, None, Ok, Err, OnOk, IfSome}
 use Rattle.std.specs.declared.option.Option.{Option}
 use Rattle.std.specs.declared.result.Result.{Result}
-use Rattle.std.specs.Option.{option_map}
 use Rattle.std.specs.Io.KnownBytes.{Appends}
-use Rattle.std.specs.Io.Take.{take_limit, take_inner, take_remaining}
-use Rattle.std.specs.declared.io.traits.Take.{Take}
 use Rattle.std.proofs.lemmas.Bool.{lt-ltb, le-ltb, ltb-true, ltb-false}
 use Rattle.std.proofs.lemmas.List.{take_all, length-take}
 use Rattle.std.proofs.Math.Seq.{take-append_seam}
@@ -58,20 +55,10 @@ front_enough file = go (ltb most_bytes (length file)) refl
         too_long (take 65536 file) (omega (arith, length-take 65536 file, h)) ∙ sym (too_long file h)
     go false e = ap text_of (take_all 65536 file (omega (arith, ltb-false most_bytes (length file) e)))
 
--- what a reader gives to its end or to the bound, and a writer then takes, is the text of all that the reader has
-text_written : {V E : Type 0} (known old new : Option (List ℕ)) (r : Result V E) (items bytes : List ℕ) → bytes ≡ text_of items
-    → IfSome (option_map (take 65536) known) (λ xs. items ≡ xs) → OnOk r (Appends old new bytes)
-    → OnOk r (IfSome known (λ file. Appends old new (text_of file)))
-text_written known old new (Err e) items bytes put read wrote = tt
-text_written None old new (Ok v) items bytes put read wrote = tt
-text_written (Some file) old new (Ok v) items bytes put read wrote = subst (Appends old new) (put ∙ ap text_of read ∙ front_enough file) wrote
-
-pub written : {R V E : Type 0} (remaining : R → Option (List ℕ)) {t : Take R} {input : R} {none items file bytes : List ℕ}
-    (old new : Option (List ℕ)) (r : Result V E) → take_limit t ≡ 65536 → take_inner t ≡ input
-    → IfSome (take_remaining remaining t) (λ xs. items ≡ none ++ xs) → none ≡ [] → file ≡ items → bytes ≡ text_of file
-    → OnOk r (Appends old new bytes) → OnOk r (IfSome (remaining input) (λ file. Appends old new (text_of file)))
-written remaining {t} {input} {none} {items} {file} {bytes} old new r limit_is inner_is read none_is file_is put wrote =
-    let a = subst (λ k. IfSome (option_map (take k) (remaining t.inner)) (λ xs. items ≡ none ++ xs)) limit_is read in
-    let b = subst (λ i. IfSome (option_map (take 65536) (remaining i)) (λ xs. items ≡ none ++ xs)) inner_is a in
-    let c = subst (λ l. IfSome (option_map (take 65536) (remaining input)) (λ xs. items ≡ l ++ xs)) none_is b in
-    text_written (remaining input) old new r items bytes (put ∙ ap text_of file_is) c wrote
+-- a writer that takes the text of what a reader gave, to its end or to a full buffer, has the text of all that the reader has
+pub written : {V E : Type 0} (known old new : Option (List ℕ)) (r : Result V E) {room : ℕ} (read bytes : List ℕ) → room ≡ 65536 → bytes ≡ text_of read
+    → IfSome known (λ xs. read ≡ take room xs) → OnOk r (Appends old new bytes) → OnOk r (IfSome known (λ file. Appends old new (text_of file)))
+written known old new (Err e) read bytes long put front wrote = tt
+written None old new (Ok v) read bytes long put front wrote = tt
+written (Some file) old new (Ok v) read bytes long put front wrote =
+    subst (Appends old new) (put ∙ ap text_of (front ∙ ap (λ n. take n file) long) ∙ front_enough file) wrote

@@ -9,13 +9,13 @@ ghost use Rattle.std.specs.Io.KnownBytes.{Appends};
 ghost use Rattle.lines.specs.Text.{text_of};
 
 use answers::listing::Listed;
+use filling::fill;
 use listing::ANY_TEXT;
-use std::alloc::Global;
 use std::io::{self, Read, Write};
 use trellis::MOST_BYTES;
 
 // One byte more than a table file may have: a file that long is refused for its length, however it goes on.
-const MOST_READ: u64 = MOST_BYTES as u64 + 1;
+const MOST_READ: usize = MOST_BYTES + 1;
 
 // Puts what is printed for `file` at the front of `text`, and returns how many bytes it has.
 fn put_text(file: &[u8], text: &mut [u8; ANY_TEXT]) -> usize
@@ -30,21 +30,17 @@ fn put_text(file: &[u8], text: &mut [u8; ANY_TEXT]) -> usize
 }
 
 // Reads a table file, to its end or as far as it can matter, and writes its listing or the line of its refusal.
-fn print_listing<R: Read + Drop, W: Write>(
-    alloc: Global,
-    input: R,
-    output: &mut W,
-) -> io::Result<()>
+fn print_listing<R: Read + Drop, W: Write>(mut input: R, output: &mut W) -> io::Result<()>
     ensures { OnOk result (IfSome (R.remaining input)
         (λ file. Appends (W.contents output.old) (W.contents output.new) (text_of file))) }
 {
-    let mut file = Vec::new(alloc);
-    input.take(MOST_READ).read_to_end(&mut file)?;
+    let mut file = [0u8; MOST_READ];
+    let read = fill(&mut input, &mut file)?;
     let mut text = [0u8; ANY_TEXT];
-    let length = put_text(&file, &mut text);
+    let length = put_text(&file[..read], &mut text);
     output.write_all(&text[..length])
 }
 
 fn main(rt: HostRuntime) -> io::Result<()> {
-    print_listing(rt.alloc(), rt.stdin(), &mut rt.stdout())
+    print_listing(rt.stdin(), &mut rt.stdout())
 }

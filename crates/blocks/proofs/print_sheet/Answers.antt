@@ -1,18 +1,18 @@
--- `blocks::print_sheet` writes the text of what it read, which is the text of all of the input.
+-- `blocks::print_sheet` writes the sheet of what it read, which is the sheet of all of the input.
+use Rattle.std.proofs.Common.{◌∙◌}
 use Rattle.blocks.proofs.Printed.{written}
 use Rattle.blocks.proofs.print_sheet.Goals as goal
 
 pub returns : goal.returns
 returns g c =
     written
-    g.R.Read.remaining
+    _
     _
     _
     c.write_all.result
-    c.take.ensures.limit
-    c.take.ensures.inner
-    c.in_ok-read_to_end.ensures.bytes
-    c.new-front.ensures.items
-    c.deref.ensures.value
+    _
+    _
+    (c.fill.auto.buffer ∙ c.input_buffer-front.ensures)
     c.put_text-length.ensures.text
+    c.in_ok-read.ensures.front
     c.write_all.ensures.bytes
