@@ -140,7 +140,9 @@ fn first_not_above(file: &[u8]) -> u16
     i
 }
 
-// Checks 1 to 4, each over the whole file before the next begins.
+// Checks 1 to 4, each over the whole file before the next begins. It is not inlined: clang, where these checks stand in front of large arrays
+// in one function, makes the frame behind the first of them, and loses the answer's case in the loop that touches the frame's pages.
+#[inline(never)]
 pub fn check(file: &[u8]) -> Checked
     ensures { checked_outcome result ≡ file_outcome (table_file file.now) }
 {

@@ -45,7 +45,9 @@ pub fn marks(pairs: &[u16], symbols: &[u16], count: usize, back: bool) -> [u8; M
     marks
 }
 
-// Whether an edge starts from each vertex.
+// Whether an edge starts from each vertex. It is not inlined, and neither is `without_twins`, so that their arrays do not stand on the stack
+// side by side.
+#[inline(never)]
 pub fn covers(pairs: &[u16], symbols: &[u16], count: usize, back: bool, vertices: usize) -> bool
     requires { EdgesSmall pairs.now symbols.now count × (vertices ≤ most_words) }
     ensures { result ≡ covered (λ k. (turned_in back pairs.now symbols.now k).from) count vertices }
@@ -74,6 +76,7 @@ fn differs(seen: u16, vertex: usize) -> bool
 
 // Whether edges that share a symbol and the vertex that they start from share the vertex where they end. The array has a place for each
 // vertex and symbol, with the vertex that was seen at the other end.
+#[inline(never)]
 fn without_twins(pairs: &[u16], symbols: &[u16], count: usize, back: bool) -> bool
     requires { EdgesSmall pairs.now symbols.now count }
     ensures { result ≡ no_twins_of (turned_in back pairs.now symbols.now) count }
