@@ -4,15 +4,15 @@ use Rattle.trellis.specs.Outcome.{bad_section, bad_block, short_buffer, no_path,
 use Rattle.answers.specs.declared.merge.Merged.{Merged}
 use Rattle.answers.specs.declared.merge.Merged.TheVariants as merge
 use Rattle.answers.specs.declared.merge_rows.MergedRows.{MergedRows}
-use Rattle.answers.specs.declared.merge_rows.MergedRows.TheVariants as merge-rows
+use Rattle.answers.specs.declared.merge_rows.MergedRows.TheVariants as merge_rows
 use Rattle.answers.specs.declared.read_back.ReadBack.{ReadBack}
 use Rattle.answers.specs.declared.read_back.ReadBack.TheVariants as read_back
 use Rattle.answers.specs.declared.same_section.SameSection.{SameSection}
-use Rattle.answers.specs.declared.same_section.SameSection.TheVariants as same-section
+use Rattle.answers.specs.declared.same_section.SameSection.TheVariants as same_section
 use Rattle.answers.specs.declared.decode.Decoded.{Decoded}
 use Rattle.answers.specs.declared.decode.Decoded.TheVariants as decode
 use Rattle.answers.specs.declared.decode_list.DecodedList.{DecodedList}
-use Rattle.answers.specs.declared.decode_list.DecodedList.TheVariants as decode-list
+use Rattle.answers.specs.declared.decode_list.DecodedList.TheVariants as decode_list
 use Rattle.answers.specs.declared.listing.Listed.{Listed}
 use Rattle.answers.specs.declared.listing.Listed.TheVariants as listing
 
@@ -29,12 +29,12 @@ merged_outcome (merge.ShortSection needed) = short_section needed
 
 -- merging generator rows
 abbrev pub merged_rows_outcome : MergedRows → Outcome
-merged_rows_outcome (merge-rows.Section section_length) = success section_length
-merged_rows_outcome (merge-rows.Rows count_or_row) = bad_rows count_or_row
-merged_rows_outcome (merge-rows.Dependent row) = dependent_row row
-merged_rows_outcome (merge-rows.ShortFile needed) = short_buffer needed
-merged_rows_outcome (merge-rows.ShortMap needed) = short_map needed
-merged_rows_outcome (merge-rows.ShortSection needed) = short_section needed
+merged_rows_outcome (merge_rows.Section section_length) = success section_length
+merged_rows_outcome (merge_rows.Rows count_or_row) = bad_rows count_or_row
+merged_rows_outcome (merge_rows.Dependent row) = dependent_row row
+merged_rows_outcome (merge_rows.ShortFile needed) = short_buffer needed
+merged_rows_outcome (merge_rows.ShortMap needed) = short_map needed
+merged_rows_outcome (merge_rows.ShortSection needed) = short_section needed
 
 -- reading a section back
 abbrev pub read_back_outcome : ReadBack → Outcome
@@ -45,9 +45,9 @@ read_back_outcome (read_back.Short needed) = short_buffer needed
 
 -- comparing two sections
 abbrev pub same_section_outcome : SameSection → Outcome
-same_section_outcome same-section.Same = success 1
-same_section_outcome same-section.Different = success 0
-same_section_outcome (same-section.Unusable which) = bad_section which
+same_section_outcome same_section.Same = success 1
+same_section_outcome same_section.Different = success 0
+same_section_outcome (same_section.Unusable which) = bad_section which
 
 -- decoding a chain
 abbrev pub decoded_outcome : Decoded → Outcome
@@ -59,12 +59,12 @@ decoded_outcome decode.NoPath = no_path
 
 -- listing the best paths of a chain
 abbrev pub decoded_list_outcome : DecodedList → Outcome
-decoded_list_outcome (decode-list.Paths count) = success count
-decoded_list_outcome (decode-list.Section index) = bad_section index
-decoded_list_outcome (decode-list.Block index) = bad_block index
-decoded_list_outcome (decode-list.Short needed) = short_buffer needed
-decoded_list_outcome decode-list.NoPath = no_path
-decoded_list_outcome (decode-list.Count paths) = bad_path_count paths
+decoded_list_outcome (decode_list.Paths count) = success count
+decoded_list_outcome (decode_list.Section index) = bad_section index
+decoded_list_outcome (decode_list.Block index) = bad_block index
+decoded_list_outcome (decode_list.Short needed) = short_buffer needed
+decoded_list_outcome decode_list.NoPath = no_path
+decoded_list_outcome (decode_list.Count paths) = bad_path_count paths
 
 -- a text in a lent buffer
 abbrev pub listed_outcome : Listed → Outcome

@@ -7,6 +7,7 @@ ghost use Rattle.trellis.specs.Bounds.{most_symbols};
 ghost use Rattle.paths.specs.Inner.Ranked.{distance_unit, top_rank, PriceRoom};
 ghost use Rattle.block.specs.Inner.Prices.{Prices};
 
+pub use masks::put_masks;
 use paths::{DISTANCE_UNIT, LABEL_UNIT};
 use received::bit_at;
 pub use received::fits;

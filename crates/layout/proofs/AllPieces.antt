@@ -14,7 +14,7 @@ use Rattle.trellis.specs.Layout.{joined_up, pair_of, symbol_of}
 use Rattle.trellis.specs.Inner.Write.{Wrote}
 use Rattle.trellis.proofs.Lists.{length_run, run_at, length_two, flat_map_map}
 use Rattle.trellis.proofs.Write.{wrote_none, wrote_then, wrote_length, wrote_at}
-use Rattle.trellis.proofs.Joined.{lengths_before, lengths_suc, lengths_le, joined_length, joined_at as joined-place}
+use Rattle.trellis.proofs.Joined.{lengths_before, lengths_suc, lengths_le, joined_length, joined_at as joined_place}
 use Rattle.takers.specs.Inner.Takers.{row_edge, leads_higher, takers}
 use Rattle.takers.proofs.Steps.{rows_fit}
 use Rattle.takers.specs.Inner.Pieces.{SmallMap, map_edge, step_takers, step_list, AllTaken, Taken, part, pairs_of, symbols_of, WordsAt}
@@ -30,7 +30,7 @@ joined_rise f t n h =
     omega (arith, w, lengths_suc f t, joined_length f t, joined_length f n)
 
 joined_at : (f : ℕ → List ℕ) (t n k : ℕ) → t < n → k < length (f t) → get_or (joined_up f n) (length (joined_up f t) + k) 0 ≡ get_or (f t) k 0
-joined_at f t n k h l = ap (λ m. get_or (joined_up f n) (m + k) 0) (joined_length f t) ∙ joined-place f n t k 0 h l
+joined_at f t n k h l = ap (λ m. get_or (joined_up f n) (m + k) 0) (joined_length f t) ∙ joined_place f n t k 0 h l
 
 -- what take_edges leaves is what the arrays need
 pub taken_all : {m labels : List ℕ} {n total : ℕ} {old words counts : List ℕ} → AllTaken m labels n old words total counts

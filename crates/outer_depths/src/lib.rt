@@ -10,7 +10,7 @@ use layout::states;
 use trellis::{MOST_STATES, MOST_SYMBOLS};
 
 // What is known of an outer depth: its states as marks, and how many there are.
-#[derive(Drop)]
+#[derive(Clone, Copy)]
 pub struct OuterDepth {
     pub marks: [u8; MOST_STATES],
     pub count: u16,
@@ -30,7 +30,7 @@ fn put_depth(words: &[u8], map: &mut [u16], place: usize) -> OuterDepth
 }
 
 // Both outer depths, and the vertex counts of all depths.
-#[derive(Drop)]
+#[derive(Clone, Copy)]
 pub struct Outer {
     pub roots: [u8; MOST_STATES],
     pub goals: [u8; MOST_STATES],

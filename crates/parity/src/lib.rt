@@ -86,7 +86,7 @@ fn take_up(columns: &mut [u16; ROW_BITS], z: u16)
 }
 
 // A parity check, and the first row that is a sum of those before it, or the number of rows where none is.
-#[derive(Drop)]
+#[derive(Clone, Copy)]
 pub struct Parity {
     pub columns: [u16; ROW_BITS],
     pub first: usize,

@@ -13,7 +13,7 @@ pub use file_words::word_at;
 use file_words::{found_at, place_after, word_of};
 
 // The lent bytes and the index of the next word.
-#[derive(Drop)]
+#[derive(Clone, Copy)]
 pub struct Reader<'a> {
     pub file: &'a [u8],
     pub at: u16,

@@ -17,7 +17,7 @@ fn counted(count: usize, x: u16, y: u16) -> usize
 }
 
 // The reduced rows of a check, by ascending pivot, and how many they are.
-#[derive(Drop)]
+#[derive(Clone, Copy)]
 pub struct Rows {
     pub rows: [u16; ROW_BITS],
     pub count: usize,

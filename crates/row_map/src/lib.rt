@@ -11,7 +11,7 @@ use parity::ROW_BITS;
 use trellis::MOST_SYMBOLS;
 
 // The dimensions of the inner depths.
-#[derive(Drop)]
+#[derive(Clone, Copy)]
 struct Dims {
     dims: [usize; MOST_SYMBOLS + 1],
 }
@@ -60,7 +60,7 @@ fn counts_of(dims: &[usize; MOST_SYMBOLS + 1]) -> [u16; MOST_SYMBOLS + 1]
 }
 
 // What is known of the depths: their dimensions, how many vertices they have, and the states of the outer ones.
-#[derive(Drop)]
+#[derive(Clone, Copy)]
 pub struct Depths {
     pub dims: [usize; MOST_SYMBOLS + 1],
     pub counts: [u16; MOST_SYMBOLS + 1],

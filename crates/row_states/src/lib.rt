@@ -83,7 +83,7 @@ fn ranks_of(values: &[u16], keys: &[u16]) -> [u16; ROW_BITS]
 }
 
 // The states that occur, in ascending order, 2 to the dimension of them.
-#[derive(Drop)]
+#[derive(Clone, Copy)]
 pub struct Outer {
     pub keys: [u16; ROW_BITS],
     pub dim: usize,

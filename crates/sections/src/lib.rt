@@ -15,7 +15,7 @@ use usable::Part;
 
 // Whether there is a fault 8, with the number that document 01 returns; if there is none, the places where the K sections and what is
 // behind them begin, and their views.
-#[derive(Drop)]
+#[derive(Clone, Copy)]
 pub struct Found {
     pub bad: bool,
     pub index: usize,

@@ -65,7 +65,7 @@ fn measure(file: &[u8]) -> Table
 }
 
 // The first fault of the input, or number 0 and both costs of each section.
-#[derive(Drop)]
+#[derive(Clone, Copy)]
 pub struct Input {
     pub refusal: Returned,
     pub additions: [u32; MOST_SECTIONS],

@@ -10,7 +10,7 @@ use records::BlockRecord;
 use trellis::{MOST_BLOCKS, MOST_SECTIONS};
 
 // The records of the blocks, in front; the places behind them are not used.
-#[derive(Drop)]
+#[derive(Clone, Copy)]
 pub struct Records {
     pub items: [BlockRecord; MOST_BLOCKS],
 }

@@ -90,7 +90,7 @@ pub fn take_step(
 }
 
 // The first words of all steps' edges, and how many edges each step has.
-#[derive(Drop)]
+#[derive(Clone, Copy)]
 pub struct Edges {
     pub total: usize,
     pub counts: [u16; MOST_SYMBOLS],

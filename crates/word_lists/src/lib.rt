@@ -11,7 +11,7 @@ use numbers::wide;
 use trellis::MOST_WORDS;
 
 // The words of a file, in front of three arrays.
-#[derive(Drop)]
+#[derive(Clone, Copy)]
 pub struct Lists {
     pub roots: [u8; MOST_WORDS],
     pub labels: [u16; MOST_WORDS],
