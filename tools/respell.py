@@ -1,7 +1,7 @@
 #!/usr/bin/env python3
 """Spells this repository's own definitions, fields, variables and lemmas as today's library does: words in snake case, modules in camel case.
 
-usage: python3 tools/respell.py            at the top of the repository, once, after /opt/rattle/port/port.py and with everything committed
+usage: python3 tools/respell.py            at the top of the repository, once, after the kit's port.py and with everything committed
 
 camelCase names become snake_case wherever they stand in specs, proofs, clauses, comments and must-fail edits. Lemmas with dashes get underscores; names
 of the kit's libraries, of goals and of steps keep theirs. A lemma that would get the name of a definition which stands in one of its files is called

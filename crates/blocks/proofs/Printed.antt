@@ -1,10 +1,9 @@
--- Every sheet fits, so it stands whole at the front of the buffer. Bytes behind those that are read change nothing.
+-- Every sheet fits, so it stands whole at the front of the buffer, and bytes behind those that are read change nothing.
 use Rattle.std.proofs.Common.{◌≡◌, ℕ, ◌<◌, ◌≤◌, List, length, take, drop, get_or, arith}
 use Rattle.std.specs.Prelude.{Some, None, Ok, Err, OnOk, IfSome, All}
 use Rattle.std.specs.declared.option.Option.{Option}
 use Rattle.std.specs.declared.result.Result.{Result}
 use Rattle.std.specs.Io.KnownBytes.{Appends}
-use Rattle.std.proofs.lemmas.Bool.{le-ltb}
 use Rattle.std.proofs.lemmas.List.{get_or_past}
 use Rattle.std.proofs.lemmas.List.Elements.{All-get_or, All-take}
 use Rattle.std.proofs.Math.Seq.{take-append_seam}
@@ -12,12 +11,9 @@ use lib.ListN.{replicate, length-replicate}
 use native.Mathlib.Decide.{dec_lt}
 use mathlib.Core.Path.{sym, ap, ap₂, subst, ◌∙◌}
 use Rattle.trellis.specs.Lists.{over}
-use Rattle.trellis.specs.Outcome.{success, short_buffer}
-use Rattle.answers.specs.Answers.{listed_outcome}
-use Rattle.answers.specs.declared.listing.Listed.{Listed}
-use Rattle.answers.specs.declared.listing.Listed.TheVariants.{Text, Short}
-use Rattle.text_buffer.specs.Listing.{Listing, left, in_buffer}
-use Rattle.text_buffer.proofs.Buffer.{leaves}
+use Rattle.trellis.specs.Outcome.{success}
+use Rattle.text_buffer.specs.Listing.{Listing, left}
+use Rattle.text_buffer.proofs.Buffer.{whole_left}
 use Rattle.input_parts.specs.Input.{most_input}
 use Rattle.sheet_records.specs.Sheet.{sheet_text, sheet}
 use Rattle.sheet_records.specs.Inner.Made.{any_sheet}
@@ -34,24 +30,10 @@ byte_at input h i = go (dec_lt i (length input))
     go (yes l) = All-get_or (λ b. b < 256) input i 0 l h
     go (no l) = let past : get_or input i 0 ≡ 0 = get_or_past input i 0 (omega arith) in omega (arith, past)
 
-module _ (input old : List ℕ) (bytes : (i : ℕ) → get_or input i 0 < 256) (room : any_sheet ≤ length old) where
-  whole : sheet input old ≡ left (success (length (sheet_text input))) (over (sheet_text input) old)
-  unfolding sheet in_buffer
-  whole = ap (leaves (sheet_text input) old) (le-ltb (length old) (length (sheet_text input)) (omega (arith, text_short input bytes, room)))
-
-  module _ {new : List ℕ} {r : Listed} {k : ℕ} (e : left (listed_outcome r) new ≡ sheet input old) where
-    pub put_whole : r ≡ Text k → take k new ≡ sheet_text input
-    put_whole f =
-        let l : left (success k) new ≡ left (success (length (sheet_text input))) (over (sheet_text input) old)
-        = ap (λ x. left (listed_outcome x) new) (sym f) ∙ e ∙ whole in
-        ap₂ take (ap (λ (m : Listing). get_or m.outcome.values 0 0) l) (ap (λ (m : Listing). m.text) l)
-        ∙ take-append_seam (sheet_text input) (drop (length (sheet_text input)) old)
-
-    pub never_short : r ≡ Short k → ⊥
-    never_short f =
-        let l : left (short_buffer k) new ≡ left (success (length (sheet_text input))) (over (sheet_text input) old)
-        = ap (λ x. left (listed_outcome x) new) (sym f) ∙ e ∙ whole in
-        absurd (omega (arith, ap (λ (m : Listing). m.outcome.number) l))
+whole : (input old : List ℕ) → ((i : ℕ) → get_or input i 0 < 256) → any_sheet ≤ length old
+    → sheet input old ≡ left (success (length (sheet_text input))) (over (sheet_text input) old)
+unfolding sheet
+whole input old bytes room = whole_left (sheet_text input) old (omega (arith, text_short input bytes))
 
 -- the bytes behind the first `most_input` change nothing
 front_enough : (input : List ℕ) → AreBytes input → sheet_text (take most_input input) ≡ sheet_text input

@@ -1,12 +1,17 @@
 -- A text that fits is put whole, and one that does not is left out.
-use mathlib.Core.Path.{◌≡◌, sym, ap, ◌∙◌}
+use mathlib.Core.Path.{◌≡◌, sym, ap, ap₂, ◌∙◌}
 use mathlib.Core.List.{List}
 use mathlib.Core.Bool.{Bool, cond}
 use Prim.Native.Nat.{ℕ, ◌<◌, ◌≤◌}
-use lib.ListN.{length}
+use lib.ListN.{length, take, drop, get_or}
+use lib.Seq.{take-append_seam}
+use native.Mathlib.Omega.{arith}
 use borrow.Author.Tests.{lt-ltb, le-ltb}
 use Rattle.trellis.specs.Outcome.{success, short_buffer}
 use Rattle.trellis.specs.Lists.{over}
+use Rattle.answers.specs.Answers.{listed_outcome}
+use Rattle.answers.specs.declared.listing.Listed.{Listed}
+use Rattle.answers.specs.declared.listing.Listed.TheVariants.{Text, Short}
 use Rattle.text.specs.Inner.Put.{Put}
 use Rattle.text.proofs.Putting.{front_put}
 use Rattle.text_buffer.specs.Listing.{left, in_buffer, Listing}
@@ -25,4 +30,22 @@ unfolding in_buffer
 whole_put made text h p =
     ap (λ t. left (success (length made)) t) (front_put p h) ∙ sym (ap (leaves made text) (le-ltb (length text) (length made) h))
 
--- a text made at the front of a buffer that has room for it is there whole
+-- a text that fits is left whole at the front of the buffer, and not answered as too long
+module _ (made old : List ℕ) (fits : length made ≤ length old) where
+  pub whole_left : in_buffer made old ≡ left (success (length made)) (over made old)
+  unfolding in_buffer
+  whole_left = ap (leaves made old) (le-ltb (length old) (length made) fits)
+
+  module _ {new : List ℕ} {r : Listed} {k : ℕ} (e : left (listed_outcome r) new ≡ in_buffer made old) where
+    pub whole_front : r ≡ Text k → take k new ≡ made
+    whole_front f =
+        let l : left (success k) new ≡ left (success (length made)) (over made old)
+        = ap (λ x. left (listed_outcome x) new) (sym f) ∙ e ∙ whole_left in
+        ap₂ take (ap (λ (m : Listing). get_or m.outcome.values 0 0) l) (ap (λ (m : Listing). m.text) l)
+        ∙ take-append_seam made (drop (length made) old)
+
+    pub never_short : r ≡ Short k → ⊥
+    never_short f =
+        let l : left (short_buffer k) new ≡ left (success (length made)) (over made old)
+        = ap (λ x. left (listed_outcome x) new) (sym f) ∙ e ∙ whole_left in
+        absurd (omega (arith, ap (λ (m : Listing). m.outcome.number) l))
