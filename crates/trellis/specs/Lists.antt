@@ -1,6 +1,6 @@
 -- Lists as the other definitions use them: membership, lists without repeats, ascending lists, places and counts.
 -- Everything here computes.
-use Rattle.std.specs.Prelude.{◌≡◌, Bool, true, false, cond, ◌||◌, ◌&&◌, ℕ, zero, suc, ◌+◌, ◌<◌, leb, ltb, eqb, length, drop}
+use Rattle.std.specs.Prelude.{◌≡◌, Bool, true, false, cond, ◌||◌, ◌&&◌, ℕ, zero, suc, ◌+◌, ◌<◌, leb, ltb, eqb, length, drop, Option, Some, None}
 use mathlib.Core.List.{List, [], ◌∷◌, ◌++◌, Memᴰ}
 
 -- x stands in the list: the library's membership under a shorter name
@@ -35,6 +35,10 @@ sum f at (suc count) = f at + sum f (suc at) count
 unfoldable pub first : (ℕ → Bool) → ℕ → ℕ
 first test zero = 0
 first test (suc m) = cond (test 0) 0 (suc (first (λ i. test (suc i)) m))
+
+-- what a search below m came to: the number, or none where it came to m
+abbrev pub found_below : ℕ → ℕ → Option ℕ
+found_below m i = cond (ltb i m) (Some i) None
 
 -- the test passes at every number below count, at some number below count
 unfoldable pub all : (ℕ → Bool) → ℕ → Bool
