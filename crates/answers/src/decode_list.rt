@@ -1,13 +1,12 @@
 // Listing the best paths of a chain.
-ghost use Rattle.outcomes.specs.Inner.Holds.{Holds};
 ghost use Rattle.answers.specs.Answers.{decoded_list_outcome};
 
+use crate::Answer;
 use outcomes::{Returned, no_value, one_value};
 
-// How many paths are listed, or why there are none. A variant for a refusal has the number that is returned with it.
-#[derive(Clone, Copy)]
-pub enum DecodedList {
-    Paths(usize),
+// A refusal, with the numbers that document 02 returns with it.
+#[derive(Clone, Copy, PartialEq, Eq)]
+pub enum DecodeListRefusal {
     Section(usize),
     Block(usize),
     Short(usize),
@@ -15,16 +14,20 @@ pub enum DecodedList {
     Count(usize),
 }
 
-// The number and values of an answer.
-pub fn outcome(answer: DecodedList) -> Returned
-    ensures { Holds (decoded_list_outcome answer) result.number result.count result.values }
-{
-    match answer {
-        DecodedList::Paths(count) => one_value(0, count),
-        DecodedList::Section(index) => one_value(8, index),
-        DecodedList::Block(block) => one_value(9, block),
-        DecodedList::Short(needed) => one_value(10, needed),
-        DecodedList::NoPath => no_value(11),
-        DecodedList::Count(paths) => one_value(13, paths),
+// How many paths are listed, or why there are none.
+pub type DecodedList = Result<usize, DecodeListRefusal>;
+
+impl Answer for DecodedList {
+    ghost outcome = { decoded_list_outcome };
+
+    fn returned(self) -> Returned {
+        match self {
+            Ok(count) => one_value(0, count),
+            Err(DecodeListRefusal::Section(index)) => one_value(8, index),
+            Err(DecodeListRefusal::Block(block)) => one_value(9, block),
+            Err(DecodeListRefusal::Short(needed)) => one_value(10, needed),
+            Err(DecodeListRefusal::NoPath) => no_value(11),
+            Err(DecodeListRefusal::Count(paths)) => one_value(13, paths),
+        }
     }
 }

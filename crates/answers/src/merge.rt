@@ -1,14 +1,12 @@
 // Merging a table.
-ghost use Rattle.std.specs.Prelude.{length};
-ghost use Rattle.outcomes.specs.Inner.Holds.{Holds};
 ghost use Rattle.answers.specs.Answers.{merged_outcome};
 
+use crate::Answer;
 use outcomes::{Returned, four_values, one_value};
 
-// The section's length, or why there is none. A variant for a refusal has the numbers that document 01 returns with it.
-#[derive(Clone, Copy)]
-pub enum Merged {
-    Section(usize),
+// A refusal, with the numbers that document 01 returns with it.
+#[derive(Clone, Copy, PartialEq, Eq)]
+pub enum MergeRefusal {
     Length(usize),
     Size(usize),
     Word(usize),
@@ -18,18 +16,22 @@ pub enum Merged {
     ShortSection(usize),
 }
 
-// Document 01's number and values of an answer.
-pub fn outcome(answer: Merged) -> Returned
-    ensures { Holds (merged_outcome answer) result.number result.count result.values }
-{
-    match answer {
-        Merged::Section(length) => one_value(0, length),
-        Merged::Length(length) => one_value(1, length),
-        Merged::Size(place) => one_value(2, place),
-        Merged::Word(index) => one_value(3, index),
-        Merged::Order(index) => one_value(4, index),
-        Merged::ShortMap(needed) => one_value(5, needed),
-        Merged::NotRectangular(depth, i, j, k) => four_values(6, depth, i, j, k),
-        Merged::ShortSection(needed) => one_value(7, needed),
+// The section's length, or why there is none.
+pub type Merged = Result<usize, MergeRefusal>;
+
+impl Answer for Merged {
+    ghost outcome = { merged_outcome };
+
+    fn returned(self) -> Returned {
+        match self {
+            Ok(length) => one_value(0, length),
+            Err(MergeRefusal::Length(length)) => one_value(1, length),
+            Err(MergeRefusal::Size(place)) => one_value(2, place),
+            Err(MergeRefusal::Word(index)) => one_value(3, index),
+            Err(MergeRefusal::Order(index)) => one_value(4, index),
+            Err(MergeRefusal::ShortMap(needed)) => one_value(5, needed),
+            Err(MergeRefusal::NotRectangular(depth, i, j, k)) => four_values(6, depth, i, j, k),
+            Err(MergeRefusal::ShortSection(needed)) => one_value(7, needed),
+        }
     }
 }

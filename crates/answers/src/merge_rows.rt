@@ -1,14 +1,12 @@
 // Merging generator rows.
-ghost use Rattle.std.specs.Prelude.{length};
-ghost use Rattle.outcomes.specs.Inner.Holds.{Holds};
 ghost use Rattle.answers.specs.Answers.{merged_rows_outcome};
 
+use crate::Answer;
 use outcomes::{Returned, one_value};
 
-// The section's length, or why there is none. A variant for a refusal has the number that document 02 returns with it.
-#[derive(Clone, Copy)]
-pub enum MergedRows {
-    Section(usize),
+// A refusal, with the numbers that document 02 returns with it.
+#[derive(Clone, Copy, PartialEq, Eq)]
+pub enum MergeRowsRefusal {
     Rows(usize),
     Dependent(usize),
     ShortFile(usize),
@@ -16,16 +14,20 @@ pub enum MergedRows {
     ShortSection(usize),
 }
 
-// Document 02's number and value of an answer.
-pub fn outcome(answer: MergedRows) -> Returned
-    ensures { Holds (merged_rows_outcome answer) result.number result.count result.values }
-{
-    match answer {
-        MergedRows::Section(length) => one_value(0, length),
-        MergedRows::Rows(count_or_row) => one_value(14, count_or_row),
-        MergedRows::Dependent(row) => one_value(15, row),
-        MergedRows::ShortFile(needed) => one_value(10, needed),
-        MergedRows::ShortMap(needed) => one_value(5, needed),
-        MergedRows::ShortSection(needed) => one_value(7, needed),
+// The section's length, or why there is none.
+pub type MergedRows = Result<usize, MergeRowsRefusal>;
+
+impl Answer for MergedRows {
+    ghost outcome = { merged_rows_outcome };
+
+    fn returned(self) -> Returned {
+        match self {
+            Ok(length) => one_value(0, length),
+            Err(MergeRowsRefusal::Rows(count_or_row)) => one_value(14, count_or_row),
+            Err(MergeRowsRefusal::Dependent(row)) => one_value(15, row),
+            Err(MergeRowsRefusal::ShortFile(needed)) => one_value(10, needed),
+            Err(MergeRowsRefusal::ShortMap(needed)) => one_value(5, needed),
+            Err(MergeRowsRefusal::ShortSection(needed)) => one_value(7, needed),
+        }
     }
 }

@@ -1,27 +1,29 @@
 // Reading a section back.
-ghost use Rattle.std.specs.Prelude.{length};
-ghost use Rattle.outcomes.specs.Inner.Holds.{Holds};
 ghost use Rattle.answers.specs.Answers.{read_back_outcome};
 
+use crate::Answer;
 use outcomes::{Returned, no_value, one_value};
 
-// The file's length, or why there is none.
-#[derive(Clone, Copy)]
-pub enum ReadBack {
-    File(usize),
+// A refusal, with the numbers that document 01 returns with it.
+#[derive(Clone, Copy, PartialEq, Eq)]
+pub enum ReadBackRefusal {
     Unusable,
     TooMany,
     Short(usize),
 }
 
-// Document 01's number and values of an answer.
-pub fn outcome(answer: ReadBack) -> Returned
-    ensures { Holds (read_back_outcome answer) result.number result.count result.values }
-{
-    match answer {
-        ReadBack::File(length) => one_value(0, length),
-        ReadBack::Unusable => one_value(8, 0),
-        ReadBack::TooMany => no_value(12),
-        ReadBack::Short(needed) => one_value(10, needed),
+// The file's length, or why there is none.
+pub type ReadBack = Result<usize, ReadBackRefusal>;
+
+impl Answer for ReadBack {
+    ghost outcome = { read_back_outcome };
+
+    fn returned(self) -> Returned {
+        match self {
+            Ok(length) => one_value(0, length),
+            Err(ReadBackRefusal::Unusable) => one_value(8, 0),
+            Err(ReadBackRefusal::TooMany) => no_value(12),
+            Err(ReadBackRefusal::Short(needed)) => one_value(10, needed),
+        }
     }
 }

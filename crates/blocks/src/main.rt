@@ -8,7 +8,7 @@ ghost use Rattle.std.specs.Prelude.{◌≡◌, ◌<◌, ◌≤◌, OnOk, IfSome,
 ghost use Rattle.std.specs.Io.KnownBytes.{Appends};
 ghost use Rattle.sheet_records.specs.Sheet.{sheet_text};
 
-use answers::listing::Listed;
+use answers::listing::ListingRefusal;
 use filling::fill;
 use sheet::ANY_SHEET;
 use sheet_input::input_buffer;
@@ -20,9 +20,9 @@ fn put_text(input: &[u8], text: &mut [u8; ANY_SHEET]) -> usize
     ensures text { take result text.new ≡ sheet_text input.now }
 {
     match sheet::block_sheet(input, text) {
-        Listed::Text(length) => length,
+        Ok(length) => length,
         // Every sheet fits.
-        Listed::Short(_) => unreachable!(),
+        Err(ListingRefusal::Short(_)) => unreachable!(),
     }
 }
 

@@ -28,5 +28,5 @@ pub fn decode_numbered(
     let answer = chain::decode(
         sections, k, indices, received, erased, start, end, costs, labels, goals, masks,
     );
-    outcomes::store(answers::decode::outcome(answer), values)
+    answers::store(answer, values)
 }

@@ -29,5 +29,5 @@ pub fn decode_list_numbered(
     let answer = chain_list::decode_list(
         sections, k, indices, received, erased, start, end, paths, costs, distances, labels, goals,
     );
-    outcomes::store(answers::decode_list::outcome(answer), values)
+    answers::store(answer, values)
 }

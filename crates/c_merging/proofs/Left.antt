@@ -4,7 +4,7 @@ use Prim.Native.Nat.{ℕ}
 use Rattle.outcomes.specs.Numbered.{Numbered}
 use Rattle.outcomes.proofs.Numbering.{numbered_by}
 use Rattle.answers.specs.Answers.{merged_outcome}
-use Rattle.answers.specs.declared.merge.Merged.{Merged}
+use Rattle.answers.specs.Answers.{Merged}
 use Rattle.merging.specs.Merging.{Ends, MergeLeft, Merging}
 
 pub merge_left :

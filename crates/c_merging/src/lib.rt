@@ -15,5 +15,5 @@ pub fn merge_numbered(
         map.new section.new values.new }
 {
     let answer = merge::merge(file, map, section);
-    outcomes::store(answers::merge::outcome(answer), values)
+    answers::store(answer, values)
 }

@@ -19,5 +19,5 @@ pub fn merge_rows_numbered(
         file.new map.new section.new values.new }
 {
     let answer = merge_rows::merge_rows(bits, n, rows, file, map, section);
-    outcomes::store(answers::merge_rows::outcome(answer), values)
+    answers::store(answer, values)
 }

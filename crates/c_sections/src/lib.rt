@@ -11,7 +11,7 @@ pub fn read_back_numbered(section: &[u16], file: &mut [u8], values: &mut [u32; 4
     ensures { ReadBackLeft (reading_back section.now file.old) result file.new values.new }
 {
     let answer = read_back::read_back(section, file);
-    outcomes::store(answers::read_back::outcome(answer), values)
+    answers::store(answer, values)
 }
 
 // Whether two lists of numbers are sections that differ only by the numbers of inner vertices: 1 or 0.
@@ -19,5 +19,5 @@ pub fn same_section_numbered(a: &[u16], b: &[u16], values: &mut [u32; 4]) -> u32
     ensures { Numbered (comparing a.now b.now) result values.new }
 {
     let answer = same_section::same_section(a, b);
-    outcomes::store(answers::same_section::outcome(answer), values)
+    answers::store(answer, values)
 }

@@ -10,7 +10,7 @@ pub fn listing_numbered(file: &[u8], text: &mut [u8], values: &mut [u32; 4]) -> 
     ensures { ListingLeft (listing file.now text.old) result text.new values.new }
 {
     let answer = listing::listing(file, text);
-    outcomes::store(answers::listing::outcome(answer), values)
+    answers::store(answer, values)
 }
 
 // Writes the block sheet of `input` into `text`.
@@ -18,5 +18,5 @@ pub fn block_sheet_numbered(input: &[u8], text: &mut [u8], values: &mut [u32; 4]
     ensures { ListingLeft (sheet input.now text.old) result text.new values.new }
 {
     let sheet = sheet::block_sheet(input, text);
-    outcomes::store(answers::listing::outcome(sheet), values)
+    answers::store(sheet, values)
 }

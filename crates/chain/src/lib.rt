@@ -9,7 +9,7 @@ ghost use Rattle.answers.specs.Answers.{decoded_outcome};
 ghost use Rattle.frame.specs.Frame.{frame};
 ghost use Rattle.decoding.specs.Decoding.{left, decoding};
 
-pub use answers::decode::{Decoded, outcome};
+pub use answers::decode::{DecodeRefusal, Decoded};
 pub use frame::{first_bad, frame_bad};
 use frame_decoding::decode_frame;
 
@@ -37,7 +37,7 @@ pub fn decode(
 {
     let found = sections::find(sections, k);
     if found.bad {
-        return Decoded::Section(found.index);
+        return Err(DecodeRefusal::Section(found.index));
     }
     let starts = found.starts;
     let views = found.views;

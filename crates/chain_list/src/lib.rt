@@ -10,7 +10,7 @@ ghost use Rattle.sections.specs.Inner.Found.{AllFound};
 ghost use Rattle.frame.specs.Frame.{frame};
 ghost use Rattle.path_list.specs.Listing.{left, framed, listing};
 
-pub use answers::decode_list::{DecodedList, outcome};
+pub use answers::decode_list::{DecodeListRefusal, DecodedList};
 use frame::{first_bad, frame_bad};
 use list_room::list_blocks;
 use section_file::View;
@@ -39,11 +39,11 @@ fn list_frame(
         costs.old distances.old labels.old goals.old }
 {
     if frame_bad(indices, received, erased, start, end) {
-        return DecodedList::Block(indices.len());
+        return Err(DecodeListRefusal::Block(indices.len()));
     }
     let bad = first_bad(views, k, indices, received, erased);
     if bad < indices.len() {
-        return DecodedList::Block(bad);
+        return Err(DecodeListRefusal::Block(bad));
     }
     list_blocks(
         sections, starts, views, indices, received, erased, start, end, paths, costs, distances,
@@ -76,7 +76,7 @@ pub fn decode_list(
 {
     let found = sections::find(sections, k);
     if found.bad {
-        return DecodedList::Section(found.index);
+        return Err(DecodeListRefusal::Section(found.index));
     }
     let starts = found.starts;
     let views = found.views;

@@ -10,7 +10,7 @@ ghost use Rattle.frame.specs.Inner.Checked.{Checked};
 ghost use Rattle.room.specs.Inner.Fitting.{RoomToDecode};
 ghost use Rattle.decoding.specs.Decoding.{left, fitted};
 
-use answers::decode::Decoded;
+use answers::decode::{DecodeRefusal, Decoded};
 use cost_table::{ends_in, fill};
 use numbers::widened;
 use passes::NO_PATH;
@@ -49,10 +49,10 @@ pub fn decode_with(
     let distance = to_pay[from];
     if distance == NO_PATH {
         settle(sections, starts, indices, ends, costs);
-        return Decoded::NoPath;
+        return Err(DecodeRefusal::NoPath);
     }
     follow(indices.len(), from, costs, labels, goals);
     masks::put_masks(received, erased, labels, masks);
     settle(sections, starts, indices, ends, costs);
-    Decoded::Distance(distance)
+    Ok(distance)
 }

@@ -9,7 +9,7 @@ ghost use Rattle.frame.specs.Frame.{frame};
 ghost use Rattle.frame.specs.Inner.Checked.{Checked};
 ghost use Rattle.decoding.specs.Decoding.{left, fitted, framed};
 
-use answers::decode::Decoded;
+use answers::decode::{DecodeRefusal, Decoded};
 use decoding::decode_with;
 use frame::{first_bad, frame_bad};
 use section_file::View;
@@ -43,7 +43,7 @@ fn decode_blocks(
         masks.len(),
     );
     if short > 0 {
-        return Decoded::Short(short);
+        return Err(DecodeRefusal::Short(short));
     }
     decode_with(
         sections, starts, views, indices, received, erased, start, end, costs, labels, goals, masks,
@@ -72,11 +72,11 @@ pub fn decode_frame(
         costs.old labels.old goals.old masks.old }
 {
     if frame_bad(indices, received, erased, start, end) {
-        return Decoded::Block(indices.len());
+        return Err(DecodeRefusal::Block(indices.len()));
     }
     let bad = first_bad(views, k, indices, received, erased);
     if bad < indices.len() {
-        return Decoded::Block(bad);
+        return Err(DecodeRefusal::Block(bad));
     }
     decode_blocks(
         sections, starts, views, indices, received, erased, start, end, costs, labels, goals, masks,

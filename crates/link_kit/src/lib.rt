@@ -15,13 +15,13 @@ ghost use Rattle.path_list.specs.Listing.{listing as path_listing, DecodeListLef
 ghost use Rattle.text_buffer.specs.Listing.{listing, ListingLeft};
 ghost use Rattle.sheet_records.specs.Sheet.{sheet};
 
-pub use answers::decode::Decoded;
-pub use answers::decode_list::DecodedList;
-pub use answers::listing::Listed;
-pub use answers::merge::Merged;
-pub use answers::merge_rows::MergedRows;
-pub use answers::read_back::ReadBack;
-pub use answers::same_section::SameSection;
+pub use answers::decode::{DecodeRefusal, Decoded};
+pub use answers::decode_list::{DecodeListRefusal, DecodedList};
+pub use answers::listing::{Listed, ListingRefusal};
+pub use answers::merge::{MergeRefusal, Merged};
+pub use answers::merge_rows::{MergeRowsRefusal, MergedRows};
+pub use answers::read_back::{ReadBack, ReadBackRefusal};
+pub use answers::same_section::{SameSection, SameSectionRefusal};
 pub use chain::decode;
 pub use chain_list::decode_list;
 pub use comparing::{Comparison, compare as compare_labels};

@@ -8,7 +8,7 @@ ghost use Rattle.frame.specs.Frame.{frame};
 ghost use Rattle.frame.specs.Inner.Checked.{Checked};
 ghost use Rattle.path_list.specs.Listing.{left, counted};
 
-use answers::decode_list::DecodedList;
+use answers::decode_list::{DecodeListRefusal, DecodedList};
 use numbers::is_within;
 use path_list::list_with;
 use section_file::View;
@@ -36,7 +36,7 @@ pub fn list_blocks(
         costs.old distances.old labels.old goals.old }
 {
     if !is_within(1, MOST_PATHS, paths) {
-        return DecodedList::Count(paths);
+        return Err(DecodeListRefusal::Count(paths));
     }
     let short = room::needed_to_list(
         indices.len(),
@@ -47,7 +47,7 @@ pub fn list_blocks(
         goals.len(),
     );
     if short > 0 {
-        return DecodedList::Short(short);
+        return Err(DecodeListRefusal::Short(short));
     }
     list_with(
         sections, starts, views, indices, received, erased, start, end, paths, costs, distances,

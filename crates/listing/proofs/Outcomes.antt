@@ -14,9 +14,9 @@ use Rattle.trellis.specs.Lists.{over}
 use Rattle.trellis.specs.Outcome.{bad_length, success}
 use Rattle.trellis.specs.Bounds.{most_bytes}
 use Rattle.answers.specs.Answers.{merged_outcome, listed_outcome}
-use Rattle.answers.specs.declared.merge.Merged.{Merged}
-use Rattle.answers.specs.declared.listing.Listed.{Listed}
-use Rattle.answers.specs.declared.listing.Listed.TheVariants.{Text}
+use Rattle.answers.specs.Answers.{Merged}
+use Rattle.answers.specs.Answers.{Listed}
+use Rattle.std.specs.Prelude.{Ok}
 use Rattle.fields.specs.Fields.{word_count}
 use Rattle.table.specs.File.{table_file}
 use Rattle.merging.specs.Merging.{merging}
@@ -71,7 +71,7 @@ listed file text M room e = e ∙ taken_whole M.put (omega (arith, M.short)) tex
 
 -- what callers know: a text that was written stands in the buffer
 pub written_inside : (made text : List ℕ) {new : List ℕ} {r : Listed} {k : ℕ}
-    → left (listed_outcome r) new ≡ in_buffer made text → r ≡ Text k → k ≤ length new
+    → left (listed_outcome r) new ≡ in_buffer made text → r ≡ Ok k → k ≤ length new
 unfolding in_buffer
 written_inside made text {new} {r} {k} e f =
     go (ltb (length text) (length made)) (ap (λ x. left (listed_outcome x) new) (sym f) ∙ e)
@@ -84,6 +84,6 @@ written_inside made text {new} {r} {k} e f =
         omega (arith, length-append made (drop (length made) text))
 
 pub listed_inside : (file text : List ℕ) {new : List ℕ} {r : Listed} {k : ℕ}
-    → left (listed_outcome r) new ≡ listing file text → r ≡ Text k → k ≤ length new
+    → left (listed_outcome r) new ≡ listing file text → r ≡ Ok k → k ≤ length new
 unfolding listing
 listed_inside file text e f = written_inside (text_of file) text e f

@@ -9,8 +9,9 @@ ghost use Rattle.text.specs.Inner.Put.{Put};
 ghost use Rattle.text_buffer.specs.Listing.{left, listing};
 ghost use Rattle.listing.specs.Inner.Made.{text_from, TextMade};
 
-pub use answers::listing::{Listed, outcome};
-use answers::merge::Merged;
+use answers::Answer;
+pub use answers::listing::{Listed, ListingRefusal};
+use answers::merge::{MergeRefusal, Merged};
 use lines::put_sizes;
 use merging::ANY_SIZES;
 use numbers::wide;
@@ -31,7 +32,7 @@ pub const ANY_TEXT: usize = 1024;
 fn put_answer(answer: Merged, words: usize, sizes: &[u16], text: &mut [u8]) -> usize
     ensures { Put text.old 0 (text_from words (merged_outcome answer) sizes.now) text.new result }
 {
-    let returned = answers::merge::outcome(answer);
+    let returned = answer.returned();
     if returned.number == 7 {
         return put_sizes(sizes, words, text);
     }
@@ -43,7 +44,7 @@ fn put_text(file: &[u8], text: &mut [u8]) -> usize
     ensures { TextMade file.now text.old text.new result }
 {
     if file.len() > MOST_BYTES {
-        return put_refusal(text, answers::merge::outcome(Merged::Length(TOO_LONG)));
+        return put_refusal(text, answers::merge::outcome(Err(MergeRefusal::Length(TOO_LONG))));
     }
     let mut map = [0u16; ANY_MAP];
     let mut sizes = [0u16; ANY_SIZES];

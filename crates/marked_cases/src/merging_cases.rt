@@ -1,6 +1,7 @@
 // The marked cases of merging, 1 to 6 and 9, and the round trip: what merging leaves is read back. And the bounds on words, states, n, q.
 ghost use Rattle.std.specs.Prelude.{◌+◌, ◌*◌, ◌≤◌, length};
 
+use answers::Answer;
 use crate::print::{put_buffer, put_bytes, put_outcome};
 use std::io;
 
@@ -13,7 +14,7 @@ fn run_case(
 ) -> io::Result<()> {
     rt.write_all(name)?;
     let answer = merge::merge(file, map, section);
-    put_outcome(rt, b"answer", answers::merge::outcome(answer))?;
+    put_outcome(rt, b"answer", answer.returned())?;
     put_buffer(rt, b"map", map)?;
     put_buffer(rt, b"section", section)
 }
@@ -28,7 +29,7 @@ fn read_again(
 ) -> io::Result<()> {
     merge::merge(file, map, section);
     let answer = read_back::read_back(section, again);
-    put_outcome(rt, b"read back", answers::read_back::outcome(answer))?;
+    put_outcome(rt, b"read back", answer.returned())?;
     put_bytes(rt, b"file", again)
 }
 
@@ -116,7 +117,7 @@ fn run_bound(rt: &impl Print, name: &[u8], file: &[u8]) -> io::Result<()> {
     let mut section = [0u16; 128];
     rt.write_all(name)?;
     let answer = merge::merge(file, &mut map, &mut section);
-    put_outcome(rt, b"answer", answers::merge::outcome(answer))
+    put_outcome(rt, b"answer", answer.returned())
 }
 
 fn low(x: usize) -> u8 {

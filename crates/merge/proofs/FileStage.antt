@@ -13,8 +13,9 @@ use Rattle.trellis.specs.Word.{Word, word, word_at, Table}
 use Rattle.trellis.specs.Outcome.{short_map}
 use Rattle.trellis.specs.Witness.{witness}
 use Rattle.trellis.proofs.Words.{word_in, word_eq}
-use Rattle.answers.specs.declared.merge.Merged.{Merged}
-use Rattle.answers.specs.declared.merge.Merged.TheVariants.{ShortMap}
+use Rattle.answers.specs.Answers.{Merged}
+use Rattle.answers.specs.declared.merge.MergeRefusal.TheVariants.{ShortMap}
+use Rattle.std.specs.Prelude.{Err}
 use Rattle.fields.specs.Fields.{file_words}
 use Rattle.table.specs.File.{accepted, table_file}
 use Rattle.table.specs.Inner.Good.{GoodFile}
@@ -47,7 +48,7 @@ module _ (file : List ℕ) {q n states count : ℕ}
   -- 5
   pub ends_map : (w : ℕ) (map section sizes : List ℕ) → w ≡ count → length map < w * (n + 1)
       → EndsSized (merged_table q n states (file_words file) map section) (sized_table q n states (file_words file) map sizes)
-      (ShortMap (w * (n + 1))) map section sizes
+      (Err (ShortMap (w * (n + 1)))) map section sizes
   unfolding merged_table sized_table
   ends_map w map section sizes e h =
       let short = lt-ltb (length map) (map_length n (file_words file)) (omega (arith, needed_is w e)) in

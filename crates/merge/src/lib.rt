@@ -11,46 +11,44 @@ ghost use Rattle.depths.specs.Inner.Words.{words};
 ghost use Rattle.merging.specs.Merging.{Ends, merging, merged_table};
 ghost use Rattle.merging.specs.Inner.Sizes.{any_sizes, sized_table, sizing, EndsSized, Measured};
 
-pub use answers::merge::{Merged, outcome};
+pub use answers::merge::{MergeRefusal, Merged};
 use merge_words::merge_words;
 pub use merging::ANY_SIZES;
-use numbers::wide;
+use table::Sizes;
 use word_lists::copy_words;
 
 // A file that checks 1 to 4 accept: refusal 5, or what its words come to.
 fn merge_table(
     file: &[u8],
-    q: u8,
-    n: u8,
-    states: u8,
-    count: u16,
+    stated: Sizes,
     map: &mut [u16],
     section: &mut [u16],
     sizes: &mut [u16],
 ) -> Merged
-    requires { ((table_file file.now ≡ accepted q n states (file_words file.now)) × (count ≡ length (file_words file.now)))
-        × (any_sizes ≤ length sizes.old) }
-    ensures { EndsSized (merged_table q n states (file_words file.now) map.old section.old)
-        (sized_table q n states (file_words file.now) map.old sizes.old) result
+    requires accepted { table_file file.now ≡ accepted stated.q stated.n stated.states (file_words file.now) }
+    requires counted { stated.words ≡ length (file_words file.now) }
+    requires room { any_sizes ≤ length sizes.old }
+    ensures { EndsSized (merged_table stated.q stated.n stated.states (file_words file.now) map.old section.old)
+        (sized_table stated.q stated.n stated.states (file_words file.now) map.old sizes.old) result
         map.new section.new sizes.new }
 {
-    let w = wide(count);
-    let steps = n as usize;
-    let needed = w * (steps + 1);
+    let w = stated.words as usize;
+    let n = stated.n as usize;
+    let needed = w * (n + 1);
     if map.len() < needed {
-        return Merged::ShortMap(needed);
+        return Err(MergeRefusal::ShortMap(needed));
     }
-    let lists = copy_words(file, count);
-    let roots = lists.roots;
-    let labels = lists.labels;
-    let goals = lists.goals;
+    let lists = copy_words(file, stated.words);
+    let roots = &lists.roots[..w];
+    let labels = &lists.labels[..w];
+    let goals = &lists.goals[..w];
     merge_words(
-        q,
-        steps,
-        states,
-        &roots[..w],
-        &labels[..w],
-        &goals[..w],
+        stated.q,
+        n,
+        stated.states,
+        roots,
+        labels,
+        goals,
         map,
         section,
         sizes,
@@ -64,18 +62,8 @@ fn merge_file(file: &[u8], map: &mut [u16], section: &mut [u16], sizes: &mut [u1
         (sizing file.now map.old sizes.old) result map.new section.new
         sizes.new }
 {
-    match table::check(file) {
-        table::Checked::Table {
-            q,
-            n,
-            states,
-            words,
-        } => { merge_table(file, q, n, states, words, map, section, sizes) }
-        table::Checked::Length(length) => Merged::Length(length),
-        table::Checked::Size(place) => Merged::Size(place),
-        table::Checked::Word(index) => Merged::Word(index),
-        table::Checked::Order(index) => Merged::Order(index),
-    }
+    let stated = table::check(file)?;
+    merge_table(file, stated, map, section, sizes)
 }
 
 // Merges the table in `file`: the vertex of each word at each depth into `map`, the section into `section`.

@@ -13,8 +13,9 @@ use Rattle.trellis.specs.Bounds.{most_symbols, most_state_bits}
 use Rattle.trellis.specs.Outcome.{bad_rows, dependent_row, short_buffer, short_map}
 use Rattle.trellis.proofs.Lists.{first_ok}
 use Rattle.answers.specs.Answers.{merged_rows_outcome}
-use Rattle.answers.specs.declared.merge_rows.MergedRows.{MergedRows}
-use Rattle.answers.specs.declared.merge_rows.MergedRows.TheVariants.{ShortFile, ShortMap}
+use Rattle.answers.specs.Answers.{MergedRows}
+use Rattle.answers.specs.declared.merge_rows.MergeRowsRefusal.TheVariants.{ShortFile, ShortMap}
+use Rattle.std.specs.Prelude.{Err}
 use Rattle.merging.specs.Merging.{map_length}
 use Rattle.rows.specs.Sums.{is_dependent, first_dependent}
 use Rattle.rows.specs.Table.{row_width, table_of, sizes_fit, first_wide}
@@ -51,12 +52,12 @@ module _ {s n : ℕ} {rows columns : List ℕ} (K : BaseAsked s n rows columns) 
       let p : w * (n + 1) ≤ 1024 * (most_symbols + 1) = mul-le-mul h q in omega arith
 
   module _ (file map section : List ℕ) where
-    pub short_file : length file < 5 + 4 * w → RowsEnd (merged_rows s n rows file map section) (ShortFile (5 + 4 * w)) file map section
+    pub short_file : length file < 5 + 4 * w → RowsEnd (merged_rows s n rows file map section) (Err (ShortFile (5 + 4 * w))) file map section
     short_file h = ends_by (by_file s n rows file map section (omega (arith, file_is_lem)))
         (record { answer_is = ap short_buffer (sym file_is_lem); file_is = refl; map_is = refl; section_is = refl })
 
     module _ (room : 5 + 4 * w ≤ length file) where
-      pub short_map_lem : length map < w * (n + 1) → RowsEnd (merged_rows s n rows file map section) (ShortMap (w * (n + 1))) file map section
+      pub short_map_lem : length map < w * (n + 1) → RowsEnd (merged_rows s n rows file map section) (Err (ShortMap (w * (n + 1)))) file map section
       short_map_lem h = ends_by (by_map s n rows file map section (omega (arith, file_is_lem)) (omega (arith, map_is_lem)))
           (record { answer_is = ap short_map (sym map_is_lem); file_is = refl; map_is = refl; section_is = refl })
 

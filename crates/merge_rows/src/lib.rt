@@ -9,7 +9,7 @@ ghost use Rattle.answers.specs.Answers.{merged_rows_outcome};
 ghost use Rattle.merging_rows.specs.MergingRows.{left, merged_rows, merging_rows};
 ghost use Rattle.merging_rows.specs.Inner.Stages.{BaseAsked, RowsEnd};
 
-pub use answers::merge_rows::{MergedRows, outcome};
+pub use answers::merge_rows::{MergeRowsRefusal, MergedRows};
 use merging_rows::build;
 use parity::ROW_BITS;
 use row_checks::{first_wide, sizes_fit, words_of};
@@ -31,11 +31,11 @@ fn build_with_room(
     let w = words_of(rows.len());
     let size = 5 + 4 * w;
     if file.len() < size {
-        return MergedRows::ShortFile(size);
+        return Err(MergeRowsRefusal::ShortFile(size));
     }
     let needed = w * (n + 1);
     if map.len() < needed {
-        return MergedRows::ShortMap(needed);
+        return Err(MergeRowsRefusal::ShortMap(needed));
     }
     build(columns, rows, w, bits, n, file, map, section)
 }
@@ -55,16 +55,16 @@ pub fn merge_rows(
 {
     let count = rows.len();
     if !sizes_fit(bits, n, count) {
-        return MergedRows::Rows(count);
+        return Err(MergeRowsRefusal::Rows(count));
     }
     let row = first_wide(rows, bits + n + bits);
     if row < count {
-        return MergedRows::Rows(row);
+        return Err(MergeRowsRefusal::Rows(row));
     }
     let check = parity::check(rows);
     let columns = check.columns;
     if check.first < count {
-        return MergedRows::Dependent(check.first);
+        return Err(MergeRowsRefusal::Dependent(check.first));
     }
     let reduced = reduced_rows::reduced(&columns);
     let base = reduced.rows;

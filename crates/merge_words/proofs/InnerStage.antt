@@ -13,7 +13,7 @@ use Rattle.trellis.proofs.Witness.{witness_none}
 use Rattle.trellis.specs.Lists.{over}
 use Rattle.trellis.proofs.Buffers.{over_same}
 use Rattle.answers.specs.Answers.{merged_outcome}
-use Rattle.answers.specs.declared.merge.Merged.{Merged}
+use Rattle.answers.specs.Answers.{Merged}
 use Rattle.depths.specs.Inner.Words.{words}
 use Rattle.depths.specs.Inner.Merge.{Inner, FirstRefused, InnerOutcome, InnerDone}
 use Rattle.depths.proofs.Words.{held_length}

@@ -18,8 +18,9 @@ use Rattle.trellis.specs.Lists.{over}
 use Rattle.trellis.specs.Outcome.{Outcome, success, short_section}
 use Rattle.trellis.specs.Own.{Edge}
 use Rattle.answers.specs.Answers.{merged_outcome}
-use Rattle.answers.specs.declared.merge.Merged.{Merged}
-use Rattle.answers.specs.declared.merge.Merged.TheVariants.{Section, ShortSection}
+use Rattle.answers.specs.Answers.{Merged}
+use Rattle.answers.specs.declared.merge.MergeRefusal.TheVariants.{ShortSection}
+use Rattle.std.specs.Prelude.{Ok, Err}
 use Rattle.depths.specs.Inner.Words.{words, Held}
 use Rattle.depths.proofs.Words.{held_length}
 use Rattle.takers.specs.Inner.Pieces.{SmallMap, map_edge, step_takers, AllTaken, Taken}
@@ -151,7 +152,7 @@ module _ {n : ℕ} {roots labels goals map0 map1 inner root_marks goal_marks cou
             -- 7: the map is finished, the section is as it was
             pub ends_short : length section < needed
                 → EndsSized (written q n states table map0 section) (over (section_sizes q n states table) sizes0)
-                (ShortSection needed) map1 section sizes1
+                (Err (ShortSection needed)) map1 section sizes1
             ends_short h = record {
               ends = ends_by (written_short q n states table map0 section (omega (arith, needed_is))) (ap short_section needed_is)
                   map_whole refl;
@@ -182,7 +183,7 @@ module _ {n : ℕ} {roots labels goals map0 map1 inner root_marks goal_marks cou
             -- success: the section's numbers stand in front
             pub ends_done : {new : List ℕ} → needed ≤ length section
                 → new ≡ over (numbers_of n sizes1 root_marks goal_marks map1 labels) section
-                → EndsSized (written q n states table map0 section) (over (section_sizes q n states table) sizes0) (Section needed) map1 new
+                → EndsSized (written q n states table map0 section) (over (section_sizes q n states table) sizes0) (Ok needed) map1 new
                 sizes1
             ends_done {new} h Z =
                 let same = numbers_are H I.sound P rectangular q states K W sizes_asked.room I.asked.few_roots

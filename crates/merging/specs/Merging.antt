@@ -8,7 +8,7 @@ use Rattle.trellis.specs.Layout.{joined_up, section_of}
 use Rattle.trellis.specs.Witness.{Witness, found, nothing, witness}
 use Rattle.trellis.specs.Outcome.{Outcome, success, short_map, not_rectangular, short_section}
 use Rattle.outcomes.specs.Numbered.{Numbered}
-use Rattle.answers.specs.declared.merge.Merged.{Merged}
+use Rattle.answers.specs.Answers.{Merged}
 use Rattle.answers.specs.Answers.{merged_outcome}
 use Rattle.table.specs.File.{TableFile, refused, accepted, table_file}
 

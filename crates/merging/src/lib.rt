@@ -10,7 +10,7 @@ ghost use Rattle.merging.specs.Merging.{written};
 ghost use Rattle.merging.specs.Inner.Stages.{Inside};
 ghost use Rattle.merging.specs.Inner.Sizes.{any_sizes, section_sizes, EndsSized};
 
-use answers::merge::Merged;
+use answers::merge::{MergeRefusal, Merged};
 use trellis::{MOST_SYMBOLS, MOST_WORDS};
 
 // As long as the sizes of any section: q, n and S, and the counts of vertices and edges.
@@ -44,8 +44,8 @@ pub fn finish(
     assemble::put_sizes(q, n, states, &vertices, &steps, sizes);
     let needed = assemble::section_length(n, &vertices, edges.total);
     if section.len() < needed {
-        return Merged::ShortSection(needed);
+        return Err(MergeRefusal::ShortSection(needed));
     }
     assemble::put_section(sizes, n, outer, edges, &firsts, labels, map, section);
-    Merged::Section(needed)
+    Ok(needed)
 }

@@ -10,8 +10,9 @@ use lib.Pow.{pow_pos}
 use Rattle.trellis.specs.Lists.{each, over}
 use Rattle.trellis.specs.Layout.{section_of}
 use Rattle.trellis.specs.Outcome.{success, short_section}
-use Rattle.answers.specs.declared.merge_rows.MergedRows.{MergedRows}
-use Rattle.answers.specs.declared.merge_rows.MergedRows.TheVariants.{Section, ShortSection}
+use Rattle.answers.specs.Answers.{MergedRows}
+use Rattle.answers.specs.declared.merge_rows.MergeRowsRefusal.TheVariants.{ShortSection}
+use Rattle.std.specs.Prelude.{Ok, Err}
 use Rattle.assemble.specs.Inner.Numbers.{length_by}
 use Rattle.merging.specs.Merging.{map_of, map_length}
 use Rattle.merging.proofs.MapRows.{map_is_lem}
@@ -79,7 +80,7 @@ module _ {s n : ℕ} {rows columns : List ℕ} {w : ℕ} {file before : List ℕ
 
       -- 7: the map is finished, all else is as it was
       pub ends_short : length section < needed
-          → RowsEnd (merged_rows s n rows file before section) (ShortSection needed) file m section
+          → RowsEnd (merged_rows s n rows file before section) (Err (ShortSection needed)) file m section
       unfolding with_file
       ends_short h = ends_by
           (by_room s n rows file before section file_room_lem map_room
@@ -91,7 +92,7 @@ module _ {s n : ℕ} {rows columns : List ℕ} {w : ℕ} {file before : List ℕ
       pub ends_done : {written-file written-section : List ℕ} → needed ≤ length section
           → written-section ≡ over (numbers_by s n dims counts steps roots goals edges) section
           → written-file ≡ over (table_bytes 2 n (2 ^ s) (map (word_of s n) (each (sum_of rows) (2 ^ length rows)))) file
-          → RowsEnd (merged_rows s n rows file before section) (Section needed) written-file m written-section
+          → RowsEnd (merged_rows s n rows file before section) (Ok needed) written-file m written-section
       unfolding with_file
       ends_done h Z F = ends_by
           (by_room s n rows file before section file_room_lem map_room

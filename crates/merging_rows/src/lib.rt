@@ -7,7 +7,7 @@ ghost use Rattle.std.specs.Prelude.{◌*◌};
 ghost use Rattle.merging_rows.specs.MergingRows.{merged_rows};
 ghost use Rattle.merging_rows.specs.Inner.Stages.{BuildAsked, RowsEnd};
 
-use answers::merge_rows::MergedRows;
+use answers::merge_rows::{MergeRowsRefusal, MergedRows};
 use parity::ROW_BITS;
 use row_section::put_section;
 use trellis::{MOST_SYMBOLS, MOST_WORDS};
@@ -35,9 +35,9 @@ pub fn build(
     let edges = row_arcs::take_edges(map, w, rows, bits, n, &dims, &mut numbers);
     let needed = assemble::section_length(n, &vertices, edges.total);
     if section.len() < needed {
-        return MergedRows::ShortSection(needed);
+        return Err(MergeRowsRefusal::ShortSection(needed));
     }
     put_section(bits, n, depths, edges, &numbers, section);
     row_file::put_file(rows, bits, n, file);
-    MergedRows::Section(needed)
+    Ok(needed)
 }

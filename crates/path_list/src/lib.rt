@@ -12,7 +12,7 @@ ghost use Rattle.forward.specs.Inner.Fronts.{Tabled};
 ghost use Rattle.path_list.specs.Listing.{left, fitted};
 ghost use Rattle.path_list.specs.Inner.Paths.{PathsListed};
 
-use answers::decode_list::DecodedList;
+use answers::decode_list::{DecodeListRefusal, DecodedList};
 use beginnings::BACK;
 use cost_table::{ends_in, fill};
 use forward::keep_blocks;
@@ -95,9 +95,9 @@ pub fn list_with(
     );
     settle(sections, starts, indices, ends, costs);
     if to_pay[widened(start)] == NO_PATH {
-        return DecodedList::NoPath;
+        return Err(DecodeListRefusal::NoPath);
     }
-    DecodedList::Paths(list_paths(
+    Ok(list_paths(
         sections, starts, views, indices, received, erased, start, end, paths, costs, distances,
         labels, goals,
     ))

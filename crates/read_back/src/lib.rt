@@ -8,7 +8,7 @@ ghost use Rattle.section_file.specs.Inner.View.{Seen};
 ghost use Rattle.section_file.specs.Usable.{is_section};
 ghost use Rattle.read_back.specs.ReadingBack.{left, reading_back};
 
-pub use answers::read_back::{ReadBack, outcome};
+pub use answers::read_back::{ReadBack, ReadBackRefusal};
 pub use codes::{further, label_of, root_of, vertex_of};
 use gathering::gather;
 use section_file::View;
@@ -26,14 +26,14 @@ fn put_words(section: &[u16], at: View, file: &mut [u8]) -> ReadBack
     let mut codes = [0u32; MOST_WORDS];
     let count = gather(section, at, &mut codes);
     if count > MOST_WORDS {
-        return ReadBack::TooMany;
+        return Err(ReadBackRefusal::TooMany);
     }
     let needed = 5 + 4 * count;
     if file.len() < needed {
-        return ReadBack::Short(needed);
+        return Err(ReadBackRefusal::Short(needed));
     }
     put_file(section, &section[goals..], &codes, count, file);
-    ReadBack::File(needed)
+    Ok(needed)
 }
 
 // Writes the table file of the words of `section` to the front of `file`.
@@ -43,6 +43,6 @@ pub fn read_back(section: &[u16], file: &mut [u8]) -> ReadBack
     let part = section_of(section);
     match part {
         Part::Usable(at) => put_words(section, at, file),
-        Part::Unusable => ReadBack::Unusable,
+        Part::Unusable => Err(ReadBackRefusal::Unusable),
     }
 }

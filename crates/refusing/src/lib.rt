@@ -9,7 +9,7 @@ ghost use Rattle.depths.specs.Inner.Words.{words};
 ghost use Rattle.merging.specs.Merging.{refusal_of};
 ghost use Rattle.refusing.specs.Inner.Refused.{cleared, RefusedAt};
 
-use answers::merge::Merged;
+use answers::merge::{MergeRefusal, Merged};
 
 // The first `count` places of the map become 0.
 fn clear(map: &mut [u16], count: usize)
@@ -39,8 +39,8 @@ pub fn refuse(
 {
     clear(map, roots.len() * (n + 1));
     match witness::find_witness(roots, labels, goals, n, t) {
-        lacking::Witness::At(i, j, k) => Merged::NotRectangular(t, i, j, k),
+        lacking::Witness::At(i, j, k) => Err(MergeRefusal::NotRectangular(t, i, j, k)),
         // A depth that is not rectangular has a witness.
-        lacking::Witness::Nothing => Merged::NotRectangular(t, 0, 0, 0),
+        lacking::Witness::Nothing => Err(MergeRefusal::NotRectangular(t, 0, 0, 0)),
     }
 }

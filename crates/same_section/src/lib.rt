@@ -10,7 +10,7 @@ ghost use Rattle.section_file.specs.Inner.View.{Seen};
 ghost use Rattle.section_file.specs.Usable.{is_section};
 ghost use Rattle.same_section.specs.Comparing.{same_code, comparing};
 
-pub use answers::same_section::{SameSection, outcome};
+pub use answers::same_section::{SameSection, SameSectionRefusal};
 use following::follow;
 use numbers::number;
 use section_file::View;
@@ -56,12 +56,12 @@ fn compare(a: &[u16], at: View, b: &[u16]) -> SameSection
     match part {
         Part::Usable(_there) => {
             if same_code(a, b, at) {
-                SameSection::Same
+                Ok(true)
             } else {
-                SameSection::Different
+                Ok(false)
             }
         },
-        Part::Unusable => SameSection::Unusable(1),
+        Part::Unusable => Err(SameSectionRefusal::Unusable(1)),
     }
 }
 
@@ -72,6 +72,6 @@ pub fn same_section(a: &[u16], b: &[u16]) -> SameSection
     let part = section_of(a);
     match part {
         Part::Usable(at) => compare(a, at, b),
-        Part::Unusable => SameSection::Unusable(0),
+        Part::Unusable => Err(SameSectionRefusal::Unusable(0)),
     }
 }

@@ -8,7 +8,7 @@ ghost use Rattle.std.specs.Prelude.{◌≡◌, ◌≤◌, OnOk, IfSome, length, 
 ghost use Rattle.std.specs.Io.KnownBytes.{Appends};
 ghost use Rattle.lines.specs.Text.{text_of};
 
-use answers::listing::Listed;
+use answers::listing::ListingRefusal;
 use filling::fill;
 use listing::ANY_TEXT;
 use std::io::{self, Read, Write};
@@ -23,9 +23,9 @@ fn put_text(file: &[u8], text: &mut [u8; ANY_TEXT]) -> usize
     ensures text { take result text.new ≡ text_of file.now }
 {
     match listing::listing(file, text) {
-        Listed::Text(length) => length,
+        Ok(length) => length,
         // Every text fits.
-        Listed::Short(_) => unreachable!(),
+        Err(ListingRefusal::Short(_)) => unreachable!(),
     }
 }
 

@@ -15,7 +15,7 @@ use Rattle.trellis.specs.Layout.{section_of}
 use Rattle.outcomes.specs.Inner.Holds.{Holds}
 use Rattle.outcomes.proofs.Held.{holds_by}
 use Rattle.answers.specs.Answers.{merged_outcome}
-use Rattle.answers.specs.declared.merge.Merged.{Merged}
+use Rattle.answers.specs.Answers.{Merged}
 use Rattle.table.specs.File.{TableFile, refused, accepted, table_file}
 use Rattle.table.proofs.Accepted.{accepted_good}
 use Rattle.merging.specs.Merging.{map_length, written, merged, merged_table, merged_file, merging}

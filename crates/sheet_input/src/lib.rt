@@ -8,6 +8,7 @@ ghost use Rattle.table.specs.File.{table_file};
 ghost use Rattle.input_parts.specs.Input.{any_table, most_input};
 ghost use Rattle.input_parts.specs.Inner.Read.{HeadPassed, TableMeasured, Read};
 
+use answers::Answer;
 pub use input_parts::{block_count, section_index};
 use input_parts::{check_head, left_over, part_length, section_count};
 use listing::ANY_MAP;
@@ -49,7 +50,7 @@ fn measure(file: &[u8]) -> Table
     let mut map = [0u16; ANY_MAP];
     let mut sizes = [0u16; ANY_SIZES];
     let answer = merge::measure(file, &mut map, &mut sizes);
-    let returned = answers::merge::outcome(answer);
+    let returned = answer.returned();
     if returned.number != 7 {
         return Table {
             refusal: returned,

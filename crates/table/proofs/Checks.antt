@@ -18,7 +18,8 @@ use Rattle.fields.specs.declared.Word.{Word}
 use Rattle.table.specs.File.{outside, size_outside, word_outside, word_bad, is_before, order_bad, first_size, first_bad, first_not_above}
 use Rattle.table.specs.File.{table_file, file_outcome}
 use Rattle.table.specs.Inner.Answer.{checked_outcome}
-use Rattle.table.specs.declared.Checked.TheVariants.{Table, Length, Size, Word as BadWord, Order}
+use Rattle.answers.specs.declared.merge.MergeRefusal.TheVariants.{Length, Size, Word as BadWord, Order}
+use Rattle.std.specs.Prelude.{Ok, Err}
 use Rattle.table.proofs.Search.{Clear, clear_start, clear_next, clear_found, clear_all}
 
 -- ---- check 2
@@ -116,30 +117,30 @@ pub record WordsRight (file : List ℕ) : Type 0 where
   pub right : word_count file ≤ first_bad file
 
 module _ (file : List ℕ) where
-  pub out_length : {b : Bool} → b ≡ length_bad file → b ≡ true → checked_outcome (Length (length file)) ≡ file_outcome (table_file file)
+  pub out_length : {b : Bool} → b ≡ length_bad file → b ≡ true → checked_outcome (Err (Length (length file))) ≡ file_outcome (table_file file)
   unfolding table_file
   out_length a t = simp (sym a, t)
 
-  pub out_size : {p : ℕ} → length_bad file ≡ false → p ≡ first_size file → p < 4 → checked_outcome (Size p) ≡ file_outcome (table_file file)
+  pub out_size : {p : ℕ} → length_bad file ≡ false → p ≡ first_size file → p < 4 → checked_outcome (Err (Size p)) ≡ file_outcome (table_file file)
   unfolding table_file
   out_size a d h = simp (a, sym d, lt-ltb _ _ h)
 
   pub out_word : {w x : ℕ} → SizesRight file → w ≡ word_count file → x ≡ first_bad file → x < w
-      → checked_outcome (BadWord x) ≡ file_outcome (table_file file)
+      → checked_outcome (Err (BadWord x)) ≡ file_outcome (table_file file)
   unfolding table_file
   out_word {w} {x} s e f k =
       let l : x < word_count file = omega arith in
       simp (s.length_right, le-ltb _ _ s.inside, sym f, lt-ltb _ _ l)
 
   module _ (s : WordsRight file) {w y : ℕ} (e : w ≡ word_count file) (f : y ≡ first_not_above file) where
-    pub out_order : y < w → checked_outcome (Order y) ≡ file_outcome (table_file file)
+    pub out_order : y < w → checked_outcome (Err (Order y)) ≡ file_outcome (table_file file)
     unfolding table_file
     out_order k =
         let l : y < word_count file = omega arith in
         simp (s.sizes.length_right, le-ltb _ _ s.sizes.inside, le-ltb _ _ s.right, sym f, lt-ltb _ _ l)
 
     pub out_table : {q n S : ℕ} → w ≤ y → q ≡ byte_at file 0 → n ≡ byte_at file 1 → S ≡ byte_at file 2
-        → checked_outcome (Table q n S w) ≡ file_outcome (table_file file)
+        → checked_outcome (Ok (record { q = q; n = n; states = S; words = w })) ≡ file_outcome (table_file file)
     unfolding table_file
     out_table k a b d =
         let l : word_count file ≤ y = omega arith in

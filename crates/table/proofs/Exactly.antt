@@ -20,9 +20,10 @@ use Rattle.fields.specs.Fields.{byte_at, word_count, file_word, file_words, leng
 use Rattle.table.specs.File.{outside, size_outside, word_outside, word_bad, is_before, order_bad, TableFile, refused, accepted, table_file}
 use Rattle.table.specs.File.{file_outcome}
 use Rattle.table.specs.Inner.Good.{Passes, GoodFile}
-use Rattle.table.specs.Inner.Answer.{checked_outcome, is_table}
-use Rattle.table.specs.declared.Checked.{Checked}
-use Rattle.table.specs.declared.Checked.TheVariants.{Table, Length, Size, Word as BadWord, Order}
+use Rattle.std.specs.Prelude.{Ok, Err, is_ok}
+use Rattle.answers.specs.declared.merge.MergeRefusal.TheVariants as merge
+use Rattle.table.specs.Inner.Answer.{Checked, checked_outcome}
+use Rattle.table.specs.declared.Sizes.{Sizes}
 use Rattle.table.proofs.Accepted.{passes_accepted, zero_passes, word_at_is}
 
 not_outside : (x low high : ℕ) → low ≤ x → x ≤ high → outside x low high ≡ false
@@ -35,23 +36,23 @@ not_word_outside q n S w a b e = simp (lt-ltb _ _ a, lt-ltb _ _ b, e)
 
 -- ---- numbers of answers
 
-zero_of : (r : Checked) → is_table r ≡ true → (checked_outcome r).number ≡ 0
-zero_of (Table q n S w) h = refl
-zero_of (Length k) h = absurd (false≢true h)
-zero_of (Size k) h = absurd (false≢true h)
-zero_of (BadWord k) h = absurd (false≢true h)
-zero_of (Order k) h = absurd (false≢true h)
+zero_of : (r : Checked) → is_ok r ≡ true → (checked_outcome r).number ≡ 0
+zero_of (Ok s) h = refl
+zero_of (Err e) h = absurd (false≢true h)
 
-is_table_lem : (r : Checked) → (checked_outcome r).number ≡ 0 → is_table r ≡ true
-is_table_lem (Table q n S w) h = refl
-is_table_lem (Length k) h = absurd (omega arith)
-is_table_lem (Size k) h = absurd (omega arith)
-is_table_lem (BadWord k) h = absurd (omega arith)
-is_table_lem (Order k) h = absurd (omega arith)
+ok_of_zero : (r : Checked) → (checked_outcome r).number ≡ 0 → is_ok r ≡ true
+ok_of_zero (Ok s) h = refl
+ok_of_zero (Err (merge.Length k)) h = absurd (omega arith)
+ok_of_zero (Err (merge.Size k)) h = absurd (omega arith)
+ok_of_zero (Err (merge.Word k)) h = absurd (omega arith)
+ok_of_zero (Err (merge.Order k)) h = absurd (omega arith)
+ok_of_zero (Err (merge.ShortMap k)) h = absurd (omega arith)
+ok_of_zero (Err (merge.NotRectangular t i j k)) h = absurd (omega arith)
+ok_of_zero (Err (merge.ShortSection k)) h = absurd (omega arith)
 
-refused_by : (r : Checked) (t : TableFile) → checked_outcome r ≡ file_outcome t → is_table r ≡ false → t ≡ refused (checked_outcome r)
+refused_by : (r : Checked) (t : TableFile) → checked_outcome r ≡ file_outcome t → is_ok r ≡ false → t ≡ refused (checked_outcome r)
 refused_by r (refused o) e h = ap refused (sym e)
-refused_by r (accepted q n S words) e h = absurd (true≢false (sym (is_table_lem r (ap (λ o. o.number) e)) ∙ h))
+refused_by r (accepted q n S words) e h = absurd (true≢false (sym (ok_of_zero r (ap (λ o. o.number) e)) ∙ h))
 
 -- ---- a good file passes
 
@@ -112,7 +113,7 @@ module _ (file : List ℕ) where
 
   -- ---- what the answer of `check` says
 
-  pub checked_table : {q n S w : ℕ} → checked_outcome (Table q n S w) ≡ file_outcome (table_file file)
+  pub checked_table : {q n S w : ℕ} → checked_outcome (Ok (record { q = q; n = n; states = S; words = w })) ≡ file_outcome (table_file file)
       → (table_file file ≡ accepted q n S (file_words file)) × (w ≡ length (file_words file))
   checked_table {q} {n} {S} {w} e =
       let x = passes_accepted file (zero_passes file (sym (ap (λ o. o.number) e))) in
@@ -124,12 +125,12 @@ module _ (file : List ℕ) where
       let f : w ≡ length (file_words file) = cc in
       (rw (a, b, d) x, f)
 
-  pub checked_refused : (r : Checked) → checked_outcome r ≡ file_outcome (table_file file) → is_table r ≡ false
+  pub checked_refused : (r : Checked) → checked_outcome r ≡ file_outcome (table_file file) → is_ok r ≡ false
       → table_file file ≡ refused (checked_outcome r)
   checked_refused r e h = refused_by r (table_file file) e h
 
-  pub checked_exactly : (r : Checked) → checked_outcome r ≡ file_outcome (table_file file) → (is_table r ≡ true) ↔ Passes file
+  pub checked_exactly : (r : Checked) → checked_outcome r ≡ file_outcome (table_file file) → (is_ok r ≡ true) ↔ Passes file
   checked_exactly r e = (
     λ h. zero_passes file (sym (ap (λ o. o.number) e) ∙ zero_of r h),
-    λ p. is_table_lem r (ap (λ o. o.number) (e ∙ ap file_outcome (passes_accepted file p))),
+    λ p. ok_of_zero r (ap (λ o. o.number) (e ∙ ap file_outcome (passes_accepted file p))),
   )

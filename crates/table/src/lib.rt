@@ -9,6 +9,7 @@ ghost use Rattle.fields.specs.Inner.Answer.{meant_word};
 ghost use Rattle.table.specs.File.{outside, word_outside, is_before, first_size, first_bad, first_not_above, table_file, file_outcome};
 ghost use Rattle.table.specs.Inner.Answer.{checked_outcome};
 
+use answers::merge::MergeRefusal;
 use fields::{Word, byte_at, length_bad, word_count};
 use label::precedes;
 use packed::is_label;
@@ -25,19 +26,13 @@ const MOST_STATES: u16 = trellis::MOST_STATES as u16;
 
 const MOST_WORDS: u16 = trellis::MOST_WORDS as u16;
 
-// The answer to a file: its sizes, or why it is refused. A variant for a refusal has the number that document 01 returns with it.
+// What a file states of its table, within document 01's bounds.
 #[derive(Clone, Copy)]
-pub enum Checked {
-    Table {
-        q: u8,
-        n: u8,
-        states: u8,
-        words: u16,
-    },
-    Length(usize),
-    Size(usize),
-    Word(usize),
-    Order(usize),
+pub struct Sizes {
+    pub q: u8,
+    pub n: u8,
+    pub states: u8,
+    pub words: u16,
 }
 
 fn is_outside(x: u16, low: u16, high: u16) -> bool
@@ -143,29 +138,29 @@ fn first_not_above(file: &[u8]) -> u16
 // Checks 1 to 4, each over the whole file before the next begins. It is not inlined: clang, where these checks stand in front of large arrays
 // in one function, makes the frame behind the first of them, and loses the answer's case in the loop that touches the frame's pages.
 #[inline(never)]
-pub fn check(file: &[u8]) -> Checked
+pub fn check(file: &[u8]) -> Result<Sizes, MergeRefusal>
     ensures { checked_outcome result ≡ file_outcome (table_file file.now) }
 {
     if length_bad(file) {
-        return Checked::Length(file.len());
+        return Err(MergeRefusal::Length(file.len()));
     }
     let place = first_size(file);
     if place < 4 {
-        return Checked::Size(place);
+        return Err(MergeRefusal::Size(place));
     }
     let words = word_count(file);
     let bad = first_bad(file);
     if bad < words {
-        return Checked::Word(bad as usize);
+        return Err(MergeRefusal::Word(bad as usize));
     }
     let low = first_not_above(file);
     if low < words {
-        return Checked::Order(low as usize);
+        return Err(MergeRefusal::Order(low as usize));
     }
-    Checked::Table {
+    Ok(Sizes {
         q: byte_at(file, 0),
         n: byte_at(file, 1),
         states: byte_at(file, 2),
         words,
-    }
+    })
 }

@@ -10,8 +10,9 @@ use borrow.Author.Tests.{lt-ltb, le-ltb}
 use Rattle.trellis.specs.Outcome.{success, short_buffer}
 use Rattle.trellis.specs.Lists.{over}
 use Rattle.answers.specs.Answers.{listed_outcome}
-use Rattle.answers.specs.declared.listing.Listed.{Listed}
-use Rattle.answers.specs.declared.listing.Listed.TheVariants.{Text, Short}
+use Rattle.answers.specs.Answers.{Listed}
+use Rattle.answers.specs.declared.listing.ListingRefusal.TheVariants.{Short}
+use Rattle.std.specs.Prelude.{Ok, Err}
 use Rattle.text.specs.Inner.Put.{Put}
 use Rattle.text.proofs.Putting.{front_put}
 use Rattle.text_buffer.specs.Listing.{left, in_buffer, Listing}
@@ -37,14 +38,14 @@ module _ (made old : List ℕ) (fits : length made ≤ length old) where
   whole_left = ap (leaves made old) (le-ltb (length old) (length made) fits)
 
   module _ {new : List ℕ} {r : Listed} {k : ℕ} (e : left (listed_outcome r) new ≡ in_buffer made old) where
-    pub whole_front : r ≡ Text k → take k new ≡ made
+    pub whole_front : r ≡ Ok k → take k new ≡ made
     whole_front f =
         let l : left (success k) new ≡ left (success (length made)) (over made old)
         = ap (λ x. left (listed_outcome x) new) (sym f) ∙ e ∙ whole_left in
         ap₂ take (ap (λ (m : Listing). get_or m.outcome.values 0 0) l) (ap (λ (m : Listing). m.text) l)
         ∙ take-append_seam made (drop (length made) old)
 
-    pub never_short : r ≡ Short k → ⊥
+    pub never_short : r ≡ Err (Short k) → ⊥
     never_short f =
         let l : left (short_buffer k) new ≡ left (success (length made)) (over made old)
         = ap (λ x. left (listed_outcome x) new) (sym f) ∙ e ∙ whole_left in

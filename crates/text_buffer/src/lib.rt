@@ -6,7 +6,7 @@ ghost use Rattle.std.specs.Prelude.{◌≡◌};
 ghost use Rattle.answers.specs.Answers.{listed_outcome};
 ghost use Rattle.text_buffer.specs.Listing.{left, in_buffer};
 
-use answers::listing::Listed;
+use answers::listing::{Listed, ListingRefusal};
 use text::put_bytes;
 
 // Copies a text to the front of `text`, where there is room for it.
@@ -15,8 +15,8 @@ pub fn put_whole(made: &[u8], text: &mut [u8]) -> Listed
 {
     let length = made.len();
     if text.len() < length {
-        return Listed::Short(length);
+        return Err(ListingRefusal::Short(length));
     }
     put_bytes(text, 0, made);
-    Listed::Text(length)
+    Ok(length)
 }

@@ -7,7 +7,7 @@ use Rattle.trellis.specs.Word.{Word}
 use Rattle.trellis.specs.Layout.{section_of}
 use Rattle.trellis.specs.Witness.{Witness, found, nothing, witness}
 use Rattle.answers.specs.Answers.{merged_outcome}
-use Rattle.answers.specs.declared.merge.Merged.{Merged}
+use Rattle.answers.specs.Answers.{Merged}
 use Rattle.table.specs.File.{TableFile, refused, accepted, table_file}
 use Rattle.merging.specs.Merging.{Ends, Merging, map_length, merging}
 

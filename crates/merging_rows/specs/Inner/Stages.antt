@@ -2,7 +2,7 @@
 use Rattle.std.specs.Prelude.{◌≡◌, List, ℕ, ◌+◌, ◌*◌, ◌≤◌, ◌<◌, length}
 use Rattle.trellis.specs.Bounds.{most_symbols, most_state_bits, most_rows}
 use Rattle.answers.specs.Answers.{merged_rows_outcome}
-use Rattle.answers.specs.declared.merge_rows.MergedRows.{MergedRows}
+use Rattle.answers.specs.Answers.{MergedRows}
 use Rattle.rows.specs.Table.{row_width}
 use Rattle.rows.specs.Inner.Reduced.{Narrow, Echelon}
 use Rattle.row_map.specs.Inner.Maps.{MapAsked}

@@ -1,19 +1,13 @@
--- What the answer of `check` says: document 01's number and values for each case of `Checked`.
-use Rattle.std.specs.Prelude.{Bool, true, false, [], ◌∷◌}
-use Rattle.trellis.specs.Outcome.{Outcome, outcome, bad_length, bad_size, bad_word, not_above}
-use Rattle.table.specs.declared.Checked.{Checked}
-use Rattle.table.specs.declared.Checked.TheVariants.{Table, Length, Size, Word as BadWord, Order}
+-- What the answer of `check` says: number 0 with q, n, S and W, or the refusal's number and values.
+use Rattle.std.specs.Prelude.{[], ◌∷◌, Result, Ok, Err}
+use Rattle.trellis.specs.Outcome.{Outcome, outcome}
+use Rattle.answers.specs.Answers.{merged_outcome}
+use Rattle.answers.specs.declared.merge.MergeRefusal.{MergeRefusal}
+use Rattle.table.specs.declared.Sizes.{Sizes}
+
+abbrev pub Checked : Type 0
+Checked = Result Sizes MergeRefusal
 
 abbrev pub checked_outcome : Checked → Outcome
-checked_outcome (Table q n states words) = outcome 0 (q ∷ n ∷ states ∷ words ∷ [])
-checked_outcome (Length file_length) = bad_length file_length
-checked_outcome (Size place) = bad_size place
-checked_outcome (BadWord index) = bad_word index
-checked_outcome (Order index) = not_above index
-
-abbrev pub is_table : Checked → Bool
-is_table (Table q n states words) = true
-is_table (Length file_length) = false
-is_table (Size place) = false
-is_table (BadWord index) = false
-is_table (Order index) = false
+checked_outcome (Ok s) = outcome 0 (s.q ∷ s.n ∷ s.states ∷ s.words ∷ [])
+checked_outcome (Err refusal) = merged_outcome (Err refusal)
