@@ -10,14 +10,14 @@ ghost use Rattle.same_section.specs.Comparing.{comparing};
 pub fn read_back_numbered(section: &[u16], file: &mut [u8], values: &mut [u32; 4]) -> u32
     ensures { ReadBackLeft (reading_back section.now file.old) result file.new values.new }
 {
-    let answer = read_back::read_back(section, file);
-    answers::store(answer, values)
+    let read = read_back::read_back(section, file);
+    answers::store(read, values)
 }
 
 // Whether two lists of numbers are sections that differ only by the numbers of inner vertices: 1 or 0.
 pub fn same_section_numbered(a: &[u16], b: &[u16], values: &mut [u32; 4]) -> u32
     ensures { Numbered (comparing a.now b.now) result values.new }
 {
-    let answer = same_section::same_section(a, b);
-    answers::store(answer, values)
+    let same = same_section::same_section(a, b);
+    answers::store(same, values)
 }

@@ -33,10 +33,13 @@ fn put_answer(answer: Merged, words: usize, sizes: &[u16], text: &mut [u8]) -> u
     ensures { Put text.old 0 (text_from words (merged_outcome answer) sizes.now) text.new result }
 {
     let returned = answer.returned();
-    if returned.number == 7 {
-        return put_sizes(sizes, words, text);
+    match answer {
+        Ok(_) => put_refusal(text, returned),
+        Err(refusal) => match refusal {
+            MergeRefusal::ShortSection(_) => put_sizes(sizes, words, text),
+            _ => put_refusal(text, returned),
+        },
     }
-    put_refusal(text, returned)
 }
 
 // The map is long enough for every table.
@@ -44,7 +47,8 @@ fn put_text(file: &[u8], text: &mut [u8]) -> usize
     ensures { TextMade file.now text.old text.new result }
 {
     if file.len() > MOST_BYTES {
-        return put_refusal(text, answers::merge::outcome(Err(MergeRefusal::Length(TOO_LONG))));
+        let too_long: Merged = Err(MergeRefusal::Length(TOO_LONG));
+        return put_refusal(text, too_long.returned());
     }
     let mut map = [0u16; ANY_MAP];
     let mut sizes = [0u16; ANY_SIZES];

@@ -3,4 +3,4 @@ use Rattle.c_lists.proofs.Left.{decode_list_left}
 use Rattle.c_lists.proofs.decode_list_numbered.Goals as goal
 
 pub returns : goal.returns
-returns c = decode_list_left c.decode_list-answer.ensures (c.store.ensures _ c.outcome.ensures)
+returns c = decode_list_left c.decode_list-answer.ensures c.store.ensures

@@ -3,4 +3,4 @@ use Rattle.c_merging.proofs.Left.{merge_left}
 use Rattle.c_merging.proofs.merge_numbered.Goals as goal
 
 pub returns : goal.returns
-returns c = merge_left c.merge-answer.ensures (c.store.ensures _ c.outcome.ensures)
+returns c = merge_left c.merge-answer.ensures c.store.ensures

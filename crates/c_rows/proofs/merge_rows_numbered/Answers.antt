@@ -3,4 +3,4 @@ use Rattle.c_rows.proofs.Left.{merge_rows_left}
 use Rattle.c_rows.proofs.merge_rows_numbered.Goals as goal
 
 pub returns : goal.returns
-returns c = merge_rows_left c.merge_rows-answer.ensures (c.store.ensures _ c.outcome.ensures)
+returns c = merge_rows_left c.merge_rows-answer.ensures c.store.ensures

@@ -3,4 +3,4 @@ use Rattle.outcomes.proofs.Numbering.{numbered_by}
 use Rattle.c_sections.proofs.same_section_numbered.Goals as goal
 
 pub returns : goal.returns
-returns c = numbered_by c.same_section-answer.ensures (c.store.ensures _ c.outcome.ensures)
+returns c = numbered_by c.same_section-same.ensures c.store.ensures

@@ -3,4 +3,4 @@ use Rattle.c_texts.proofs.Left.{listing_left}
 use Rattle.c_texts.proofs.block_sheet_numbered.Goals as goal
 
 pub returns : goal.returns
-returns c = listing_left c.block_sheet-sheet.ensures (c.store.ensures _ c.outcome.ensures)
+returns c = listing_left c.block_sheet-sheet.ensures c.store.ensures

@@ -3,7 +3,7 @@ use Rattle.listing.proofs.Outcomes.{made_long, made_measured}
 use Rattle.listing.proofs.put_text.Goals as goal
 
 pub returns-then-file-gt-MOST_BYTES : goal.returns-then-file-gt-MOST_BYTES
-returns-then-file-gt-MOST_BYTES c = made_long c.args.file.now c.if-file-gt-MOST_BYTES.true (c.put_refusal.ensures _ c.outcome.ensures)
+returns-then-file-gt-MOST_BYTES c = made_long c.args.file.now c.if-file-gt-MOST_BYTES.true (c.put_refusal.ensures _ c.returned.ensures)
 
 pub returns : goal.returns
 returns c =
