@@ -25,7 +25,6 @@ fn picked(bit: u16, r: u16) -> u16
 
 // The sum of the columns at the set bits of x.
 pub fn syndrome(columns: &[u16; ROW_BITS], x: u16) -> u16
-    requires { length columns.now ≡ 16 }
     ensures { result ≡ sum_of columns.now x }
 {
     let mut sum: u16 = 0;
@@ -55,7 +54,7 @@ fn column_cleared(p: usize, z: u16, y: u16) -> u16
 
 // z added to the columns that have bit p.
 fn add_row(columns: &mut [u16; ROW_BITS], p: usize, z: u16)
-    requires { (p < 16) × (length columns.old ≡ 16) }
+    requires { p < 16 }
     ensures { columns.new ≡ add_row p z columns.old }
 {
     for column in columns.iter_mut() {
@@ -65,7 +64,6 @@ fn add_row(columns: &mut [u16; ROW_BITS], p: usize, z: u16)
 
 // Takes up a row of syndrome z; one of syndrome 0 changes nothing.
 fn take_up(columns: &mut [u16; ROW_BITS], z: u16)
-    requires { length columns.old ≡ 16 }
     ensures { TakenUp z columns.old columns.new }
 {
     if z == 0 {

@@ -7,7 +7,7 @@ use Prim.Native.Nat.{ℕ, suc, ◌+◌, ◌^◌, ◌≤◌, ◌<◌}
 use native.Mathlib.Omega.{arith}
 use native.Mathlib.Numerals.{add-one}
 use lib.ListN.{length, get_or, take, drop, set, length-set}
-use lib.Seq.{drop-cons, drop-length, take-suc-set, take-set-le}
+use lib.Seq.{length-take-le, drop-cons, drop-length, take-suc-set, take-set-le}
 use lib.Dec.{ltb}
 use lib.Bits.{bit_xor}
 use mir.Val.{bool_byte}
@@ -87,5 +87,8 @@ reducing_end {columns} {rows} {m} {count} R h l =
     }
 
 -- they stand in front of their array
+pub basis_length : {columns array : List ℕ} {count : ℕ} → Basis columns array count → count ≡ length (take count array)
+basis_length {columns} {array} {count} B = sym (length-take-le count array (omega (arith, B.few, B.sixteen)))
+
 pub basis_fits : {columns array : List ℕ} {count : ℕ} → Basis columns array count → count ≤ length array
 basis_fits B = omega (arith, B.few, B.sixteen)

@@ -25,7 +25,6 @@ impl Rows {
 }
 
 pub fn reduced(columns: &[u16; ROW_BITS]) -> Rows
-    requires { length columns.now ≡ 16 }
     ensures { Basis columns.now result.rows result.count }
 {
     let mut rows = [0u16; ROW_BITS];

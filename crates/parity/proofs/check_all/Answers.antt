@@ -6,12 +6,6 @@ use Rattle.parity.proofs.check_all.Goals as goal
 pub loop-row-init : goal.loop-row-init
 loop-row-init c = taken_none _
 
-pub syndrome-z-requires : goal.syndrome-z-requires
-syndrome-z-requires c = c.loop-row.invariant.spans.checks.wide
-
-pub take_up-requires : goal.take_up-requires
-take_up-requires c = c.loop-row.invariant.spans.checks.wide
-
 pub loop-row-preserved : goal.loop-row-preserved
 loop-row-preserved c =
     let narrow = c.requires in
