@@ -3,7 +3,7 @@
 
 #![tactic(auto)]
 
-ghost use Rattle.std.specs.Prelude.{◌≡◌, ◌≤◌, ◌<◌, length, get_or, MatchResult};
+ghost use Rattle.std.specs.Prelude.{◌≡◌, ◌%◌, ◌^◌, ◌≤◌, ◌<◌, length, get_or, MatchResult};
 ghost use Rattle.rows.specs.Sums.{chosen, sum_of, first_dependent};
 ghost use Rattle.rows.specs.Inner.Reduced.{cleared, add_row, Narrow, Spans};
 ghost use Rattle.parity.specs.Inner.Steps.{Top, TakenUp, Checked};
@@ -15,6 +15,14 @@ pub const ROW_BITS: usize = 16;
 pub const POWERS: [u16; ROW_BITS] = [
     1, 2, 4, 8, 16, 32, 64, 128, 256, 512, 1024, 2048, 4096, 8192, 16384, 32768,
 ];
+
+// The last `bits` bits of a row.
+pub fn low_bits(x: u16, bits: usize) -> u16
+    requires { bits < 16 }
+    ensures { result ≡ x % 2 ^ bits }
+{
+    x & ((1 << bits) - 1)
+}
 
 // r where the bit is set, else 0.
 fn picked(bit: u16, r: u16) -> u16
