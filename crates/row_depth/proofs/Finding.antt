@@ -1,4 +1,5 @@
--- Single steps of a depth. Looking for a number: it is where it is found, and where it is not found it stands nowhere. In 16 bits: powers of 2 below 2 ^ 16, and the bits before a cut, which are no more than the number.
+-- Single steps of a depth. Looking for a number: it is where it is found, and where it is not found it stands nowhere. In 16 bits: the
+-- bits before a cut, which are no more than the number.
 use mathlib.Core.Path.{◌≡◌, refl, sym, ◌∙◌}
 use mathlib.Core.Bool.{Bool, true, false, cond, not}
 use mathlib.Core.List.{List, [], ◌∷◌}
@@ -8,7 +9,6 @@ use native.Mathlib.Nat.{mod-eq_of_lt, div-mul-le_self}
 use lib.ListN.{length, get_or, take}
 use lib.Seq.{length-take-le}
 use lib.Dec.{ltb}
-use lib.Pow.{pow-lt}
 use borrow.Author.Tests.{ltb-false}
 use Rattle.std.specs.Prelude.{◌==◌, Option, Some, None, position}
 use Rattle.std.specs.List.{position_or_len}
@@ -51,10 +51,7 @@ found_is seen w x None room e =
     none true l q = absurd cc
     none false l q = ltb-false n (length (take w seen)) l
 
--- ---- powers and cuts in 16 bits
-
-pub power_is : (d : ℕ) → d < 16 → (1 * 2 ^ d) % 2 ^ 16 ≡ 2 ^ d
-power_is d h = let l : 2 ^ d < 2 ^ 16 = pow-lt {i = d} {j = 16} h in mod-eq_of_lt (omega arith) ∙ omega arith
+-- ---- cuts in 16 bits
 
 pub cut_is : (x c : ℕ) → x < 65536 → (x / 2 ^ c * 2 ^ c) % 2 ^ 16 ≡ x / 2 ^ c * 2 ^ c
 cut_is x c h = mod-eq_of_lt (omega (arith, div-mul-le_self x (2 ^ c)))
