@@ -57,24 +57,13 @@ pub fn merge_rows(
     if !sizes_fit(bits, n, count) {
         return MergedRows::Rows(count);
     }
-    let row = first_wide(rows, bits + n + bits);
-    if row < count {
+    if let Some(row) = first_wide(rows, bits + n + bits) {
         return MergedRows::Rows(row);
     }
-    let check = parity::check(rows);
-    let columns = check.columns;
-    if check.first < count {
-        return MergedRows::Dependent(check.first);
-    }
+    let columns = match parity::check(rows) {
+        Ok(columns) => columns,
+        Err(row) => return MergedRows::Dependent(row),
+    };
     let reduced = reduced_rows::reduced(&columns);
-    let base = reduced.rows;
-    build_with_room(
-        &columns,
-        &base[..reduced.count],
-        bits,
-        n,
-        file,
-        map,
-        section,
-    )
+    build_with_room(&columns, reduced.as_slice(), bits, n, file, map, section)
 }
