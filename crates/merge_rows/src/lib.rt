@@ -42,6 +42,7 @@ fn build_with_room(
 
 // Merges the table of all sums of generator rows, which have `bits` state bits, n symbols and `bits` state bits, the first highest: the
 // table into `file`, the vertex of each word at each depth into `map`, the section into `section`.
+#[tactic(auto, using(crate::proofs::Entry::few_bits, crate::proofs::Entry::few_symbols))]
 pub fn merge_rows(
     bits: usize,
     n: usize,

@@ -1,31 +1,11 @@
 -- `merge_rows::merge_rows` checks sizes, widths and dependence in the definition's order. Rows that pass have a grown parity check, and its
 -- reduced rows have the same table.
-use native.Mathlib.Omega.{arith}
-use Rattle.merge_rows.proofs.Entry.{bad_sizes, few_bits, few_symbols, bad_row, check_asked, bad_dependent, base_asked, as_built}
+use Rattle.merge_rows.proofs.Entry.{bad_sizes, bad_row, check_asked, bad_dependent, base_asked, as_built}
 use Rattle.reduced_rows.proofs.ReadingOff.{basis_fits}
-use borrow.Author.Rules.{rules}
 use Rattle.merge_rows.proofs.merge_rows.Goals as goal
 
 pub returns-then-not-sizes_fit : goal.returns-then-not-sizes_fit
 returns-then-not-sizes_fit c = bad_sizes c.args.bits c.args.n c.args.rows.now c.sizes_fit.ensures _ _ _ c.if-not-sizes_fit.true
-
-pub overflow_add-bits : goal.overflow_add-bits
-overflow_add-bits c =
-    let p = few_bits c.args.bits c.args.n c.args.rows.now c.sizes_fit.ensures c.if-not-sizes_fit.false in
-    let q = few_symbols c.args.bits c.args.n c.args.rows.now c.sizes_fit.ensures c.if-not-sizes_fit.false in
-    search (rules, p, q)
-
-pub overflow_add-bits-2 : goal.overflow_add-bits-2
-overflow_add-bits-2 c =
-    let p = few_bits c.args.bits c.args.n c.args.rows.now c.sizes_fit.ensures c.if-not-sizes_fit.false in
-    let q = few_symbols c.args.bits c.args.n c.args.rows.now c.sizes_fit.ensures c.if-not-sizes_fit.false in
-    search (rules, p, q)
-
-pub first_wide-requires : goal.first_wide-requires
-first_wide-requires c =
-    let p = few_bits c.args.bits c.args.n c.args.rows.now c.sizes_fit.ensures c.if-not-sizes_fit.false in
-    let q = few_symbols c.args.bits c.args.n c.args.rows.now c.sizes_fit.ensures c.if-not-sizes_fit.false in
-    omega (arith, p, q)
 
 pub returns-in-Some : goal.returns-in-Some
 returns-in-Some c =
