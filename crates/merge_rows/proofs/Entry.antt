@@ -1,25 +1,29 @@
 -- The entry: each check that fails ends the call as the definition says, and rows that pass them have a grown parity check. The reduced
 -- rows of that check have the same table, so what is built of them is what the rows ask for.
 use mathlib.Core.Path.{◌≡◌, refl, sym, ap, subst, ◌∙◌}
-use mathlib.Core.Bool.{Bool, true, false, not}
+use mathlib.Core.Bool.{Bool, true, false, cond}
 use mathlib.Core.List.{List}
 use Prim.Native.Nat.{ℕ, ◌+◌, ◌*◌, ◌^◌, ◌≤◌, ◌<◌}
 use native.Mathlib.Omega.{arith}
 use native.Mathlib.Nat.{mul_comm, mul-le-mul}
 use native.Mathlib.Numerals.{add-one}
 use lib.ListN.{length, take}
+use lib.Dec.{ltb}
 use lib.Pow.{pow_mono}
+use borrow.Author.Tests.{lt-ltb, ltb-true}
+use Rattle.std.specs.Prelude.{Option, Some, None}
+use Rattle.std.proofs.lemmas.Option.{cond_some, none-some}
 use Rattle.trellis.specs.Bounds.{most_symbols, most_state_bits}
 use Rattle.trellis.specs.Outcome.{bad_rows, dependent_row, short_buffer, short_map}
-use Rattle.trellis.proofs.Lists.{first_ok}
+use Rattle.trellis.specs.Lists.{found_below}
 use Rattle.answers.specs.Answers.{merged_rows_outcome}
 use Rattle.answers.specs.Answers.{MergedRows}
 use Rattle.answers.specs.declared.merge_rows.MergeRowsRefusal.TheVariants.{ShortFile, ShortMap}
 use Rattle.std.specs.Prelude.{Err}
 use Rattle.merging.specs.Merging.{map_length}
-use Rattle.rows.specs.Sums.{is_dependent, first_dependent}
+use Rattle.rows.specs.Sums.{first_dependent}
 use Rattle.rows.specs.Table.{row_width, table_of, sizes_fit, first_wide}
-use Rattle.rows.specs.Inner.Reduced.{Narrow, Spans}
+use Rattle.rows.specs.Inner.Reduced.{Narrow, Spans, reduced_rows}
 use Rattle.rows.proofs.Growing.{grown_spans, echelon}
 use Rattle.rows.proofs.Vertices.{table_count}
 use Rattle.rows.proofs.Meaning.{same_table, reduced_narrow}
@@ -83,26 +87,21 @@ whole : {m : MergingRows} {r : MergedRows} {file map section : List ℕ} → Row
     → left (merged_rows_outcome r) file map section ≡ m
 whole R = λ i. left (R.answer_is i) (R.file_is i) (R.map_is i) (R.section_is i)
 
-dependent_most : (rows : List ℕ) → first_dependent rows ≤ length rows
-unfolding first_dependent
-dependent_most rows = (first_ok (is_dependent rows) (length rows)).most
+-- what a search came to
+found_some : (m i : ℕ) {row : ℕ} → found_below m i ≡ Some row → (i < m) × (i ≡ row)
+found_some m i e = let t = cond_some (ltb i m) i _ e in (ltb-true i m t.0, t.1)
+
+found_none : (m i : ℕ) → found_below m i ≡ None → i < m → ⊥
+found_none m i e h = none-some i (sym e ∙ ap (λ t. cond t (Some i) None) (lt-ltb i m h))
 
 module _ (s n : ℕ) (rows : List ℕ) {b : Bool} (is : b ≡ sizes_fit s n (length rows)) where
-  pub bad_sizes : (file map section : List ℕ) → not b ≡ true
+  pub bad_sizes : (file map section : List ℕ) → b ≡ false
       → left (bad_rows (length rows)) file map section ≡ merging_rows s n rows file map section
-  bad_sizes file map section e = sym (by_sizes s n rows file map section (sym is ∙ unfit b e))
-    where
-      unfit : (x : Bool) → not x ≡ true → x ≡ false
-      unfit true e = sym e
-      unfit false e = refl
+  bad_sizes file map section e = sym (by_sizes s n rows file map section (sym is ∙ e))
 
-  module _ (passed : not b ≡ false) where
+  module _ (passed : b ≡ true) where
     fit : sizes_fit s n (length rows) ≡ true
-    fit = sym is ∙ fitted b passed
-      where
-        fitted : (x : Bool) → not x ≡ false → x ≡ true
-        fitted true e = refl
-        fitted false e = sym e
+    fit = sym is ∙ passed
 
     pub few_bits : s ≤ most_state_bits
     few_bits = fit_bits s n (length rows) fit
@@ -110,15 +109,16 @@ module _ (s n : ℕ) (rows : List ℕ) {b : Bool} (is : b ≡ sizes_fit s n (len
     pub few_symbols : n ≤ most_symbols
     few_symbols = fit_symbols s n (length rows) fit
 
-    module _ {row : ℕ} (found : row ≡ first_wide (row_width s n) rows) where
-      pub bad_row : (file map section : List ℕ) → row < length rows
+    module _ {found : Option ℕ} (search : found ≡ found_below (length rows) (first_wide (row_width s n) rows)) where
+      pub bad_row : (file map section : List ℕ) (row : ℕ) → found ≡ Some row
           → left (bad_rows row) file map section ≡ merging_rows s n rows file map section
-      bad_row file map section h = ap (λ x. left (bad_rows x) file map section) found
-          ∙ sym (by_width s n rows file map section fit (omega arith))
+      bad_row file map section row e =
+          let at = found_some (length rows) (first_wide (row_width s n) rows) (sym search ∙ e) in
+          ap (λ x. left (bad_rows x) file map section) (sym at.1) ∙ sym (by_width s n rows file map section fit at.0)
 
-      module _ (none : length rows ≤ row) where
+      module _ (none : found ≡ None) where
         not_found : first_wide (row_width s n) rows < length rows → ⊥
-        not_found h = omega arith
+        not_found = found_none (length rows) (first_wide (row_width s n) rows) (sym search ∙ none)
 
         fits : Narrow (row_width s n) rows
         fits = not_wide (row_width s n) rows not_found
@@ -128,34 +128,33 @@ module _ (s n : ℕ) (rows : List ℕ) {b : Bool} (is : b ≡ sizes_fit s n (len
             let e : row_width s n ≤ 16 = omega (arith, few_bits, few_symbols) in
             omega (arith, fits j h, pow_mono {i = row_width s n} {j = 16} e)
 
-        module _ {columns : List ℕ} {first : ℕ} (C : Checked rows columns first) where
-          pub bad_dependent : (file map section : List ℕ) → first < length rows
-              → left (dependent_row first) file map section ≡ merging_rows s n rows file map section
-          bad_dependent file map section h = ap (λ x. left (dependent_row x) file map section) C.is
-              ∙ sym (by_dependence s n rows file map section fit not_found (omega (arith, C.is)))
+        pub bad_dependent : (file map section : List ℕ) (first : ℕ) → (first < length rows) × (first ≡ first_dependent rows)
+            → left (dependent_row first) file map section ≡ merging_rows s n rows file map section
+        bad_dependent file map section first C = ap (λ x. left (dependent_row x) file map section) C.1
+            ∙ sym (by_dependence s n rows file map section fit not_found (omega (arith, C.0, C.1)))
 
-          module _ (independent : length rows ≤ first) where
-            all_taken : first ≡ length rows
-            all_taken = omega (arith, C.is, dependent_most rows)
+        module _ {columns : List ℕ} (C : Checked rows columns (length rows)) where
+          abbrev G : Spans 16 rows columns
+          G = grown_spans (C.grown refl)
 
-            abbrev G : Spans 16 rows columns
-            G = grown_spans (C.grown all_taken)
+          module _ {array given : List ℕ} {count : ℕ} (R : Basis columns array count) (lent : given ≡ take count array) where
+            given_are : given ≡ reduced_rows columns
+            given_are = lent ∙ R.are
 
-            module _ {array : List ℕ} {count : ℕ} (R : Basis columns array count) where
-              pub base_asked : BaseAsked s n (take count array) columns
-              base_asked = subst (λ l. BaseAsked s n l columns) (sym R.are) (record {
-                echelon = echelon G;
-                narrow = reduced_narrow (row_width s n) G fits;
-                few = omega (arith, (C.grown all_taken).count, fit_rows s n (length rows) fit);
-                states = few_bits;
-                some = fit_some s n (length rows) fit;
-                symbols = few_symbols;
-              })
+            pub base_asked : BaseAsked s n given columns
+            base_asked = subst (λ l. BaseAsked s n l columns) (sym given_are) (record {
+              echelon = echelon G;
+              narrow = reduced_narrow (row_width s n) G fits;
+              few = omega (arith, (C.grown refl).count, fit_rows s n (length rows) fit);
+              states = few_bits;
+              some = fit_some s n (length rows) fit;
+              symbols = few_symbols;
+            })
 
-              pub as_built : (file map section : List ℕ) {r : MergedRows} {file' map' section' : List ℕ}
-                  → RowsEnd (merged_rows s n (take count array) file map section) r file' map' section'
-                  → left (merged_rows_outcome r) file' map' section' ≡ merging_rows s n rows file map section
-              as_built file map section E = whole E
-                  ∙ sym (by_checks s n rows file map section fit not_found (λ h. omega (arith, C.is))
-                  ∙ same_rows s n rows (take count array) file map section
-                  (same_table s n G check_asked ∙ ap (table_of s n) (sym R.are)))
+            pub as_built : (file map section : List ℕ) {r : MergedRows} {file' map' section' : List ℕ}
+                → RowsEnd (merged_rows s n given file map section) r file' map' section'
+                → left (merged_rows_outcome r) file' map' section' ≡ merging_rows s n rows file map section
+            as_built file map section E = whole E
+                ∙ sym (by_checks s n rows file map section fit not_found (λ h. omega (arith, C.is))
+                ∙ same_rows s n rows given file map section
+                (same_table s n G check_asked ∙ ap (table_of s n) (sym given_are)))

@@ -42,6 +42,7 @@ fn build_with_room(
 
 // Merges the table of all sums of generator rows, which have `bits` state bits, n symbols and `bits` state bits, the first highest: the
 // table into `file`, the vertex of each word at each depth into `map`, the section into `section`.
+#[tactic(auto, using(crate::proofs::Entry::few_bits, crate::proofs::Entry::few_symbols))]
 pub fn merge_rows(
     bits: usize,
     n: usize,
@@ -57,24 +58,13 @@ pub fn merge_rows(
     if !sizes_fit(bits, n, count) {
         return Err(MergeRowsRefusal::Rows(count));
     }
-    let row = first_wide(rows, bits + n + bits);
-    if row < count {
+    if let Some(row) = first_wide(rows, bits + n + bits) {
         return Err(MergeRowsRefusal::Rows(row));
     }
-    let check = parity::check(rows);
-    let columns = check.columns;
-    if check.first < count {
-        return Err(MergeRowsRefusal::Dependent(check.first));
-    }
+    let columns = match parity::check(rows) {
+        Ok(columns) => columns,
+        Err(row) => return Err(MergeRowsRefusal::Dependent(row)),
+    };
     let reduced = reduced_rows::reduced(&columns);
-    let base = reduced.rows;
-    build_with_room(
-        &columns,
-        &base[..reduced.count],
-        bits,
-        n,
-        file,
-        map,
-        section,
-    )
+    build_with_room(&columns, reduced.as_slice(), bits, n, file, map, section)
 }

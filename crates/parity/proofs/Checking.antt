@@ -10,7 +10,7 @@ use lib.ListN.{length, get_or, take}
 use lib.Seq.{take-suc, take-length}
 use Rattle.trellis.specs.Lists.{run}
 use Rattle.trellis.proofs.Lists.{each_at}
-use Rattle.rows.specs.Sums.{sum_of}
+use Rattle.rows.specs.Sums.{sum_of, first_dependent}
 use Rattle.rows.specs.Inner.Reduced.{no_rows, add_row, Narrow, Spans}
 use Rattle.rows.specs.Inner.Growing.{Grown}
 use Rattle.rows.proofs.Growing.{spans_none, spans_same, spans_more, grown_none, grown_next, grown_stop, grown_independent}
@@ -41,18 +41,15 @@ module _ {rows columns : List ℕ} {j z : ℕ} (G : Grown 16 rows j columns) (na
       (subst (λ k. Grown 16 rows k (add_row p (sum_of columns (get_or rows j 0)) columns)) (sym (add-one j))
       (grown_next G h (narrow j h) p top.inside (subst (λ k. 2 ^ p ≤ k) e top.least) (subst (λ k. k < 2 ^ suc p) e top.most)))
 
-  pub check_stop : z ≡ 0 → Checked rows columns j
-  check_stop q = record {
-    is = sym (grown_stop G h (narrow j h) (sym e ∙ q));
-    sixteen = G.spans.checks.wide;
-    grown = λ k. absurd (omega arith);
-  }
+  pub check_stop : z ≡ 0 → (j < length rows) × (j ≡ first_dependent rows)
+  check_stop q = (h, sym (grown_stop G h (narrow j h) (sym e ∙ q)))
 
-pub check_end : {rows columns : List ℕ} {j : ℕ} → Grown 16 rows j columns → j ≤ length rows → length rows ≤ j → Checked rows columns j
+pub check_end : {rows columns : List ℕ} {j : ℕ} → Grown 16 rows j columns → j ≤ length rows → length rows ≤ j
+    → Checked rows columns (length rows)
 check_end {rows} {columns} {j} G h k =
     let e : j ≡ length rows = omega arith in
     let H : Grown 16 rows (length rows) columns = subst (λ i. Grown 16 rows i columns) e G in
-    record { is = e ∙ sym (grown_independent H); sixteen = G.spans.checks.wide; grown = λ q. H }
+    record { is = sym (grown_independent H); sixteen = G.spans.checks.wide; grown = λ q. H }
 
 -- ---- all rows
 

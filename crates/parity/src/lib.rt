@@ -3,8 +3,8 @@
 
 #![tactic(auto)]
 
-ghost use Rattle.std.specs.Prelude.{◌≡◌, ◌+◌, ◌<◌, length};
-ghost use Rattle.rows.specs.Sums.{chosen, sum_of};
+ghost use Rattle.std.specs.Prelude.{◌≡◌, ◌%◌, ◌^◌, ◌≤◌, ◌<◌, length, get_or, MatchResult};
+ghost use Rattle.rows.specs.Sums.{chosen, sum_of, first_dependent};
 ghost use Rattle.rows.specs.Inner.Reduced.{cleared, add_row, Narrow, Spans};
 ghost use Rattle.parity.specs.Inner.Steps.{Top, TakenUp, Checked};
 
@@ -16,6 +16,14 @@ pub const POWERS: [u16; ROW_BITS] = [
     1, 2, 4, 8, 16, 32, 64, 128, 256, 512, 1024, 2048, 4096, 8192, 16384, 32768,
 ];
 
+// The last `bits` bits of a row.
+pub fn low_bits(x: u16, bits: usize) -> u16
+    requires { bits < 16 }
+    ensures { result ≡ x % 2 ^ bits }
+{
+    x & ((1 << bits) - 1)
+}
+
 // r where the bit is set, else 0.
 fn picked(bit: u16, r: u16) -> u16
     ensures { result ≡ chosen bit r }
@@ -25,16 +33,13 @@ fn picked(bit: u16, r: u16) -> u16
 
 // The sum of the columns at the set bits of x.
 pub fn syndrome(columns: &[u16; ROW_BITS], x: u16) -> u16
-    requires { length columns.now ≡ 16 }
     ensures { result ≡ sum_of columns.now x }
 {
     let mut sum: u16 = 0;
     let mut rest = x;
-    let mut m: usize = 0;
-    while m < ROW_BITS {
-        sum = sum ^ picked(rest & 1, columns[m]);
-        rest = rest >> 1;
-        m += 1;
+    for &column in columns {
+        sum ^= picked(rest & 1, column);
+        rest >>= 1;
     }
     sum
 }
@@ -44,13 +49,7 @@ fn highest(z: u16) -> usize
     requires { 0 < z }
     ensures { Top z result }
 {
-    let mut rest = z;
-    let mut p: usize = 0;
-    while rest > 1 {
-        rest = rest >> 1;
-        p += 1;
-    }
-    p
+    (15 - z.leading_zeros()) as usize
 }
 
 // y, with z added where bit p is set.
@@ -63,19 +62,16 @@ fn column_cleared(p: usize, z: u16, y: u16) -> u16
 
 // z added to the columns that have bit p.
 fn add_row(columns: &mut [u16; ROW_BITS], p: usize, z: u16)
-    requires { (p < 16) × (length columns.old ≡ 16) }
+    requires { p < 16 }
     ensures { columns.new ≡ add_row p z columns.old }
 {
-    let mut m: usize = 0;
-    while m < ROW_BITS {
-        columns[m] = column_cleared(p, z, columns[m]);
-        m += 1;
+    for column in columns.iter_mut() {
+        *column = column_cleared(p, z, *column);
     }
 }
 
 // Takes up a row of syndrome z; one of syndrome 0 changes nothing.
 fn take_up(columns: &mut [u16; ROW_BITS], z: u16)
-    requires { length columns.old ≡ 16 }
     ensures { TakenUp z columns.old columns.new }
 {
     if z == 0 {
@@ -85,29 +81,21 @@ fn take_up(columns: &mut [u16; ROW_BITS], z: u16)
     add_row(columns, p, z);
 }
 
-// A parity check, and the first row that is a sum of those before it, or the number of rows where none is.
-#[derive(Clone, Copy)]
-pub struct Parity {
-    pub columns: [u16; ROW_BITS],
-    pub first: usize,
-}
-
-// Takes up the rows one by one, up to the first that is a sum of those before it.
-pub fn check(rows: &[u16]) -> Parity
+// The parity check of the rows, which takes them up one by one, or the first that is a sum of those before it.
+pub fn check(rows: &[u16]) -> Result<[u16; ROW_BITS], usize>
     requires { Narrow 16 rows.now }
-    ensures { Checked rows.now result.columns result.first }
+    ensures { MatchResult result (λ columns. Checked rows.now columns (length rows.now))
+        (λ first. (first < length rows.now) × (first ≡ first_dependent rows.now)) }
 {
     let mut columns = POWERS;
-    let mut j: usize = 0;
-    while j < rows.len() {
-        let z = syndrome(&columns, rows[j]);
+    for (j, &row) in rows.iter().enumerate() {
+        let z = syndrome(&columns, row);
         if z == 0 {
-            return Parity { columns, first: j };
+            return Err(j);
         }
         take_up(&mut columns, z);
-        j += 1;
     }
-    Parity { columns, first: j }
+    Ok(columns)
 }
 
 // The check of rows that may depend on one another.
@@ -116,11 +104,22 @@ pub fn check_all(rows: &[u16]) -> [u16; ROW_BITS]
     ensures { Spans 16 rows.now result }
 {
     let mut columns = POWERS;
-    let mut j: usize = 0;
-    while j < rows.len() {
-        let z = syndrome(&columns, rows[j]);
+    for &row in rows {
+        let z = syndrome(&columns, row);
         take_up(&mut columns, z);
-        j += 1;
     }
     columns
+}
+
+// What f gives of each row, in front.
+pub fn each_row<F: Fn(u16) -> u16>(rows: &[u16], f: F) -> [u16; ROW_BITS]
+    requires { F.IsAlwaysCallable f × (length rows.now ≤ 16) }
+    ensures { ((b : _) → b < length rows.now → F.post f (get_or rows.now b 0) (get_or result b 0))
+        × (length result ≡ 16) }
+{
+    let mut values = [0; ROW_BITS];
+    for (b, &row) in rows.iter().enumerate() {
+        values[b] = f(row);
+    }
+    values
 }

@@ -10,10 +10,16 @@ use lib.ListN.{length, get_or, take, drop, set, length-set}
 use lib.Seq.{length-take-le, drop-cons, drop-length, take-suc-set, take-set-le}
 use lib.Dec.{ltb}
 use lib.Bits.{bit_xor}
+use mir.Val.{bool_byte}
 use Rattle.trellis.specs.Lists.{one_if}
 use Rattle.rows.specs.Sums.{◌⊕◌}
 use Rattle.rows.specs.Inner.Reduced.{rows_from, reduced_rows}
 use Rattle.parity.specs.Inner.Steps.{Basis}
+
+-- a test as a number counts one where it holds
+pub test_is_one_if : (t : Bool) → bool_byte t ≡ one_if t
+test_is_one_if true = refl
+test_is_one_if false = refl
 
 -- the first count are those of the columns before m
 pub record Reducing (columns : List ℕ) (m : ℕ) (rows : List ℕ) (count : ℕ) : Type 0 where
@@ -83,3 +89,6 @@ reducing_end {columns} {rows} {m} {count} R h l =
 -- they stand in front of their array
 pub basis_length : {columns array : List ℕ} {count : ℕ} → Basis columns array count → count ≡ length (take count array)
 basis_length {columns} {array} {count} B = sym (length-take-le count array (omega (arith, B.few, B.sixteen)))
+
+pub basis_fits : {columns array : List ℕ} {count : ℕ} → Basis columns array count → count ≤ length array
+basis_fits B = omega (arith, B.few, B.sixteen)

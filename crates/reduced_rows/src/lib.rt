@@ -2,19 +2,10 @@
 
 #![tactic(auto)]
 
-ghost use Rattle.std.specs.Prelude.{◌≡◌, ◌+◌, ◌<◌, ◌≤◌, length, ltb};
-ghost use Rattle.trellis.specs.Lists.{one_if};
+ghost use Rattle.std.specs.Prelude.{◌≡◌, ◌≤◌, length, take};
 ghost use Rattle.parity.specs.Inner.Steps.{Basis};
 
 use parity::{POWERS, ROW_BITS};
-
-// One more where x is below y.
-fn counted(count: usize, x: u16, y: u16) -> usize
-    requires { count ≤ 16 }
-    ensures { result ≡ count + one_if (ltb x y) }
-{
-    if x < y { count + 1 } else { count }
-}
 
 // The reduced rows of a check, by ascending pivot, and how many they are.
 #[derive(Clone, Copy)]
@@ -23,19 +14,25 @@ pub struct Rows {
     pub count: usize,
 }
 
+impl Rows {
+    // The rows that there are.
+    pub fn as_slice(&self) -> &[u16]
+        requires { self.now.count ≤ length self.now.rows }
+        ensures { result.now ≡ take self.now.count self.now.rows }
+    {
+        &self.rows[..self.count]
+    }
+}
+
 pub fn reduced(columns: &[u16; ROW_BITS]) -> Rows
-    requires { length columns.now ≡ 16 }
     ensures { Basis columns.now result.rows result.count }
 {
     let mut rows = [0u16; ROW_BITS];
     let mut count: usize = 0;
-    let mut m: usize = 0;
-    while m < ROW_BITS {
-        let column = columns[m];
+    for (m, &column) in columns.iter().enumerate() {
         let power = POWERS[m];
         rows[count] = power ^ column;
-        count = counted(count, column, power);
-        m += 1;
+        count += usize::from(column < power);
     }
     Rows { rows, count }
 }

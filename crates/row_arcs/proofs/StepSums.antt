@@ -9,7 +9,7 @@ use lib.Pow.{pow_mono}
 use Rattle.trellis.specs.Lists.{each}
 use Rattle.trellis.specs.Inner.Write.{Wrote}
 use Rattle.rows.specs.Sums.{sum_of, choices, sums}
-use Rattle.rows.specs.Inner.Reduced.{Narrow, Spans}
+use Rattle.rows.specs.Inner.Reduced.{Narrow, Spans, reduced_rows}
 use Rattle.rows.proofs.Growing.{spans_sums}
 use Rattle.rows.proofs.Spanning.{reduced_most}
 use Rattle.parity.specs.Inner.Front.{Front}
@@ -31,23 +31,24 @@ module _ {map : List ℕ} {row w : ℕ} {rows : List ℕ} {cut dim : ℕ} (A : S
   pub arcs_narrow : Narrow 16 (take (length rows) arcs)
   arcs_narrow = subst (Narrow 16) (sym are_taken) A.narrow
 
-  module _ {columns base : List ℕ} {count : ℕ} (S : Spans 16 (take (length rows) arcs) columns) (B : Basis columns base count) where
+  module _ {columns base given : List ℕ} {count : ℕ} (S : Spans 16 (take (length rows) arcs) columns) (B : Basis columns base count)
+      (lent : given ≡ take count base) where
+    given_are : given ≡ reduced_rows columns
+    given_are = lent ∙ B.are
+
     spans : Spans 16 taken columns
     spans = subst (λ l. Spans 16 l columns) are_taken S
 
-    few : length (take count base) ≤ length rows
-    few = omega (arith, ap length B.are, reduced_most spans A.narrow, arcs_length map row w rows cut dim)
+    few : length given ≤ length rows
+    few = omega (arith, ap length given_are, reduced_most spans A.narrow, arcs_length map row w rows cut dim)
 
-    pub base_few : length (take count base) ≤ 10
+    pub base_few : length given ≤ 10
     base_few = omega (arith, few, A.few)
 
-    pub base_room : 2 ^ length (take count base) ≤ w
-    base_room = omega (arith, A.words, pow_mono {i = length (take count base)} {j = length rows} few)
+    pub base_room : 2 ^ length given ≤ w
+    base_room = omega (arith, A.words, pow_mono {i = length given} {j = length rows} few)
 
-    pub step_sums_lem : {out new : List ℕ} {at end : ℕ} → Wrote out at (each (sum_of (take count base)) (choices (take count base))) new end
+    pub step_sums_lem : {out new : List ℕ} {at end : ℕ} → Wrote out at (each (sum_of given) (choices given)) new end
         → Wrote out at (sums taken) new end
     step_sums_lem {out} {new} {at} {end} W = subst (λ vs. Wrote out at vs new end)
-        (ap (λ l. each (sum_of l) (choices l)) B.are ∙ sym (spans_sums spans A.narrow)) W
-
-pub base_fit : {columns base : List ℕ} {count : ℕ} → Basis columns base count → count ≤ length base
-base_fit B = omega (arith, B.few, B.sixteen)
+        (ap (λ l. each (sum_of l) (choices l)) given_are ∙ sym (spans_sums spans A.narrow)) W

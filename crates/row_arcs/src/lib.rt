@@ -33,6 +33,7 @@ pub fn bit_at(x: u16, cut: usize) -> u16
 }
 
 // The edges that the rows take at a step whose two rows of the map begin at `row`; the symbol is bit `cut`.
+#[tactic(auto, using(crate::proofs::RowArcs::word_below, crate::proofs::RowArcs::words_few))]
 fn arcs_of(
     map: &[u16],
     row: usize,
@@ -46,11 +47,9 @@ fn arcs_of(
 {
     let mut arcs = [0u16; ROW_BITS];
     let mut i: usize = 1;
-    let mut b: usize = 0;
-    while b < rows.len() {
-        arcs[b] = edge_number(map[row + i], bit_at(rows[b], cut), map[row + w + i], dim);
-        i = i + i;
-        b += 1;
+    for (b, &x) in rows.iter().enumerate() {
+        arcs[b] = edge_number(map[row + i], bit_at(x, cut), map[row + w + i], dim);
+        i += i;
     }
     arcs
 }
@@ -73,8 +72,7 @@ fn take_step(
     let arcs = arcs_of(map, row, w, rows, cut, dim);
     let columns = parity::check_all(&arcs[..rows.len()]);
     let reduced = reduced_rows::reduced(&columns);
-    let base = reduced.rows;
-    put_sums(&base[..reduced.count], out, at)
+    put_sums(reduced.as_slice(), out, at)
 }
 
 // The edges of all n steps, one step behind another, and how many each step has.
@@ -93,12 +91,10 @@ pub fn take_edges(
 {
     let mut counts = [0u16; MOST_SYMBOLS];
     let mut at: usize = 0;
-    let mut t: usize = 0;
-    while t < n {
+    for t in 0..n {
         let end = take_step(map, t * w, w, rows, n - t - 1 + bits, dims[t + 1], out, at);
         counts[t] = (end - at) as u16;
         at = end;
-        t += 1;
     }
     Edges { total: at, counts }
 }

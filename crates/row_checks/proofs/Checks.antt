@@ -1,21 +1,24 @@
 -- The checks of generator rows. The sizes are compared one after another, and where all fit each bound is known. A row is wide where it is
 -- not below 2 ^ width; so where the search for the first wide row finds none, all are narrow, and the other way round. In the same way the
 -- search for the first row that is a sum of those before it finds none exactly if there is none.
-use mathlib.Core.Path.{◌≡◌, refl, sym, ap, ap₂, ◌∙◌}
-use mathlib.Core.Bool.{Bool, true, false, not, ◌&&◌}
+use mathlib.Core.Path.{◌≡◌, refl, sym, ap, ◌∙◌}
+use mathlib.Core.Bool.{Bool, cond, true, ◌&&◌}
 use mathlib.Core.Logic.{◌↔◌}
 use mathlib.Core.List.{List}
-use Prim.Native.Nat.{ℕ, ◌+◌, ◌*◌, ◌%◌, ◌^◌, ◌≤◌, ◌<◌}
+use Prim.Native.Nat.{ℕ, ◌*◌, ◌%◌, ◌^◌, ◌≤◌, ◌<◌}
 use native.Mathlib.Omega.{arith}
+use native.Mathlib.Numerals.{one-add}
 use native.Mathlib.Nat.{one-mul, mod-eq_of_lt}
 use lib.ListN.{length, get_or, take}
 use lib.Dec.{leb, leb→le}
 use lib.Pow.{pow_mono}
-use borrow.Author.Tests.{leb-false, not-true, not-false}
-use borrow.Author.Count.{below_none, below_more}
+use borrow.Author.Tests.{leb-false}
+use Rattle.std.specs.Prelude.{position}
+use Rattle.std.specs.List.{position_or_len}
+use Rattle.std.proofs.lemmas.List.Recursion.{is_position_or_len}
 use Rattle.trellis.specs.Bounds.{most_symbols, most_state_bits, most_rows}
-use Rattle.trellis.specs.Lists.{within}
-use Rattle.trellis.proofs.Bools.{holds, fails, is_false, left_true, right_true}
+use Rattle.trellis.specs.Lists.{first, within, found_below}
+use Rattle.trellis.proofs.Bools.{is_false, left_true, right_true}
 use Rattle.trellis.proofs.Lists.{first_is, first_ok}
 use Rattle.numbers.proofs.Bounds.{within_of}
 use Rattle.rows.specs.Sums.{IsSum, is_dependent, first_dependent}
@@ -26,18 +29,10 @@ use Rattle.rows.specs.Table.{sizes_fit, first_wide}
 -- ---- the sizes
 
 module _ (s n count : ℕ) where
-  pub bits_unfit : {b : Bool} → b ≡ within 0 most_state_bits s → not b ≡ true → false ≡ sizes_fit s n count
+  pub by_tests : {a b c : Bool} → a ≡ within 0 most_state_bits s → b ≡ within 1 most_symbols n → c ≡ within 1 most_rows count
+      → a && (b && c) ≡ sizes_fit s n count
   unfolding sizes_fit
-  bits_unfit {b} e f = rw (sym e ∙ not-true b f) refl
-
-  module _ {b : Bool} (e : b ≡ within 0 most_state_bits s) (f : not b ≡ false) where
-    pub symbols_unfit : {c : Bool} → c ≡ within 1 most_symbols n → not c ≡ true → false ≡ sizes_fit s n count
-    unfolding sizes_fit
-    symbols_unfit {c} g h = rw (sym e ∙ not-false b f, sym g ∙ not-true c h) refl
-
-    pub by_count : {c d : Bool} → c ≡ within 1 most_symbols n → not c ≡ false → d ≡ within 1 most_rows count → d ≡ sizes_fit s n count
-    unfolding sizes_fit
-    by_count {c} {d} g h k = rw (sym e ∙ not-false b f, sym g ∙ not-false c h) k
+  by_tests e f g = rw (e, f, g) refl
 
   module _ (fit : sizes_fit s n count ≡ true) where
     others : (within 1 most_symbols n && within 1 most_rows count) ≡ true
@@ -66,31 +61,28 @@ module _ (s n count : ℕ) where
 
 -- ---- 1 shifted
 
-shifted : (k : ℕ) → k ≤ 16 → (1 * 2 ^ k) % 18446744073709551616 ≡ 2 ^ k
-shifted k h = ap (λ m. m % 18446744073709551616) (one-mul (2 ^ k)) ∙ mod-eq_of_lt (omega (arith, pow_mono {i = k} {j = 16} h))
-
 pub words_is : (k : ℕ) → k ≤ 10 → ((1 * 2 ^ k) % 18446744073709551616 ≡ 2 ^ k) × ((1 * 2 ^ k) % 18446744073709551616 ≤ 1024)
-words_is k h = let e = shifted k (omega arith) in (e, omega (arith, e, pow_mono {i = k} {j = 10} h))
-
-pub states_is : (k : ℕ) → k ≤ 4 → (1 * 2 ^ k) % 2 ^ 8 ≡ 2 ^ k
-states_is k h = ap (λ m. m % 2 ^ 8) (one-mul (2 ^ k)) ∙ mod-eq_of_lt (omega (arith, pow_mono {i = k} {j = 4} h))
+words_is k h =
+    let l : 2 ^ k ≤ 1024 = pow_mono {i = k} {j = 10} h in
+    let e : (1 * 2 ^ k) % 18446744073709551616 ≡ 2 ^ k = ap (λ m. m % 18446744073709551616) (one-mul (2 ^ k)) ∙ mod-eq_of_lt (omega arith) in
+    (e, omega arith)
 
 -- ---- wide rows
 
-pub wide_test : (row width : ℕ) {x : ℕ} → width ≤ 16 → x ≡ row → leb ((1 * 2 ^ width) % 18446744073709551616) x ≡ leb (2 ^ width) row
-wide_test row width h e = ap₂ leb (shifted width h) e
+-- the first that passes a test, as the library counts it
+first_position : (test : ℕ → Bool) (rows : List ℕ) → first (λ j. test (get_or rows j 0)) (length rows) ≡ position_or_len test rows
+unfolding first
+first_position test = is_position_or_len (λ rows. first (λ j. test (get_or rows j 0)) (length rows)) test refl
+    (λ row rows. ap (λ k. cond (test row) 0 k) (sym (one-add (first (λ j. test (get_or rows j 0)) (length rows)))))
+
+pub found_wide : (width : ℕ) (rows : List ℕ)
+    → position (λ row. leb (2 ^ width) row) rows ≡ found_below (length rows) (first_wide width rows)
+unfolding first_wide
+found_wide width rows = ap (found_below (length rows)) (sym (first_position (λ row. leb (2 ^ width) row) rows))
 
 module _ (width : ℕ) (rows : List ℕ) where
-  abbrev pub is_wide : ℕ → Bool
+  abbrev is_wide : ℕ → Bool
   is_wide j = leb (2 ^ width) (get_or rows j 0)
-
-  -- none of the first j is wide
-  pub record NoneWide (j : ℕ) : Type 0 where
-    pub most : j ≤ length rows
-    pub none : (i : ℕ) → i < j → is_wide i ≡ false
-
-  pub wide_start : NoneWide 0
-  wide_start = record { most = omega arith; none = below_none (λ i. is_wide i ≡ false) }
 
   -- none is wide exactly if all are narrow
   pub not_wide : (first_wide width rows < length rows → ⊥) → Narrow width rows
@@ -106,20 +98,6 @@ module _ (width : ℕ) (rows : List ℕ) where
     hit = λ h. absurd (omega arith);
     miss = λ i h t. omega (arith, narrow i h, leb→le (2 ^ width) (get_or rows i 0) t);
   })
-
-module _ {width : ℕ} {rows : List ℕ} {j : ℕ} (W : NoneWide width rows j) where
-  pub wide_next : {b : Bool} → j < length rows → b ≡ is_wide width rows j → b ≡ false → NoneWide width rows (j + 1)
-  wide_next h e f = record { most = omega arith; none = below_more (λ i. is_wide width rows i ≡ false) j W.none (sym e ∙ f) }
-
-  pub wide_here : {b : Bool} → b ≡ is_wide width rows j → b ≡ true → j ≡ first_wide width rows
-  unfolding first_wide
-  wide_here e f = sym (first_is (is_wide width rows) (length rows) j
-      (record { most = W.most; hit = λ h. holds (sym e ∙ f); miss = λ i h t. fails (W.none i h) t }))
-
-  pub wide_end : length rows ≤ j → j ≡ first_wide width rows
-  unfolding first_wide
-  wide_end h = sym (first_is (is_wide width rows) (length rows) j
-      (record { most = W.most; hit = λ k. absurd (omega arith); miss = λ i k t. fails (W.none i k) t }))
 
 -- ---- dependent rows
 

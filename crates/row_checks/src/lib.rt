@@ -3,23 +3,21 @@
 
 #![tactic(auto)]
 
-ghost use Rattle.std.specs.Prelude.{◌≡◌, ◌+◌, ◌^◌, ◌≤◌, leb};
+ghost use Rattle.std.specs.Prelude.{◌≡◌, ◌^◌, ◌≤◌, length, leb};
+ghost use Rattle.trellis.specs.Lists.{found_below};
 ghost use Rattle.rows.specs.Table.{sizes_fit, first_wide};
 
-use numbers::{is_within, wide};
+use numbers::is_within;
 use trellis::{MOST_ROWS, MOST_STATE_BITS, MOST_SYMBOLS};
 
 // Whether all sizes are within their bounds.
+#[tactic(auto, unfolding(rows::specs::Table::sizes_fit))]
 pub fn sizes_fit(bits: usize, n: usize, count: usize) -> bool
     ensures { result ≡ sizes_fit bits n count }
 {
-    if !is_within(0, MOST_STATE_BITS, bits) {
-        return false;
-    }
-    if !is_within(1, MOST_SYMBOLS, n) {
-        return false;
-    }
-    is_within(1, MOST_ROWS, count)
+    is_within(0, MOST_STATE_BITS, bits)
+        && is_within(1, MOST_SYMBOLS, n)
+        && is_within(1, MOST_ROWS, count)
 }
 
 // Whether a row has bits above its width.
@@ -27,22 +25,15 @@ fn is_wide(row: u16, width: usize) -> bool
     requires { width ≤ 16 }
     ensures { result ≡ leb (2 ^ width) row }
 {
-    wide(row) >= 1 << width
+    usize::from(row) >= 1 << width
 }
 
-// The first row that has, or the number of rows where none has.
-pub fn first_wide(rows: &[u16], width: usize) -> usize
+// The first row that has.
+pub fn first_wide(rows: &[u16], width: usize) -> Option<usize>
     requires { width ≤ 16 }
-    ensures { result ≡ first_wide width rows.now }
+    ensures { result ≡ found_below (length rows.now) (first_wide width rows.now) }
 {
-    let mut j: usize = 0;
-    while j < rows.len() {
-        if is_wide(rows[j], width) {
-            return j;
-        }
-        j += 1;
-    }
-    j
+    rows.iter().position(|&row| is_wide(row, width))
 }
 
 // 2 to the number of rows.

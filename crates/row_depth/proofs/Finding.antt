@@ -1,52 +1,57 @@
--- Single steps of a depth. Looking for a number: none of the first m is it, until one is, or none is left. A choice between two numbers by
--- a test. In 16 bits: powers of 2 below 2 ^ 16, and the bits before a cut, which are no more than the number.
-use mathlib.Core.Path.{◌≡◌, sym, ap, ◌∙◌}
-use mathlib.Core.Bool.{cond}
-use mathlib.Core.List.{List}
-use Prim.Native.Nat.{ℕ, ◌+◌, ◌*◌, ◌/◌, ◌%◌, ◌^◌, ◌≤◌, ◌<◌}
+-- Single steps of a depth. Looking for a number: it is where it is found, and where it is not found it stands nowhere. In 16 bits: the
+-- bits before a cut, which are no more than the number.
+use mathlib.Core.Path.{◌≡◌, refl, sym, ◌∙◌}
+use mathlib.Core.Bool.{Bool, true, false, cond, not}
+use mathlib.Core.List.{List, [], ◌∷◌}
+use Prim.Native.Nat.{ℕ, zero, suc, ◌+◌, ◌*◌, ◌/◌, ◌%◌, ◌^◌, ◌≤◌, ◌<◌}
 use native.Mathlib.Omega.{arith}
 use native.Mathlib.Nat.{mod-eq_of_lt, div-mul-le_self}
-use native.Mathlib.Decide.{ℕ_discrete}
-use lib.ListN.{get_or}
+use lib.ListN.{length, get_or, take}
+use lib.Seq.{length-take-le}
 use lib.Dec.{ltb}
-use lib.Pow.{pow-lt}
-use borrow.Author.Tests.{lt-ltb, le-ltb}
-use Rattle.row_depth.specs.Inner.Depth.{FoundAt}
+use borrow.Author.Tests.{ltb-false}
+use Rattle.std.specs.Prelude.{◌==◌, Option, Some, None, position}
+use Rattle.std.specs.List.{position_or_len}
+use Rattle.std.proofs.lemmas.List.{get_or-take}
+use Rattle.std.proofs.lemmas.List.Quantifiers.{position-Some}
+use Rattle.std.proofs.lemmas.Bool.{eqb-true, eqb-false}
 
 -- ---- looking for a number
 
--- none of the first m is x
-pub record Missed (seen : List ℕ) (x m : ℕ) : Type 0 where
-  pub miss : (j : ℕ) → j < m → get_or seen j 0 ≡ x → ⊥
+-- the first w numbers have x in the place found, or nowhere
+abbrev pub Found : List ℕ → ℕ → ℕ → Option ℕ → Type 0
+Found seen w x None = (j : ℕ) → j < w → get_or seen j 0 ≡ x → ⊥
+Found seen w x (Some o) = (o < w) × (get_or seen o 0 ≡ x)
 
-pub missed_none : (seen : List ℕ) (x : ℕ) → Missed seen x 0
-missed_none seen x = record { miss = λ j h e. absurd (omega arith) }
-
-pub missed_next : {seen : List ℕ} {x m : ℕ} → Missed seen x m → (get_or seen m 0 ≡ x → ⊥) → Missed seen x (m + 1)
-missed_next {seen} {x} {m} M d = record { miss = λ j h e. go j h e (ℕ_discrete j m) }
+-- no number before the first that is x is x
+others : (x : ℕ) (xs : List ℕ) (j : ℕ) → j < position_or_len (λ s. s == x) xs → get_or xs j 0 ≡ x → ⊥
+others x [] j h e = absurd (omega arith)
+others x (y ∷ xs) j h e = go (y == x) refl j h e (others x xs)
   where
-    go : (j : ℕ) → j < m + 1 → get_or seen j 0 ≡ x → Dec (j ≡ m) → ⊥
-    go j h e (yes q) = d (ap (λ i. get_or seen i 0) (sym q) ∙ e)
-    go j h e (no q) = M.miss j (omega arith) e
+    go : (t : Bool) → (y == x) ≡ t → (j : ℕ) → j < cond (not t) (1 + position_or_len (λ s. s == x) xs) 0 → get_or (y ∷ xs) j 0 ≡ x
+        → ((j : ℕ) → j < position_or_len (λ s. s == x) xs → get_or xs j 0 ≡ x → ⊥) → ⊥
+    go true q j h e rest = absurd (omega arith)
+    go false q zero h e rest = eqb-false y x q e
+    go false q (suc j) h e rest = rest j (omega arith) e
 
-pub found_here : {seen : List ℕ} {w x m : ℕ} → Missed seen x m → m < w → get_or seen m 0 ≡ x → FoundAt seen w x m
-found_here M h e = record { most = omega arith; hit = λ k. e; miss = M.miss }
+pub found_is : (seen : List ℕ) (w x : ℕ) (found : Option ℕ) → w ≤ length seen → found ≡ position (λ s. s == x) (take w seen)
+    → Found seen w x found
+found_is seen w x (Some o) room e =
+    let at = position-Some (λ s. s == x) (take w seen) o 0 (sym e) in
+    let inside : o < w = omega (arith, at.0, length-take-le w seen room) in
+    (inside, sym (get_or-take w seen o 0 inside) ∙ eqb-true _ _ at.1)
+found_is seen w x None room e =
+    λ j h q. others x (take w seen) j (omega (arith, length-take-le w seen room, none (ltb n (length (take w seen))) refl (sym e)))
+    (get_or-take w seen j 0 h ∙ q)
+  where
+    n : ℕ
+    n = position_or_len (λ s. s == x) (take w seen)
 
-pub found_end : {seen : List ℕ} {w x m : ℕ} → Missed seen x m → m ≤ w → w ≤ m → FoundAt seen w x m
-found_end M h k = record { most = h; hit = λ l. absurd (omega arith); miss = M.miss }
+    none : (t : Bool) → ltb n (length (take w seen)) ≡ t → cond t (Some n) None ≡ None → length (take w seen) ≤ n
+    none true l q = absurd cc
+    none false l q = ltb-false n (length (take w seen)) l
 
--- ---- tests
-
-pub when_less : (o w x y : ℕ) → o < w → x ≡ cond (ltb o w) x y
-when_less o w x y h = ap (λ b. cond b x y) (sym (lt-ltb o w h))
-
-pub when_not : (o w x y : ℕ) → w ≤ o → y ≡ cond (ltb o w) x y
-when_not o w x y h = ap (λ b. cond b x y) (sym (le-ltb o w h))
-
--- ---- powers and cuts in 16 bits
-
-pub power_is : (d : ℕ) → d < 16 → (1 * 2 ^ d) % 2 ^ 16 ≡ 2 ^ d
-power_is d h = let l : 2 ^ d < 2 ^ 16 = pow-lt {i = d} {j = 16} h in mod-eq_of_lt (omega arith) ∙ omega arith
+-- ---- cuts in 16 bits
 
 pub cut_is : (x c : ℕ) → x < 65536 → (x / 2 ^ c * 2 ^ c) % 2 ^ 16 ≡ x / 2 ^ c * 2 ^ c
 cut_is x c h = mod-eq_of_lt (omega (arith, div-mul-le_self x (2 ^ c)))

@@ -2,7 +2,6 @@
 -- have the new row's syndrome added to theirs. If an earlier word has this syndrome, its number is added to the numbers; else the next
 -- number is, which is 2 ^ dim, and the dimension grows.
 use mathlib.Core.Path.{◌≡◌, refl, sym, ap, ap₂, subst, ◌∙◌}
-use mathlib.Core.Bool.{cond}
 use mathlib.Core.List.{List}
 use Prim.Native.Nat.{ℕ, suc, ◌+◌, ◌-◌, ◌*◌, ◌/◌, ◌^◌, ◌≤◌, ◌<◌}
 use native.Mathlib.Omega.{arith}
@@ -12,14 +11,14 @@ use native.Mathlib.Decide.{dec_lt}
 use lib.ListN.{length, get_or, set, length-set}
 use lib.Seq.{get_or-set_same, get_or-set_other}
 use lib.Pow.{pow_pos, pow_mono}
-use lib.Dec.{ltb}
-use borrow.Author.Tests.{lt-ltb, le-ltb}
+use Rattle.std.specs.Prelude.{Option, Some, None, IfSome, MatchOption}
 use Rattle.rows.specs.Sums.{◌⊕◌, sum_of}
 use Rattle.rows.specs.Inner.Numbering.{number, numbers_below, Numbered}
 use Rattle.rows.proofs.Sums.{Additive, additive_zero, sum_power}
 use Rattle.rows.proofs.Numbering.{numbered_none, numbered_old, numbered_new, number_old, number_new, high_value}
 use Rattle.row_sums.specs.Inner.Doubled.{Doubled}
-use Rattle.row_depth.specs.Inner.Depth.{FoundAt, syndrome_of, DepthAsked, DepthPut}
+use Rattle.row_depth.proofs.Finding.{Found}
+use Rattle.row_depth.specs.Inner.Depth.{syndrome_of, DepthAsked, DepthPut}
 
 -- the first w = 2 ^ b words have their syndromes in seen and their numbers in new
 pub record Putting (g : ℕ → ℕ) (k : ℕ) (old : List ℕ) (place : ℕ) (seen new : List ℕ) (dim w b : ℕ) : Type 0 where
@@ -69,7 +68,7 @@ row_value columns rows cut b e f = f ∙ ap (sum_of columns) (e ∙ ap (λ y. y 
 -- ---- a turn
 
 module _ {g : ℕ → ℕ} (A : Additive g) {k : ℕ} {old : List ℕ} {place : ℕ} {seen new : List ℕ} {dim w b : ℕ}
-    (P : Putting g k old place seen new dim w b) (h : b < k) {x o : ℕ} (value : x ≡ g (2 ^ b)) (F : FoundAt seen w x o) where
+    (P : Putting g k old place seen new dim w b) (h : b < k) {x : ℕ} (value : x ≡ g (2 ^ b)) where
   -- both halves
   halves : (Q : ℕ → Type 0) → ((i : ℕ) → i < w → Q i) → ((j : ℕ) → j < w → Q (w + j)) → (i : ℕ) → i < w + w → Q i
   halves Q low high i l = go (dec_lt i w)
@@ -105,30 +104,30 @@ module _ {g : ℕ → ℕ} (A : Additive g) {k : ℕ} {old : List ℕ} {place : 
     places = E.len ∙ P.places;
   }
 
-  pub putting_next : {c dim' : ℕ} {seen' new' : List ℕ} → c ≡ cond (ltb o w) (get_or new (place + o) 0) (2 ^ dim)
-      → dim' ≡ cond (ltb o w) dim (dim + 1) → Doubled place w c new w new' → Doubled 0 w x seen w seen'
-      → Putting g k old place seen' new' dim' (w + w) (b + 1)
-  putting_next {c} {dim'} {seen'} {new'} p q D E =
-      subst (λ m. Putting g k old place seen' new' dim' (w + w) m) (sym (add-one b)) (go (dec_lt o w))
+  pub putting_next : {c dim' : ℕ} {seen' new' : List ℕ} (found : Option ℕ) → Found seen w x found
+      → MatchOption found (c ≡ 2 ^ dim) (λ o. c ≡ get_or new (place + o) 0) → MatchOption found (dim' ≡ dim + 1) (λ _. dim' ≡ dim)
+      → Doubled place w c new w new' → Doubled 0 w x seen w seen' → Putting g k old place seen' new' dim' (w + w) (b + 1)
+  putting_next {c} {dim'} {seen'} {new'} found F p q D E =
+      subst (λ m. Putting g k old place seen' new' dim' (w + w) m) (sym (add-one b)) (go found F p q)
     where
       Next : ℕ → Type 0
       Next d = Putting g k old place seen' new' d (w + w) (suc b)
 
-      go : Dec (o < w) → Next dim'
-      go (yes l) =
-          let same : g o ≡ g (2 ^ b) = sym (P.values o l) ∙ F.hit l ∙ value in
-          let cs : c ≡ number g o = p ∙ ap (λ t. cond t (get_or new (place + o) 0) (2 ^ dim)) (lt-ltb o w l) ∙ P.row o l in
-          subst Next (sym (q ∙ ap (λ t. cond t dim (dim + 1)) (lt-ltb o w l)))
+      go : (found : Option ℕ) → Found seen w x found → MatchOption found (c ≡ 2 ^ dim) (λ o. c ≡ get_or new (place + o) 0)
+          → MatchOption found (dim' ≡ dim + 1) (λ _. dim' ≡ dim) → Next dim'
+      go (Some o) (l, hit) p q =
+          let same : g o ≡ g (2 ^ b) = sym (P.values o l) ∙ hit ∙ value in
+          let cs : c ≡ number g o = p ∙ P.row o l in
+          subst Next (sym q)
           (turn dim (numbered_old A P.numbered o (inside o l) same) (omega (arith, P.less))
           (λ j s. number_old A P.numbered o (inside o l) same j s ∙ ap (λ y. y ⊕ number g j) (sym cs)) D E)
-      go (no l) =
-          let cs : c ≡ 2 ^ dim = p ∙ ap (λ t. cond t (get_or new (place + o) 0) (2 ^ dim)) (le-ltb o w (omega arith)) in
-          subst Next (sym (q ∙ ap (λ t. cond t dim (dim + 1)) (le-ltb o w (omega arith)) ∙ add-one dim))
+      go None miss p q =
+          subst Next (sym (q ∙ add-one dim))
           (turn (suc dim) (numbered_new A P.numbered fresh) (omega (arith, P.less))
-          (λ j s. number_new A P.numbered fresh j s ∙ ap (λ y. y ⊕ number g j) (sym cs)) D E)
+          (λ j s. number_new A P.numbered fresh j s ∙ ap (λ y. y ⊕ number g j) (sym p)) D E)
         where
           fresh : (i : ℕ) → i < 2 ^ b → g i ≡ g (2 ^ b) → ⊥
-          fresh i s e = let r : i < w = subst (λ m. i < m) (sym P.wide) s in F.miss i (omega arith) (P.values i r ∙ e ∙ sym value)
+          fresh i s e = let r : i < w = subst (λ m. i < m) (sym P.wide) s in miss i r (P.values i r ∙ e ∙ sym value)
 
 -- ---- how large things are, and the end
 
@@ -142,6 +141,13 @@ module _ {columns rows map seen new : List ℕ} {cut place dim w b : ℕ} (A : D
 
   pub seen_room : b < length rows → 0 + (w + w) ≤ length seen
   seen_room h = omega (arith, twice h, pow_mono {i = length rows} {j = 10} A.few, P.places)
+
+  pub seen_inside : b < length rows → w ≤ length seen
+  seen_inside h = omega (arith, seen_room h)
+
+  pub found_inside : b < length rows → (x : ℕ) (found : Option ℕ) → Found seen w x found → IfSome found (λ o. place + o < length new)
+  found_inside h x (Some o) (l, e) = omega (arith, row_room h)
+  found_inside h x None miss = tt
 
   pub dim_few : b < length rows → dim < 10
   dim_few h = omega (arith, P.less, A.few)

@@ -3,8 +3,8 @@
 
 #![tactic(auto)]
 
-ghost use Rattle.std.specs.Prelude.{◌≡◌, cond, ◌+◌, ◌*◌, ◌/◌, ◌^◌, ◌≤◌, ◌<◌, length, get_or, ltb};
-ghost use Rattle.row_depth.specs.Inner.Depth.{FoundAt, DepthAsked, DepthPut};
+ghost use Rattle.std.specs.Prelude.{◌≡◌, ◌==◌, ◌+◌, ◌*◌, ◌/◌, ◌^◌, ◌<◌, length, get_or, position, IfSome, MatchOption};
+ghost use Rattle.row_depth.specs.Inner.Depth.{DepthAsked, DepthPut};
 
 use parity::ROW_BITS;
 use row_sums::double;
@@ -18,35 +18,33 @@ fn before_cut(x: u16, cut: usize) -> u16
     (x >> cut) << cut
 }
 
-// The first of the first w numbers that is x, or w where none is.
-fn find(seen: &[u16], w: usize, x: u16) -> usize
-    requires { w ≤ length seen.now }
-    ensures { FoundAt seen.now w x result }
+// The first of the numbers that is x.
+fn find(seen: &[u16], x: u16) -> Option<usize>
+    ensures { result ≡ position (λ s. s == x) seen.now }
 {
-    let mut j: usize = 0;
-    while j < w {
-        if seen[j] == x {
-            return j;
-        }
-        j += 1;
-    }
-    j
+    seen.iter().position(|&s| s == x)
 }
 
-// The vertex of the new row: that of word o, or the next one.
-pub fn added(map: &[u16], place: usize, o: usize, w: usize, dim: usize) -> u16
-    requires { (place + w ≤ length map.now) × (dim < 16) }
-    ensures { result ≡ cond (ltb o w) (get_or map.now (place + o) 0) (2 ^ dim) }
+// The vertex of the new row: that of the word found, or the next one.
+fn added(map: &[u16], place: usize, found: Option<usize>, dim: usize) -> u16
+    requires { IfSome found (λ o. place + o < length map.now) × (dim < 16) }
+    ensures { MatchOption found (result ≡ 2 ^ dim) (λ o. result ≡ get_or map.now (place + o) 0) }
 {
-    if o < w { map[place + o] } else { 1 << dim }
+    match found {
+        Some(o) => map[place + o],
+        None => 1 << dim,
+    }
 }
 
 // The dimension then.
-pub fn counted(dim: usize, o: usize, w: usize) -> usize
+fn counted(dim: usize, found: Option<usize>) -> usize
     requires { dim < 16 }
-    ensures { result ≡ cond (ltb o w) dim (dim + 1) }
+    ensures { MatchOption found (result ≡ dim + 1) (λ o. result ≡ dim) }
 {
-    if o < w { dim } else { dim + 1 }
+    match found {
+        Some(_) => dim,
+        None => dim + 1,
+    }
 }
 
 // The vertices of all words at a depth with `cut` bits behind it, from `place` on; gives the dimension.
@@ -64,16 +62,14 @@ pub fn put_depth(
     map[place] = 0;
     let mut dim: usize = 0;
     let mut w: usize = 1;
-    let mut b: usize = 0;
-    while b < rows.len() {
-        let x = parity::syndrome(columns, before_cut(rows[b], cut));
-        let o = find(&seen, w, x);
-        let c = added(map, place, o, w, dim);
-        dim = counted(dim, o, w);
+    for &row in rows {
+        let x = parity::syndrome(columns, before_cut(row, cut));
+        let found = find(&seen[..w], x);
+        let c = added(map, place, found, dim);
+        dim = counted(dim, found);
         double(map, place, w, c);
         double(&mut seen, 0, w, x);
-        w = w + w;
-        b += 1;
+        w += w;
     }
     dim
 }

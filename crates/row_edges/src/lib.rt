@@ -7,7 +7,6 @@ ghost use Rattle.trellis.specs.Layout.{joined_up};
 ghost use Rattle.trellis.specs.Inner.Write.{Wrote};
 ghost use Rattle.row_pieces.specs.Inner.Pieces.{step_pairs, step_symbols, PiecesAsked};
 
-use numbers::wide;
 pub use row_arcs::take_edges;
 use row_pieces::{put_pairs, put_symbols};
 use trellis::MOST_SYMBOLS;
@@ -27,12 +26,10 @@ pub fn put_all_pairs(
 {
     let mut to = at;
     let mut lo: usize = 0;
-    let mut t: usize = 0;
-    while t < n {
-        let hi = lo + wide(counts[t]);
+    for t in 0..n {
+        let hi = lo + usize::from(counts[t]);
         to = put_pairs(&edges[lo..hi], dims[t + 1], section, to);
         lo = hi;
-        t += 1;
     }
     to
 }
@@ -52,12 +49,10 @@ pub fn put_all_symbols(
 {
     let mut to = at;
     let mut lo: usize = 0;
-    let mut t: usize = 0;
-    while t < n {
-        let hi = lo + wide(counts[t]);
+    for t in 0..n {
+        let hi = lo + usize::from(counts[t]);
         to = put_symbols(&edges[lo..hi], dims[t + 1], section, to);
         lo = hi;
-        t += 1;
     }
     to
 }

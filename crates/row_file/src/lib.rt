@@ -2,7 +2,7 @@
 
 #![tactic(auto)]
 
-ghost use Rattle.std.specs.Prelude.{◌≡◌, ◌+◌, ◌*◌, ◌/◌, ◌%◌, ◌^◌, ◌≤◌, ◌<◌, length};
+ghost use Rattle.std.specs.Prelude.{◌≡◌, ◌+◌, ◌*◌, ◌^◌, ◌≤◌, length};
 ghost use mathlib.Core.List.{◌∷◌, map, flat_map};
 ghost use Rattle.trellis.specs.Lists.{each, over};
 ghost use Rattle.trellis.specs.Inner.Write.{Wrote};
@@ -12,31 +12,10 @@ ghost use Rattle.rows.specs.Table.{row_width, word_of};
 ghost use Rattle.rows.specs.Inner.Reduced.{Narrow};
 ghost use Rattle.row_file.specs.Inner.Filing.{FileAsked, state_bytes};
 
-use numbers::wide;
+use parity::low_bits;
 use row_labels::labels_of;
 use row_sums::put_sums;
 use trellis::MOST_WORDS;
-
-// The first and the last state of a word.
-fn root_of(x: u16, behind: usize) -> u8
-    requires { (behind < 16) × (x / 2 ^ behind < 256) }
-    ensures { result ≡ x / 2 ^ behind }
-{
-    (x >> behind) as u8
-}
-
-fn goal_of(x: u16, bits: usize) -> u8
-    requires { bits ≤ 4 }
-    ensures { result ≡ x % 2 ^ bits }
-{
-    (x & ((1 << bits) - 1)) as u8
-}
-
-fn byte(x: usize) -> u8
-    ensures { result ≡ x % 256 }
-{
-    (x % 256) as u8
-}
 
 // q, n, S and W.
 fn put_sizes(n: usize, bits: usize, count: usize, file: &mut [u8])
@@ -44,10 +23,10 @@ fn put_sizes(n: usize, bits: usize, count: usize, file: &mut [u8])
     ensures { Wrote file.old 0 (2 ∷ n ∷ 2 ^ bits ∷ bytes_of count) file.new 5 }
 {
     file[0] = 2;
-    file[1] = byte(n);
-    file[2] = byte(1 << bits);
-    file[3] = byte(count);
-    file[4] = byte(count / 256);
+    file[1] = n as u8;
+    file[2] = 1 << bits;
+    file[3] = (count % 256) as u8;
+    file[4] = (count / 256) as u8;
 }
 
 // The words' states, from place 5 on.
@@ -57,12 +36,10 @@ fn put_states(words: &[u16], bits: usize, n: usize, file: &mut [u8]) -> usize
     ensures { Wrote file.old 5 (flat_map (state_bytes bits n) words.now) file.new result }
 {
     let mut at: usize = 5;
-    let mut i: usize = 0;
-    while i < words.len() {
-        file[at] = root_of(words[i], n + bits);
-        file[at + 1] = goal_of(words[i], bits);
+    for &word in words {
+        file[at] = (word >> (n + bits)) as u8;
+        file[at + 1] = low_bits(word, bits) as u8;
         at += 2;
-        i += 1;
     }
     at
 }
@@ -74,13 +51,10 @@ fn put_labels(labels: &[u16], start: usize, file: &mut [u8])
         (start + 2 * length labels.now) }
 {
     let mut at = start;
-    let mut i: usize = 0;
-    while i < labels.len() {
-        let label = wide(labels[i]);
-        file[at] = byte(label);
-        file[at + 1] = byte(label / 256);
+    for &label in labels {
+        file[at] = (label % 256) as u8;
+        file[at + 1] = (label / 256) as u8;
         at += 2;
-        i += 1;
     }
 }
 

@@ -6,7 +6,6 @@ use mathlib.Core.List.{List, ◌∷◌}
 use Prim.Native.Nat.{ℕ, zero, suc, ◌+◌, ◌-◌, ◌*◌, ◌/◌, ◌%◌, ◌^◌, ◌≤◌, ◌<◌}
 use native.Mathlib.Omega.{arith}
 use native.Mathlib.Nat.{div-one, sub_self, sub-zero, pow-suc, pow-le-pow_right}
-use lib.ListN.{length, get_or, set, length-map}
 use lib.Pow.{shr-shr}
 use lib.Bits.{bit_and, and_mask}
 use lib.Dec.{lit<}
@@ -16,9 +15,6 @@ use Rattle.rows.specs.Table.{spread}
 use Rattle.rows.proofs.Words.{spread_lt, spread_adds}
 use Rattle.rows.proofs.Sums.{Additive, sum_map}
 use Rattle.rows.proofs.Outer.{high_adds}
-use Rattle.rows.proofs.Tables.{map_at}
-use Rattle.parity.specs.Inner.Front.{Front}
-use Rattle.parity.proofs.Fronts.{Fills, fills_next, fills_all}
 use Rattle.row_labels.specs.Inner.Labels.{labels_of}
 
 -- ---- bit by bit
@@ -56,18 +52,6 @@ pub spreading_end : {x n label left : ℕ} → Spreading x n label left → left
 spreading_end {x} {n} {label} {left} S h =
     let e : left ≡ 0 = omega arith in
     S.is ∙ ap (λ k. spread (n - k) (x / 2 ^ k)) e ∙ ap₂ spread (sub-zero n) (div-one x)
-
--- ---- row by row
-
-module _ (s n : ℕ) (rows : List ℕ) {array : List ℕ} {b : ℕ} (F : Fills (labels_of s n rows) b array) where
-  pub labels_next : {v : ℕ} → b < length rows → length rows ≤ 10 → v ≡ spread n (get_or rows b 0 / 2 ^ s)
-      → Fills (labels_of s n rows) (b + 1) (set array b v)
-  labels_next h few e =
-      let l = length-map rows (λ r. spread n (r / 2 ^ s)) in
-      fills_next F (omega arith) (omega arith) (e ∙ sym (map_at (λ r. spread n (r / 2 ^ s)) 0 0 rows b h))
-
-  pub labels_all : length rows ≤ b → Front (labels_of s n rows) array
-  labels_all h = let l = length-map rows (λ r. spread n (r / 2 ^ s)) in fills_all F (omega arith)
 
 -- ---- sum by sum
 

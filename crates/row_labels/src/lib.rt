@@ -7,7 +7,7 @@ ghost use Rattle.rows.specs.Table.{spread};
 ghost use Rattle.parity.specs.Inner.Front.{Front};
 ghost use Rattle.row_labels.specs.Inner.Labels.{labels_of};
 
-use parity::ROW_BITS;
+use parity::{ROW_BITS, each_row};
 
 // The last n bits of x as a packed label of n symbols.
 fn spread_bits(x: u16, n: usize) -> u16
@@ -15,9 +15,7 @@ fn spread_bits(x: u16, n: usize) -> u16
     ensures { result ≡ spread n x }
 {
     let mut label: u16 = 0;
-    let mut left = n;
-    while left > 0 {
-        left -= 1;
+    for left in (0..n).rev() {
         label = 4 * label + ((x >> left) & 1);
     }
     label
@@ -28,11 +26,5 @@ pub fn labels_of(rows: &[u16], bits: usize, n: usize) -> [u16; ROW_BITS]
     requires { (length rows.now ≤ 10) × (bits ≤ 4) × (n ≤ 8) }
     ensures { Front (labels_of bits n rows.now) result }
 {
-    let mut labels = [0u16; ROW_BITS];
-    let mut b: usize = 0;
-    while b < rows.len() {
-        labels[b] = spread_bits(rows[b] >> bits, n);
-        b += 1;
-    }
-    labels
+    each_row(rows, |row| spread_bits(row >> bits, n))
 }

@@ -134,12 +134,9 @@ module _ {s n : ℕ} {rows columns : List ℕ} {w : ℕ} {old : List ℕ} (A : M
 
         -- ---- the dimensions
 
-        dims_few : (t : ℕ) → get_or (all_dims dims n first last) t 0 ≤ 10
+        pub dims_few : (t : ℕ) → get_or (all_dims dims n first last) t 0 ≤ 10
         dims_few t = dims_by dims n first last I.nine A.some A.symbols (λ u d. d ≤ 10)
             (omega (arith, root_put.few)) (omega (arith, goal_put.few)) (λ u p d. I.few u) t
-
-        pub counts_asked : ((t : ℕ) → get_or (all_dims dims n first last) t 0 ≤ 10) × (length (all_dims dims n first last) ≡ 9)
-        counts_asked = (dims_few, dims_nine dims n first last I.nine A.some A.symbols)
 
         dimension : (t : ℕ) → t ≤ n → 2 ^ get_or (all_dims dims n first last) t 0 ≡ vertex_count n (table_of s n rows) t
         unfolding vertex_count

@@ -4,19 +4,13 @@
 
 #![tactic(auto)]
 
-ghost use Rattle.std.specs.Prelude.{◌≡◌, ℕ, ◌^◌, ◌≤◌, length, get_or};
+ghost use Rattle.std.specs.Prelude.{ℕ, ◌≤◌, get_or};
 ghost use Rattle.row_map.specs.Inner.Maps.{MapAsked, InnerPut, CountsOf, MapPut};
 
 use parity::ROW_BITS;
 use trellis::MOST_SYMBOLS;
 
-// The dimensions of the inner depths.
-#[derive(Clone, Copy)]
-struct Dims {
-    dims: [usize; MOST_SYMBOLS + 1],
-}
-
-// The vertices of all inner depths into the map, that of depth t from place t * w on.
+// The vertices of all inner depths into the map, that of depth t from place t * w on; gives the depths' dimensions.
 fn put_inner(
     columns: &[u16; ROW_BITS],
     rows: &[u16],
@@ -24,37 +18,25 @@ fn put_inner(
     bits: usize,
     n: usize,
     map: &mut [u16],
-) -> Dims
+) -> [usize; MOST_SYMBOLS + 1]
     requires { MapAsked bits n rows.now columns.now w map.old }
-    ensures { InnerPut bits n rows.now columns.now w map.old map.new result.dims n }
+    ensures { InnerPut bits n rows.now columns.now w map.old map.new result n }
 {
     let mut dims = [0usize; MOST_SYMBOLS + 1];
-    let mut t: usize = 1;
-    while t < n {
+    for t in 1..n {
         dims[t] = row_depth::put_depth(columns, rows, n - t + bits, map, t * w);
-        t += 1;
     }
-    Dims { dims }
-}
-
-// 2 to the dimension.
-fn power(dim: usize) -> u16
-    requires { dim ≤ 10 }
-    ensures { result ≡ 2 ^ dim }
-{
-    1 << dim
+    dims
 }
 
 // How many vertices the depths have.
 fn counts_of(dims: &[usize; MOST_SYMBOLS + 1]) -> [u16; MOST_SYMBOLS + 1]
-    requires { ((t : ℕ) → get_or dims.now t 0 ≤ 10) × (length dims.now ≡ 9) }
+    requires { (t : ℕ) → get_or dims.now t 0 ≤ 10 }
     ensures { CountsOf dims.now result }
 {
     let mut counts = [0u16; MOST_SYMBOLS + 1];
-    let mut t: usize = 0;
-    while t < MOST_SYMBOLS + 1 {
-        counts[t] = power(dims[t]);
-        t += 1;
+    for (t, &dim) in dims.iter().enumerate() {
+        counts[t] = 1 << dim;
     }
     counts
 }
@@ -81,14 +63,13 @@ pub fn put_map(
     ensures { MapPut bits n rows.now w map.old map.new result.dims result.counts result.roots
         result.goals }
 {
-    let inner = put_inner(columns, rows, w, bits, n, map);
+    let mut dims = put_inner(columns, rows, w, bits, n, map);
     let roots = row_states::roots_of(rows, n + bits);
     let first = row_states::put_outer(&roots[..rows.len()], map, 0);
     let goals = row_states::goals_of(rows, bits);
     let last = row_states::put_outer(&goals[..rows.len()], map, n * w);
     let root_states = first.keys;
     let goal_states = last.keys;
-    let mut dims = inner.dims;
     dims[0] = first.dim;
     dims[n] = last.dim;
     let counts = counts_of(&dims);

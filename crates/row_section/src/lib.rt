@@ -6,7 +6,6 @@ ghost use Rattle.std.specs.Prelude.{◌≡◌, ◌*◌, ◌+◌};
 ghost use Rattle.trellis.specs.Lists.{over};
 ghost use Rattle.row_section.specs.Inner.Parts.{numbers_by, PartsAsked};
 
-use numbers::wide;
 use row_checks::states_of;
 use row_map::Depths;
 use takers::Edges;
@@ -26,14 +25,16 @@ pub fn put_section(
         ≡ over (numbers_by bits n depths.dims depths.counts edges.counts depths.roots depths.goals numbers.now)
         section.old }
 {
-    let dims = depths.dims;
-    let vertices = depths.counts;
-    let roots = depths.roots;
-    let goals = depths.goals;
+    let Depths {
+        dims,
+        counts,
+        roots,
+        goals,
+    } = depths;
     let steps = edges.counts;
-    assemble::put_sizes(2, n, states_of(bits), &vertices, &steps, section);
-    let mut at = assemble::put_numbers(&roots, wide(vertices[0]), section, 4 + 2 * n);
-    at = assemble::put_numbers(&goals, wide(vertices[n]), section, at);
+    assemble::put_sizes(2, n, states_of(bits), &counts, &steps, section);
+    let mut at = assemble::put_numbers(&roots, usize::from(counts[0]), section, 4 + 2 * n);
+    at = assemble::put_numbers(&goals, usize::from(counts[n]), section, at);
     at = row_edges::put_all_pairs(numbers, &steps, n, &dims, section, at);
     row_edges::put_all_symbols(numbers, &steps, n, &dims, section, at);
 }

@@ -13,7 +13,7 @@ use Rattle.trellis.specs.Inner.Write.{Wrote}
 use Rattle.trellis.proofs.Lists.{length_run, each_at}
 use Rattle.trellis.proofs.Write.{wrote_length, wrote_front, wrote_before, wrote_at, wrote_behind}
 use Rattle.rows.specs.Sums.{sum_of, sums}
-use Rattle.rows.specs.Inner.Reduced.{Narrow, Spans}
+use Rattle.rows.specs.Inner.Reduced.{Narrow, Spans, reduced_rows}
 use Rattle.rows.proofs.Growing.{spans_sums}
 use Rattle.rows.proofs.Spanning.{reduced_few}
 use Rattle.rows.proofs.Ranks.{rank_sum}
@@ -32,40 +32,46 @@ all_length rows = length_run (sum_of rows) 0 (2 ^ length rows)
 pub values_narrow : {values old : List ℕ} {place : ℕ} → OuterAsked values old place → Narrow 16 values
 values_narrow A j h = omega (arith, A.narrow j h)
 
-module _ {values old columns base : List ℕ} {place dim : ℕ} (A : OuterAsked values old place) (S : Spans 16 values columns)
-    (B : Basis columns base dim) where
+module _ {values old columns base given : List ℕ} {place dim : ℕ} (A : OuterAsked values old place) (S : Spans 16 values columns)
+    (B : Basis columns base dim) (lent : given ≡ take dim base) where
   -- ---- the states
 
+  given_are : given ≡ reduced_rows columns
+  given_are = lent ∙ B.are
+
+  given_length : dim ≡ length given
+  given_length = basis_length B ∙ ap length (sym lent)
+
   basis_few : dim ≤ 4
-  basis_few = omega (arith, basis_length B, ap length B.are, reduced_few {N = 16} {M = 4} S (values_narrow A) A.narrow)
+  basis_few = omega (arith, given_length, ap length given_are, reduced_few {N = 16} {M = 4} S (values_narrow A) A.narrow)
 
-  basis_sums : 2 ^ length (take dim base) ≤ 16
-  basis_sums = pow_mono {i = length (take dim base)} {j = 4} (omega (arith, basis_length B, basis_few))
+  basis_sums : 2 ^ length (given) ≤ 16
+  basis_sums = pow_mono {i = length (given)} {j = 4} (omega (arith, given_length, basis_few))
 
-  pub basis_asked : (length (take dim base) ≤ 10) × (0 + 2 ^ length (take dim base) ≤ 16)
-  basis_asked = (omega (arith, basis_length B, basis_few), omega (arith, basis_sums))
+  pub basis_asked : (length (given) ≤ 10) × (0 + 2 ^ length (given) ≤ 16)
+  basis_asked = (omega (arith, given_length, basis_few), omega (arith, basis_sums))
 
-  sums_are : all_sums (take dim base) ≡ sums values
-  sums_are = ap all_sums B.are ∙ sym (spans_sums S (values_narrow A))
+  sums_are : all_sums (given) ≡ sums values
+  sums_are = ap all_sums given_are ∙ sym (spans_sums S (values_narrow A))
 
-  module _ {none keys : List ℕ} {count : ℕ} (W : Wrote none 0 (all_sums (take dim base)) keys count) (sixteen : length none ≡ 16) where
-    count_is_lem : count ≡ length (all_sums (take dim base))
+  module _ {none keys : List ℕ} {count : ℕ} (W : Wrote none 0 (all_sums (given)) keys count) (sixteen : length none ≡ 16) where
+    count_is_lem : count ≡ length (all_sums (given))
     count_is_lem = omega (arith, W.end_is)
 
     keys_sixteen : length keys ≡ 16
     keys_sixteen = wrote_length W ∙ sixteen
 
     pub keys_inside : count ≤ length keys
-    keys_inside = omega (arith, count_is_lem, all_length (take dim base), basis_sums, keys_sixteen)
+    keys_inside = omega (arith, count_is_lem, all_length (given), basis_sums, keys_sixteen)
 
     pub keys_length : count ≡ length (take count keys)
     keys_length = sym (length-take-le count keys keys_inside)
 
     keys_are : take count keys ≡ sums values
     keys_are =
-        let room : length (all_sums (take dim base)) ≤ length none = omega (arith, count_is_lem, keys_inside, wrote_length W) in
-        ap (λ k. take k keys) count_is_lem ∙ ap (take (length (all_sums (take dim base)))) (wrote_front W room)
-        ∙ take-append_seam (all_sums (take dim base)) (drop (length (all_sums (take dim base))) none) ∙ sums_are
+        let room : length (all_sums (given)) ≤ length none = omega (arith, count_is_lem, keys_inside, wrote_length W) in
+        ap (λ k. take k keys) count_is_lem ∙ ap (take (length (all_sums (given)))) (wrote_front W room)
+        ∙ take-append_seam (all_sums (given)) (drop (length (all_sums (given))) none) ∙ sums_are
 
     pub keys_few : length (take count keys) ≤ 1024
     keys_few = omega (arith, keys_length, keys_inside, keys_sixteen)
@@ -97,7 +103,7 @@ module _ {values old columns base : List ℕ} {place dim : ℕ} (A : OuterAsked 
         front = λ i h. wrote_before P i h;
         behind = λ i h. wrote_behind P i (omega (arith, long));
         states = record { are = ap (λ k. take k keys) (sym sums_count) ∙ keys_are; sixteen = keys_sixteen };
-        counted = ap (λ k. 2 ^ k) (basis_length B) ∙ sym (all_length (take dim base)) ∙ ap length sums_are;
+        counted = ap (λ k. 2 ^ k) given_length ∙ sym (all_length (given)) ∙ ap length sums_are;
         few = basis_few;
       }
         where

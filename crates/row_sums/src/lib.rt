@@ -13,10 +13,8 @@ pub fn double(row: &mut [u16], place: usize, w: usize, c: u16)
     requires { place + (w + w) ≤ length row.old }
     ensures { Doubled place w c row.old w row.new }
 {
-    let mut j: usize = 0;
-    while j < w {
+    for j in 0..w {
         row[place + w + j] = c ^ row[place + j];
-        j += 1;
     }
 }
 
@@ -28,11 +26,9 @@ pub fn put_sums(rows: &[u16], buffer: &mut [u16], place: usize) -> usize
 {
     buffer[place] = 0;
     let mut w: usize = 1;
-    let mut b: usize = 0;
-    while b < rows.len() {
-        double(buffer, place, w, rows[b]);
-        w = w + w;
-        b += 1;
+    for &row in rows {
+        double(buffer, place, w, row);
+        w += w;
     }
     place + w
 }

@@ -7,16 +7,10 @@ use Rattle.parity.proofs.check.Goals as goal
 pub loop-j-init : goal.loop-j-init
 loop-j-init c = (check_start _, search rules)
 
-pub syndrome-z-requires : goal.syndrome-z-requires
-syndrome-z-requires c = c.loop-j.invariant.0.spans.checks.wide
-
 pub returns-then-z-eq0 : goal.returns-then-z-eq0
 returns-then-z-eq0 c =
     let narrow = c.requires in
     check_stop c.loop-j.invariant.0 narrow (search rules) c.syndrome-z.ensures c.if-z-eq0.true
-
-pub take_up-requires : goal.take_up-requires
-take_up-requires c = c.loop-j.invariant.0.spans.checks.wide
 
 pub loop-j-preserved : goal.loop-j-preserved
 loop-j-preserved c =

@@ -1,13 +1,7 @@
--- `parity::highest` halves z until 1 is left: the loop keeps how often it was halved.
+-- `parity::highest` counts the leading zeros of 16 bits.
 use borrow.Author.Rules.{rules}
-use Rattle.parity.proofs.TopBit.{shifted_none, shifted_next, shifted_end}
+use Rattle.parity.proofs.TopBit.{top_bit}
 use Rattle.parity.proofs.highest.Goals as goal
 
-pub loop-rest-init : goal.loop-rest-init
-loop-rest-init c = shifted_none _ (search rules)
-
-pub loop-rest-preserved : goal.loop-rest-preserved
-loop-rest-preserved c = shifted_next c.loop-rest.invariant (search rules)
-
 pub returns : goal.returns
-returns c = shifted_end c.loop-rest.invariant (search rules) (search rules)
+returns c = top_bit c.args.z c.requires (search rules)

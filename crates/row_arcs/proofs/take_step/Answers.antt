@@ -2,7 +2,8 @@
 use mathlib.Core.Path.{sym}
 use native.Mathlib.Omega.{arith}
 use lib.Seq.{length-take-le}
-use Rattle.row_arcs.proofs.StepSums.{arcs_fit, arcs_narrow, base_fit, base_few, base_room, step_sums_lem}
+use Rattle.reduced_rows.proofs.ReadingOff.{basis_fits}
+use Rattle.row_arcs.proofs.StepSums.{arcs_fit, arcs_narrow, base_few, base_room, step_sums_lem}
 use Rattle.row_arcs.proofs.take_step.Goals as goal
 
 pub slice_bounds-check_all-end : goal.slice_bounds-check_all-end
@@ -11,20 +12,20 @@ slice_bounds-check_all-end c = sym (length-take-le _ _ (arcs_fit c.requires.0 c.
 pub check_all-columns-requires : goal.check_all-columns-requires
 check_all-columns-requires c = arcs_narrow c.requires.0 c.arcs_of-arcs.ensures
 
-pub slice_bounds-put_sums-end : goal.slice_bounds-put_sums-end
-slice_bounds-put_sums-end c = sym (length-take-le _ _ (base_fit c.reduced-reduced.ensures))
+pub as_slice-requires : goal.as_slice-requires
+as_slice-requires c = basis_fits c.reduced-reduced.ensures
 
 pub put_sums-requires : goal.put_sums-requires
 put_sums-requires c = (
-  base_few c.requires.0 c.arcs_of-arcs.ensures c.check_all-columns.ensures c.reduced-reduced.ensures,
+  base_few c.requires.0 c.arcs_of-arcs.ensures c.check_all-columns.ensures c.reduced-reduced.ensures c.as_slice.ensures,
   omega (
     arith,
-    base_room c.requires.0 c.arcs_of-arcs.ensures c.check_all-columns.ensures c.reduced-reduced.ensures,
+    base_room c.requires.0 c.arcs_of-arcs.ensures c.check_all-columns.ensures c.reduced-reduced.ensures c.as_slice.ensures,
     c.requires.1,
   ),
 )
 
 pub returns : goal.returns
 returns c =
-    step_sums_lem c.requires.0 c.arcs_of-arcs.ensures c.check_all-columns.ensures c.reduced-reduced.ensures
+    step_sums_lem c.requires.0 c.arcs_of-arcs.ensures c.check_all-columns.ensures c.reduced-reduced.ensures c.as_slice.ensures
     c.put_sums.ensures

@@ -1,17 +1,16 @@
--- `row_checks::first_wide` stops at the first wide row: none before row j is wide.
-use Rattle.row_checks.proofs.Checks.{wide_start, wide_next, wide_here, wide_end}
+-- `row_checks::first_wide` looks for the first wide row.
+use mathlib.Core.Path.{◌∙◌}
+use Prim.Native.Nat.{◌^◌}
+use lib.Dec.{leb}
+use Rattle.std.proofs.lemmas.Iterator.{YieldsList-from_slice}
+use Rattle.std.proofs.lemmas.Iterator.Search.{position_from_yields_List}
+use borrow.Author.Rules.{rules}
+use borrow.Author.Tests.{tests}
+use Rattle.row_checks.proofs.Checks.{found_wide}
 use Rattle.row_checks.proofs.first_wide.Goals as goal
 
-pub loop-j-init : goal.loop-j-init
-loop-j-init c = wide_start _ _
-
-pub returns-then-is_wide : goal.returns-then-is_wide
-returns-then-is_wide c = wide_here c.loop-j.invariant c.is_wide.ensures c.if-is_wide.true
-
-pub loop-j-preserved : goal.loop-j-preserved
-loop-j-preserved c =
-    wide_next c.loop-j.invariant c.loop-j-test.true c.is_wide.ensures
-    c.if-is_wide.false
-
 pub returns : goal.returns
-returns c = wide_end c.loop-j.invariant c.loop-j-test.false
+returns c =
+    position_from_yields_List (λ row. leb (2 ^ c.args.width) row) _ _ _ c.position.ensures.ran (YieldsList-from_slice c.args.rows.now cc)
+    (λ x b q k. search (rules, tests))
+    ∙ found_wide c.args.width c.args.rows.now

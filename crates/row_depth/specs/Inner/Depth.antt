@@ -4,12 +4,6 @@ use Rattle.rows.specs.Sums.{sum_of}
 use Rattle.rows.specs.Check.{syndrome_at}
 use Rattle.rows.specs.Inner.Numbering.{number, numbers_below}
 
--- o is the first of the first w numbers that is x, or w where none is
-pub record FoundAt (seen : List ℕ) (w x o : ℕ) : Type 0 where
-  pub most : o ≤ w
-  pub hit : o < w → get_or seen o 0 ≡ x
-  pub miss : (j : ℕ) → j < o → get_or seen j 0 ≡ x → ⊥
-
 -- the syndrome of word i before a cut
 abbrev pub syndrome_of : List ℕ → List ℕ → ℕ → ℕ → ℕ
 syndrome_of columns rows cut i = syndrome_at columns cut (sum_of rows i)

@@ -17,5 +17,4 @@ bounds-file-3 c = simp length-set (omega arith)
 pub returns : goal.returns
 returns c =
     let a = c.args in
-    sizes_put a.file.now a.n a.bits a.count (search rules) (search rules) (search rules) c.byte.ensures
-    c.byte-2.ensures c.byte-3.ensures c.byte-4.ensures
+    sizes_put a.file.now a.n a.bits a.count (search rules)

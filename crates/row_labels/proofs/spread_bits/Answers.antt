@@ -1,4 +1,4 @@
--- `row_labels::spread_bits` meets its contract. The loop's invariant: all but the last `left` bits are spread. The measure is `left`.
+-- `row_labels::spread_bits` meets its contract. The loop's invariant: all but the last `left` bits are spread.
 use Prim.Native.Nat.{◌/◌, ◌^◌, ◌-◌}
 use native.Mathlib.Omega.{arith}
 use lib.Bits.{mask_lt}

@@ -6,11 +6,8 @@ use Rattle.row_map.proofs.counts_of.Goals as goal
 pub loop-t-init : goal.loop-t-init
 loop-t-init c = counting_none _ _ (search rules)
 
-pub power-requires : goal.power-requires
-power-requires c = c.requires.0 _
-
 pub loop-t-preserved : goal.loop-t-preserved
-loop-t-preserved c = counting_next c.loop-t.invariant (search rules) c.power.ensures
+loop-t-preserved c = counting_next c.loop-t.invariant (search rules) (search (rules, c.requires c.loop-t.t))
 
 pub returns : goal.returns
 returns c = counting_end c.loop-t.invariant (search rules)

@@ -9,23 +9,23 @@ slice_bounds-put_numbers-end-2 c = sym c.requires.goal_places
 pub put_numbers-at-requires-2 : goal.put_numbers-at-requires-2
 put_numbers-at-requires-2 c =
     goals_asked c.requires c.states_of.ensures c.put_sizes.ensures
-    c.wide.ensures.0 c.put_numbers-at.ensures c.wide-2.ensures.0
+    c.from.ensures c.put_numbers-at.ensures c.from-2.ensures
 
 pub put_all_pairs-at-requires : goal.put_all_pairs-at-requires
 put_all_pairs-at-requires c =
     pairs_asked c.requires c.states_of.ensures c.put_sizes.ensures
-    c.wide.ensures.0 c.put_numbers-at.ensures
-    c.wide-2.ensures.0 c.put_numbers-at-2.ensures
+    c.from.ensures c.put_numbers-at.ensures
+    c.from-2.ensures c.put_numbers-at-2.ensures
 
 pub put_all_symbols-requires : goal.put_all_symbols-requires
 put_all_symbols-requires c =
     symbols_asked c.requires c.states_of.ensures c.put_sizes.ensures
-    c.wide.ensures.0 c.put_numbers-at.ensures
-    c.wide-2.ensures.0 c.put_numbers-at-2.ensures c.put_all_pairs-at.ensures
+    c.from.ensures c.put_numbers-at.ensures
+    c.from-2.ensures c.put_numbers-at-2.ensures c.put_all_pairs-at.ensures
 
 pub returns : goal.returns
 returns c =
     all_parts c.requires c.states_of.ensures c.put_sizes.ensures
-    c.wide.ensures.0 c.put_numbers-at.ensures
-    c.wide-2.ensures.0 c.put_numbers-at-2.ensures c.put_all_pairs-at.ensures
+    c.from.ensures c.put_numbers-at.ensures
+    c.from-2.ensures c.put_numbers-at-2.ensures c.put_all_pairs-at.ensures
     c.put_all_symbols.ensures

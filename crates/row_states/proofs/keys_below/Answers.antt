@@ -1,13 +1,12 @@
--- `row_states::keys_below` counts key by key.
-use Rattle.row_states.proofs.Keys.{below_none, below_next, below_all}
+-- `row_states::keys_below` counts the keys that are below.
+use mathlib.Core.Path.{◌≡◌, sym, ◌∙◌}
+use lib.Dec.{ltb}
+use Rattle.std.specs.Prelude.{count_by}
 use borrow.Author.Rules.{rules}
+use Rattle.row_states.proofs.Keys.{rank_counts}
 use Rattle.row_states.proofs.keys_below.Goals as goal
 
-pub loop-v-init : goal.loop-v-init
-loop-v-init c = (below_none _ _, search rules)
-
-pub loop-v-preserved : goal.loop-v-preserved
-loop-v-preserved c = (below_next c.loop-v.invariant.0 (search rules) c.counted-count.ensures, search rules)
-
 pub returns : goal.returns
-returns c = below_all c.loop-v.invariant.0 (search rules) (search rules)
+returns c =
+    let e : c.count.result ≡ count_by (λ key. ltb key c.args.x) c.args.keys.now = search rules in
+    e ∙ sym (rank_counts c.args.x c.args.keys.now)

@@ -1,13 +1,8 @@
--- `row_states::ranks_of` fills an array from the front: the loop keeps that the ranks of the first b values stand.
-use Rattle.row_states.proofs.Keys.{given_none, given_next, given_all}
+-- `row_states::ranks_of` ranks each value, which its closure does by `keys_below`.
 use borrow.Author.Rules.{rules}
+use Rattle.trellis.specs.Lists.{rank}
+use Rattle.parity.proofs.Fronts.{front_each}
 use Rattle.row_states.proofs.ranks_of.Goals as goal
 
-pub loop-b-init : goal.loop-b-init
-loop-b-init c = given_none _ _ (search rules)
-
-pub loop-b-preserved : goal.loop-b-preserved
-loop-b-preserved c = given_next c.loop-b.invariant (search rules) (search rules) c.keys_below.ensures
-
 pub returns : goal.returns
-returns c = given_all c.loop-b.invariant (search rules)
+returns c = front_each (λ x. rank x c.args.keys.now) _ (search rules) (search rules) (λ b h. search (rules, c.each_row.ensures.0 b h))

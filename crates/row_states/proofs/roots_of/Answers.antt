@@ -1,14 +1,8 @@
--- `row_states::roots_of` fills an array from the front: the loop keeps that the first b rows' first bits stand.
-use mathlib.Core.Path.{refl}
-use Rattle.row_states.proofs.Keys.{given_none, given_next, given_all}
+-- `row_states::roots_of` shifts each row, which its closure does as the definition says.
+use Prim.Native.Nat.{◌/◌, ◌^◌}
 use borrow.Author.Rules.{rules}
+use Rattle.parity.proofs.Fronts.{front_each}
 use Rattle.row_states.proofs.roots_of.Goals as goal
 
-pub loop-b-init : goal.loop-b-init
-loop-b-init c = given_none _ _ (search rules)
-
-pub loop-b-preserved : goal.loop-b-preserved
-loop-b-preserved c = given_next c.loop-b.invariant (search rules) (search rules) refl
-
 pub returns : goal.returns
-returns c = given_all c.loop-b.invariant (search rules)
+returns c = front_each (λ r. r / 2 ^ c.args.behind) _ (search rules) (search rules) (λ b h. search (rules, c.each_row.ensures.0 b h))

@@ -13,22 +13,22 @@ offset_bounds-buffer-place c = search (rules, pow_pos (length c.args.rows.now))
 pub bounds-buffer-place : goal.bounds-buffer-place
 bounds-buffer-place c = search (rules, pow_pos (length c.args.rows.now))
 
-pub loop-b-init : goal.loop-b-init
-loop-b-init c = sums_none c.args.rows.now c.args.buffer.now c.args.place refl c.requires.1
+pub loop-row-init : goal.loop-row-init
+loop-row-init c = sums_none c.args.rows.now c.args.buffer.now c.args.place refl c.requires.1
 
 pub double-requires : goal.double-requires
-double-requires c = sums_room c.loop-b.invariant (search rules)
+double-requires c = sums_room c.loop-row.invariant (search rules)
 
 pub overflow_add-w : goal.overflow_add-w
-overflow_add-w c = search (rules, sums_few c.loop-b.invariant c.requires.0)
+overflow_add-w c = search (rules, sums_few c.loop-row.invariant c.requires.0)
 
-pub loop-b-preserved : goal.loop-b-preserved
-loop-b-preserved c = sums_next c.loop-b.invariant (search rules) c.double.ensures
+pub loop-row-preserved : goal.loop-row-preserved
+loop-row-preserved c = sums_next c.loop-row.invariant (search rules) c.double.ensures
 
 pub overflow_add-result : goal.overflow_add-result
 overflow_add-result c =
-    let S = c.loop-b.invariant in
+    let S = c.loop-row.invariant in
     search (rules, sums_inside S, sums_length S c.args.buffer.now refl)
 
 pub returns : goal.returns
-returns c = sums_end c.loop-b.invariant _ refl (search rules)
+returns c = sums_end c.loop-row.invariant _ refl (search rules)
