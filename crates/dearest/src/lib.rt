@@ -27,7 +27,7 @@ pub fn item(cost: u64, code: u32) -> u64
     requires { cost < cost_unit }
     ensures { result ≡ item_of cost code }
 {
-    cost * COST_UNIT + (code as u64)
+    cost * COST_UNIT + u64::from(code)
 }
 
 // A place and the cost of the item there.
