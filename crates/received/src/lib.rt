@@ -23,6 +23,7 @@ fn mask_fits(mask: u8, n: usize) -> bool
     n >= 8 || mask >> n == 0
 }
 
+#[tactic(auto, unfolding(crate::specs::Received::stray))]
 fn is_stray(received: u16, erased: u8, n: usize, t: usize) -> bool
     requires { (t < n) × (n ≤ most_symbols) }
     ensures { result ≡ stray n received erased t }
@@ -44,6 +45,7 @@ fn is_clear(received: u16, erased: u8, n: usize) -> bool
 }
 
 // Whether a received label and mask fit a section of n symbols below q.
+#[tactic(auto, unfolding(crate::specs::Received::fits_block))]
 pub fn fits(q: u16, n: usize, received: u16, erased: u8) -> bool
     requires { n ≤ most_symbols }
     ensures { result ≡ fits_block n received erased q }
