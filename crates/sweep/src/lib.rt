@@ -66,6 +66,7 @@ pub fn lower_side(
 }
 
 // From the row of depth n to the row of depth 0, which is left in `even`.
+#[tactic(auto, using(section_file::proofs::Seen::header))]
 pub fn sweep(
     l: &[u16],
     at: View,
