@@ -1,8 +1,8 @@
 -- `steps::keep_section` meets its contract. The loop's invariant: what is kept at depth t, and the steps that are left, give what is kept
 -- in the end, and the limit is below the cost of no path.
 use mathlib.Core.Path.{refl}
-use Rattle.whole_section.proofs.Places.{counts_near, count_near, count_in, step_at, twice_near, pairs_near, symbols_near}
-use Rattle.steps.proofs.Depths.{deep_start, deep_room, deep_each, deep_next, deep_all}
+use Rattle.whole_section.proofs.Places.{counts_near, count_near, count_in, step_at}
+use Rattle.steps.proofs.Depths.{deep_start, deep_here, deep_room, deep_each, deep_next, deep_all}
 use borrow.Author.Rules.{rules, Fits-under}
 use Rattle.steps.proofs.keep_section.Goals as goal
 
@@ -25,22 +25,22 @@ pub edges_each-each-requires : goal.edges_each-each-requires
 edges_each-each-requires c = deep_each c.requires.0 c.loop-t.invariant.0 c.loop-t-test.true refl (c.from-edges.ensures, search rules)
 
 pub offset_bounds-l-pairs : goal.offset_bounds-l-pairs
-offset_bounds-l-pairs c = search (rules, (step_at c.requires.0 c.loop-t.invariant.0.places c.loop-t-test.true refl (c.from-edges.ensures, search rules)).pairs_in)
+offset_bounds-l-pairs c = search (rules, deep_here c.requires.0 c.loop-t.invariant.0 c.loop-t-test.true c.from-edges.ensures (search rules))
 
 pub slice_bounds-keep_step-count : goal.slice_bounds-keep_step-count
-slice_bounds-keep_step-count c = search (rules, (step_at c.requires.0 c.loop-t.invariant.0.places c.loop-t-test.true refl (c.from-edges.ensures, search rules)).pairs_in)
+slice_bounds-keep_step-count c = search (rules, deep_here c.requires.0 c.loop-t.invariant.0 c.loop-t-test.true c.from-edges.ensures (search rules))
 
 pub slice_bounds-keep_step-start : goal.slice_bounds-keep_step-start
-slice_bounds-keep_step-start c = search (rules, (step_at c.requires.0 c.loop-t.invariant.0.places c.loop-t-test.true refl (c.from-edges.ensures, search rules)).pairs_in)
+slice_bounds-keep_step-start c = search (rules, deep_here c.requires.0 c.loop-t.invariant.0 c.loop-t-test.true c.from-edges.ensures (search rules))
 
 pub offset_bounds-l-symbols : goal.offset_bounds-l-symbols
-offset_bounds-l-symbols c = search (rules, (step_at c.requires.0 c.loop-t.invariant.0.places c.loop-t-test.true refl (c.from-edges.ensures, search rules)).symbols_in)
+offset_bounds-l-symbols c = search (rules, deep_here c.requires.0 c.loop-t.invariant.0 c.loop-t-test.true c.from-edges.ensures (search rules))
 
 pub slice_bounds-keep_step-count-in-loop-t : goal.slice_bounds-keep_step-count-in-loop-t
-slice_bounds-keep_step-count-in-loop-t c = search (rules, (step_at c.requires.0 c.loop-t.invariant.0.places c.loop-t-test.true refl (c.from-edges.ensures, search rules)).symbols_in)
+slice_bounds-keep_step-count-in-loop-t c = search (rules, deep_here c.requires.0 c.loop-t.invariant.0 c.loop-t-test.true c.from-edges.ensures (search rules))
 
 pub slice_bounds-keep_step-start-in-loop-t : goal.slice_bounds-keep_step-start-in-loop-t
-slice_bounds-keep_step-start-in-loop-t c = search (rules, (step_at c.requires.0 c.loop-t.invariant.0.places c.loop-t-test.true refl (c.from-edges.ensures, search rules)).symbols_in)
+slice_bounds-keep_step-start-in-loop-t c = search (rules, deep_here c.requires.0 c.loop-t.invariant.0 c.loop-t-test.true c.from-edges.ensures (search rules))
 
 pub keep_step-held-requires : goal.keep_step-held-requires
 keep_step-held-requires c =
@@ -55,18 +55,11 @@ keep_step-held-requires c =
 pub limit_of-requires : goal.limit_of-requires
 limit_of-requires c = (c.keep_step-held.ensures.kept, c.requires.2)
 
-pub overflow_mul-pairs : goal.overflow_mul-pairs
-overflow_mul-pairs c = Fits-under _ _ 200000 (twice_near _ (search rules)) tt
-
 pub overflow_add-pairs : goal.overflow_add-pairs
-overflow_add-pairs c =
-    let i = c.loop-t.invariant.0 in
-    Fits-under _ _ 200000 (pairs_near c.requires.0 i.places c.loop-t-test.true refl (c.from-edges.ensures, search rules)) tt
+overflow_add-pairs c = search (rules, deep_here c.requires.0 c.loop-t.invariant.0 c.loop-t-test.true c.from-edges.ensures (search rules))
 
 pub overflow_add-symbols : goal.overflow_add-symbols
-overflow_add-symbols c =
-    let i = c.loop-t.invariant.0 in
-    Fits-under _ _ 200000 (symbols_near c.requires.0 i.places c.loop-t-test.true refl (c.from-edges.ensures, search rules)) tt
+overflow_add-symbols c = search (rules, deep_here c.requires.0 c.loop-t.invariant.0 c.loop-t-test.true c.from-edges.ensures (search rules))
 
 pub loop-t-preserved : goal.loop-t-preserved
 loop-t-preserved c =
