@@ -14,11 +14,12 @@ pub use received::fits;
 use trellis::{MOST_Q, MOST_SYMBOLS};
 
 // A cost and, below it, the symbol at its place in the label.
+#[tactic(auto, using(crate::proofs::Costs::symbol_least))]
 fn price(cost: u32, symbol: u64, weight: u64) -> u64
     requires { (cost ≤ 1) × (symbol ≤ 3) × (weight ≤ distance_unit) }
     ensures { (result ≡ cost * distance_unit + symbol * weight) × (result ≤ top_rank) }
 {
-    (cost as u64) * DISTANCE_UNIT + symbol * weight
+    u64::from(cost) * DISTANCE_UNIT + symbol * weight
 }
 
 // What the symbols add, four a step: the cost ranks first, then the symbol. A symbol costs 1 where the label that has it throughout differs
@@ -32,9 +33,7 @@ pub fn put_prices(n: usize, received: u16, erased: u8, prices: &mut [u64; MOST_Q
     let twos = comparing::compare(received, 0xaaaa, erased);
     let threes = comparing::compare(received, 0xffff, erased);
     let mut weight = LABEL_UNIT;
-    let mut t = n;
-    while t > 0 {
-        t -= 1;
+    for t in (0..n).rev() {
         prices[4 * t] = price(bit_at(zeros.mask, n, t), 0, weight);
         prices[4 * t + 1] = price(bit_at(ones.mask, n, t), 1, weight);
         prices[4 * t + 2] = price(bit_at(twos.mask, n, t), 2, weight);

@@ -2,7 +2,7 @@
 
 #![tactic(auto)]
 
-ghost use Rattle.std.specs.Prelude.{◌≡◌, ◌<◌, ◌≤◌, length};
+ghost use Rattle.std.specs.Prelude.{◌≡◌, ◌<◌, ◌≤◌};
 ghost use Rattle.trellis.specs.Bounds.{most_paths};
 ghost use Rattle.dearest.specs.Inner.Items.{cost_unit, cost_in, code_in, item_of, LastDearest};
 ghost use Rattle.dearest.specs.Inner.Loops.{Later, CheaperFrom};
@@ -27,7 +27,7 @@ pub fn item(cost: u64, code: u32) -> u64
     requires { cost < cost_unit }
     ensures { result ≡ item_of cost code }
 {
-    cost * COST_UNIT + (code as u64)
+    cost * COST_UNIT + u64::from(code)
 }
 
 // A place and the cost of the item there.
@@ -50,32 +50,28 @@ fn dearer(found: Found, i: usize, cost: u64) -> Found
 
 // The place of the last dearest of the first `count` items.
 pub fn last_dearest(items: &[u64; MOST_PATHS], count: usize) -> usize
-    requires { (0 < count) × (count ≤ most_paths) × (length items.now ≡ most_paths) }
+    requires { (0 < count) × (count ≤ most_paths) }
     ensures { LastDearest items.now count result }
 {
     let mut found = Found {
         at: 0,
         cost: cost_of(items[0]),
     };
-    let mut i: usize = 1;
-    while i < count {
+    for i in 1..count {
         found = dearer(found, i, cost_of(items[i]));
-        i += 1;
     }
     found.at
 }
 
 // The place of the last dearest of the first `count` items, where none costs more than `cost`, and those from place `at` on cost less.
 pub fn dearest_before(items: &[u64; MOST_PATHS], count: usize, at: usize, cost: u64) -> usize
-    requires { CheaperFrom items.now count at cost × (count ≤ most_paths) × (length items.now ≡ most_paths) }
+    requires { CheaperFrom items.now count at cost × (count ≤ most_paths) }
     ensures { LastDearest items.now count result }
 {
-    let mut i = at;
-    while i > 0 {
-        if cost_of(items[i - 1]) >= cost {
-            return i - 1;
+    for i in (0..at).rev() {
+        if cost_of(items[i]) >= cost {
+            return i;
         }
-        i -= 1;
     }
     last_dearest(items, count)
 }

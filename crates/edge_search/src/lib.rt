@@ -6,9 +6,8 @@ ghost use Rattle.std.specs.Prelude.{◌≡◌, ◌+◌, ◌*◌, ◌<◌, ◌≤
 ghost use Rattle.trellis.specs.Bounds.{most_words, most_symbols};
 ghost use Rattle.edge_search.specs.Inner.FirstEdge.{FromsRise, FirstFrom, is_first};
 
-use numbers::wide;
-
-// The first of a step's edges that leaves the vertex or a later one, found by halves.
+// The first of a step's edges that leaves the vertex or a later one, found by halves. The edges are pairs that lie
+// one behind another in the list, so no search of the library finds them, and the loop stays a `while`.
 fn search_edge(pairs: &[u16], count: usize, vertex: usize) -> usize
     requires { FromsRise pairs.now count }
     ensures { FirstFrom (λ j. get_or pairs.now (2 * j) 0) count vertex result }
@@ -17,7 +16,7 @@ fn search_edge(pairs: &[u16], count: usize, vertex: usize) -> usize
     let mut high = count;
     while low < high {
         let middle = (low + high) / 2;
-        if wide(pairs[2 * middle]) < vertex {
+        if usize::from(pairs[2 * middle]) < vertex {
             low = middle + 1;
         } else {
             high = middle;
@@ -34,13 +33,8 @@ fn is_first(pairs: &[u16], count: usize, place: usize, vertex: usize) -> bool
     if place >= count {
         return false;
     }
-    if wide(pairs[2 * place]) < vertex {
-        return false;
-    }
-    if place == 0 {
-        return true;
-    }
-    wide(pairs[2 * (place - 1)]) < vertex
+    usize::from(pairs[2 * place]) >= vertex
+        && (place == 0 || usize::from(pairs[2 * (place - 1)]) < vertex)
 }
 
 // The first of a step's edges that leaves the vertex or a later one. Where as many edges leave each vertex, as in every linear code, its
@@ -61,5 +55,5 @@ pub fn edges_each(l: &[u16], t: usize, edges: usize) -> usize
     requires { (t < most_symbols) × (3 + t < length l.now) × (0 < get_or l.now (3 + t) 0) × (edges ≤ most_words) }
     ensures { result ≤ most_words }
 {
-    edges / wide(l[3 + t])
+    edges / usize::from(l[3 + t])
 }

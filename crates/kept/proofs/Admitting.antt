@@ -1,7 +1,7 @@
 -- One more candidate. Where fewer than k are kept it goes behind them. Else the last dearest of them is compared with it: where that costs
 -- no more, all stays; where it costs more, those behind it move up one place, which is what `cut` leaves, and the candidate goes behind
 -- them: so from the place that was freed on all cost less than the one that went, and those in front of it no more.
-use mathlib.Core.Path.{◌≡◌, refl, sym, ap, subst, ◌∙◌}
+use mathlib.Core.Path.{◌≡◌, sym, ap, subst, ◌∙◌}
 use mathlib.Core.Bool.{true, false}
 use mathlib.Core.List.{List, [], ◌∷◌, ◌++◌}
 use Prim.Native.Nat.{ℕ, suc, ◌+◌, ◌-◌, ◌≤◌, ◌<◌}
@@ -28,38 +28,6 @@ pub put_long : {k : ℕ} {old : List ℕ} {count w at : ℕ} {mid : List ℕ} (i
 put_long {mid = mid} i x K C = length-set mid i x ∙ C.long ∙ K.long
 
 -- ---- taken out
-
--- those behind `at` have moved up, as far as i
-pub record Moved (at : ℕ) (old : List ℕ) (i : ℕ) (new : List ℕ) : Type 0 where
-  pub from : at ≤ i
-  pub long : length new ≡ length old
-  pub front : (j : ℕ) → j < at → get_or new j 0 ≡ get_or old j 0
-  pub moved : (j : ℕ) → at ≤ j → j < i → get_or new j 0 ≡ get_or old (suc j) 0
-  pub left : (j : ℕ) → i ≤ j → get_or new j 0 ≡ get_or old j 0
-
-pub moved_start : {at : ℕ} {old : List ℕ} → Moved at old at old
-moved_start = record { from = omega arith; long = refl; front = λ j l. refl; moved = λ j l m. absurd (omega arith); left = λ j l. refl }
-
-pub moved_more : {at : ℕ} {old : List ℕ} {i : ℕ} {new : List ℕ} {x : ℕ} → Moved at old i new → i < length old → x ≡ get_or new (i + 1) 0
-    → Moved at old (i + 1) (set new i x)
-moved_more {at} {old} {i} {new} {x} M h e = record {
-  from = omega (arith, M.from);
-  long = length-set new i x ∙ M.long;
-  front = λ j l. get_or-set_other new i j x 0 (λ q. absurd (omega (arith, M.from))) ∙ M.front j l;
-  moved = λ j l m. go j l (ℕ_discrete j i) m;
-  left = λ j l. get_or-set_other new i j x 0 (λ q. absurd (omega arith)) ∙ M.left j (omega arith);
-}
-  where
-    here : x ≡ get_or old (suc i) 0
-    here = e ∙ M.left (i + 1) (omega arith) ∙ ap (λ k. get_or old k 0) (add-one i)
-
-    go : (j : ℕ) → at ≤ j → Dec (j ≡ i) → j < i + 1 → get_or (set new i x) j 0 ≡ get_or old (suc j) 0
-    go j l (yes q) m =
-        ap (λ k. get_or (set new i x) k 0) q ∙ get_or-set_same new i x 0 (omega (arith, M.long)) ∙ here ∙ ap (λ k. get_or old (suc k) 0) (sym q)
-    go j l (no q) m = get_or-set_other new i j x 0 q ∙ M.moved j l (omega arith)
-
-pub moved_all : {at : ℕ} {old : List ℕ} {count i : ℕ} {new : List ℕ} → Moved at old i new → count ≤ i + 1 → ClosedUp at old count new
-moved_all M h = record { long = M.long; front = M.front; moved = λ j l m. M.moved j l (omega arith) }
 
 module _ {items : List ℕ} {count w : ℕ} (D : LastDearest items count w) (fits : count ≤ length items) where
   abbrev front : List ℕ

@@ -4,13 +4,12 @@
 #![tactic(auto)]
 
 ghost use Rattle.std.specs.Prelude.{◌≡◌, length};
-ghost use Rattle.trellis.specs.Bounds.{most_states, most_words};
+ghost use Rattle.trellis.specs.Bounds.{most_words};
 ghost use Rattle.paths.specs.Inner.Ranked.{PriceRoom};
 ghost use Rattle.section_file.specs.Inner.View.{Seen};
 ghost use Rattle.lowering.specs.Inner.Rows.{side};
-ghost use Rattle.least_rows.specs.Inner.Rows.{rows_long, SaveAsked, RowSaved, RowsPut};
+ghost use Rattle.least_rows.specs.Inner.Rows.{SaveAsked, RowSaved, RowsPut};
 
-use numbers::wide;
 use passes::put_goals_side;
 use ranks::cost_of;
 use section_file::View;
@@ -26,10 +25,8 @@ fn save_row(row: &[u64; MOST_WORDS], count: usize, t: usize, rows: &mut [u32; RO
     ensures { RowSaved t row.now rows.old rows.new count }
 {
     let first = MOST_WORDS * t;
-    let mut v: usize = 0;
-    while v < count {
+    for v in 0..count {
         rows[first + v] = cost_of(row[v]);
-        v += 1;
     }
 }
 
@@ -52,6 +49,7 @@ fn save_side(
 }
 
 // From what is left to pay behind the block, state by state, to the least costs from all vertices. The two rows are working room.
+#[tactic(auto, using(section_file::proofs::Seen::header))]
 pub fn put_rows(
     l: &[u16],
     at: View,
@@ -61,20 +59,17 @@ pub fn put_rows(
     odd: &mut [u64; MOST_WORDS],
     rows: &mut [u32; ROWS],
 )
-    requires { Seen l.now at × PriceRoom prices.now × (length left.now ≡ most_states) × (length even.old ≡ most_words)
-        × (length odd.old ≡ most_words) × (length rows.old ≡ rows_long) }
+    requires { Seen l.now at × PriceRoom prices.now }
     ensures { RowsPut l.now prices.now left.now rows.new
         × (length even.new ≡ most_words) × (length odd.new ≡ most_words) }
 {
     put_goals_side(l, at, left, even, odd);
     let n = at.n;
-    let mut t = n;
     let mut before = at.edges;
-    save_side(even, odd, at.pairs - at.goals, t, rows);
-    while t > 0 {
-        t -= 1;
-        before -= wide(l[4 + n + t]);
+    save_side(even, odd, at.pairs - at.goals, n, rows);
+    for t in (0..n).rev() {
+        before -= usize::from(l[4 + n + t]);
         lower_side(l, at, t, before, prices, even, odd);
-        save_side(even, odd, wide(l[3 + t]), t, rows);
+        save_side(even, odd, usize::from(l[3 + t]), t, rows);
     }
 }

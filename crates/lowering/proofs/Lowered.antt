@@ -1,10 +1,9 @@
--- One row: cleared, then lowered edge by edge. What a place has and what the edges still to come give it come, by `min`, to what all its
+-- One row lowered edge by edge. What a place has and what the edges still to come give it come, by `min`, to what all its
 -- edges give; each edge moves from the one side to the other.
 use mathlib.Core.Path.{◌≡◌, refl, sym, ap, ap₂, subst, ◌∙◌}
 use mathlib.Core.Bool.{cond}
 use mathlib.Core.List.{List, [], ◌∷◌}
 use Prim.Native.Nat.{ℕ, suc, ◌+◌, ◌-◌, ◌*◌, ◌≤◌, ◌<◌, min}
-use native.Mathlib.Nat.{not-suc-le-zero}
 use native.Mathlib.Numerals.{add-one}
 use native.Mathlib.Omega.{arith}
 use native.Mathlib.Decide.{ℕ_discrete}
@@ -15,26 +14,10 @@ use Rattle.trellis.specs.Bounds.{most_words}
 use Rattle.trellis.specs.Lists.{run, keep}
 use Rattle.trellis.specs.Own.{Edge}
 use Rattle.trellis.specs.Section.{leaving}
-use Rattle.trellis.proofs.Buffers.{put_more}
 use Rattle.paths.specs.Inner.Costs.{min_all}
 use Rattle.edges.specs.Inner.Edges.{edge_in, held_edge}
 use Rattle.edges.specs.declared.Edge as code
-use Rattle.lowering.specs.Inner.Loops.{Cleared, StepAsked, through, Lowered}
-
--- ---- cleared
-
-pub clear_start : {width value : ℕ} {row : List ℕ} → length row ≡ width → Cleared width value row 0
-clear_start h = record { long = h; at = λ u l. absurd (not-suc-le-zero l) }
-
-pub clear_more : {width value : ℕ} {row : List ℕ} {v : ℕ} → Cleared width value row v → v < width
-    → Cleared width value (set row v value) (v + 1)
-clear_more {width} {value} {row} {v} I h = record {
-  long = simp length-set I.long;
-  at = put_more (λ u x. x ≡ value) row v value (omega (arith, I.long)) refl I.at;
-}
-
-pub clear_end : {width value : ℕ} {row : List ℕ} {count v : ℕ} → Cleared width value row v → count ≤ v → Cleared width value row count
-clear_end I h = record { long = I.long; at = λ u k. I.at u (omega arith) }
+use Rattle.lowering.specs.Inner.Loops.{StepAsked, through, Lowered}
 
 -- ---- lowered
 

@@ -2,7 +2,7 @@
 
 #![tactic(auto)]
 
-ghost use Rattle.std.specs.Prelude.{◌≡◌, ◌+◌, ◌<◌, ◌≤◌, min, length};
+ghost use Rattle.std.specs.Prelude.{◌≤◌};
 ghost use Rattle.trellis.specs.Bounds.{most_words};
 ghost use Rattle.paths.specs.Inner.Ranked.{top_rank};
 ghost use Rattle.lowering.specs.Inner.Loops.{Cleared, StepAsked, Lowered};
@@ -11,26 +11,17 @@ use edges::edge_at;
 use paths::TOP_RANK;
 use trellis::MOST_WORDS;
 
-fn lesser(x: u64, y: u64) -> u64
-    ensures { result ≡ min x y }
-{
-    if y < x { y } else { x }
-}
-
 // No path yet from the first vertices of a depth.
 pub fn clear(count: usize, row: &mut [u64; MOST_WORDS])
-    requires { (count ≤ most_words) × (length row.old ≡ most_words) }
+    requires { count ≤ most_words }
     ensures { Cleared most_words top_rank row.new count }
 {
-    let mut v: usize = 0;
-    while v < count {
-        row[v] = TOP_RANK;
-        v += 1;
-    }
+    row[..count].fill(TOP_RANK);
 }
 
 // Lowers the row of a depth to the least that the edges of its step give: the price of an edge's symbol, and what the row behind has where
 // the edge leads. No sum wraps, since both are at most TOP_RANK, and none above it stays, since the row has nothing above it.
+#[tactic(auto, using(crate::proofs::Lowered::edge_fits))]
 pub fn lower(
     pairs: &[u16],
     symbols: &[u16],
@@ -43,13 +34,8 @@ pub fn lower(
     ensures { Lowered pairs.now symbols.now count prices.now behind.now
         row.old row.new }
 {
-    let mut k: usize = 0;
-    while k < count {
+    for k in 0..count {
         let e = edge_at(pairs, symbols, k);
-        let from = e.from;
-        let symbol = e.symbol;
-        let to = e.to;
-        row[from] = lesser(row[from], prices[symbol] + behind[to]);
-        k += 1;
+        row[e.from] = row[e.from].min(prices[e.symbol] + behind[e.to]);
     }
 }

@@ -11,10 +11,7 @@ pub fn put_masks(received: &[u16], erased: &[u8], labels: &[u16], masks: &mut [u
     ensures { MasksPut received.now erased.now labels.now masks.old masks.new
         (length received.now) }
 {
-    let mut b: usize = 0;
-    while b < received.len() {
-        let compared = comparing::compare(received[b], labels[b], erased[b]);
-        masks[b] = compared.mask;
-        b += 1;
+    for b in 0..received.len() {
+        masks[b] = comparing::compare(received[b], labels[b], erased[b]).mask;
     }
 }

@@ -9,12 +9,12 @@ use Prim.Native.Nat.{ℕ, ◌+◌, ◌-◌, ◌*◌, ◌/◌, ◌%◌, ◌≤◌
 use native.Mathlib.Omega.{arith}
 use lib.Dec.{ltb, leb, eqb, eqb→eq}
 use lib.ListN.{length, length-take}
-use borrow.Author.Tests.{ltb-true, lt-ltb, le-leb, lt-leb, eq-eqb, ne_eqb, eqb-false}
+use borrow.Author.Tests.{ltb-true, lt-ltb, le-leb, lt-leb}
 use Rattle.trellis.specs.Bounds.{most_paths, most_words, most_q}
 use Rattle.trellis.specs.Lists.{◌∈◌, keep, run}
 use Rattle.trellis.specs.Own.{Edge}
 use Rattle.trellis.specs.Section.{leaving}
-use Rattle.trellis.proofs.Bools.{holds, settle, either, neither}
+use Rattle.trellis.proofs.Bools.{holds, settle, either}
 use Rattle.trellis.proofs.Lists.{of_run}
 use Rattle.packed.specs.Inner.Packed.{appended}
 use Rattle.paths.specs.Chain.{unreached}
@@ -123,22 +123,6 @@ unlimited rows prices t {pairs} {symbols} {edges} E xs =
         (λ e m. none_above rows prices t (paid_for rows t x) (code_in x) e (omega arith) (low e (listed_of (code_vertex (code_in x)) es e m)))
 
 -- ---- enough
-
-pub enough_full : {count k : ℕ} (limit : ℕ) → count ≡ k → true ≡ is_enough count k limit
-unfolding is_enough
-enough_full {count} {k} limit h = rw (eq-eqb count k h)
-
-pub enough_by : {count k : ℕ} (limit : ℕ) → (count ≡ k → ⊥) → eqb limit (unreached - 1) ≡ is_enough count k limit
-unfolding is_enough
-enough_by {count} {k} limit h = rw (ne_eqb count k h)
-
--- a bound that is not enough leaves out what has a path, and the greatest does not
-pub bound_less : (count k bound : ℕ) → bound < unreached → is_enough count k bound ≡ false
-    → unreached - 1 - (unreached - 1) < unreached - 1 - bound
-unfolding is_enough
-bound_less count k bound l h =
-    let n = eqb-false bound (unreached - 1) (neither (eqb count k) (eqb bound (unreached - 1)) h).1 in
-    omega arith
 
 pub stepped_same : {k : ℕ} {xs ys new : List ℕ} {r worst : ℕ} → xs ≡ ys → Stepped k xs new r worst → Stepped k ys new r worst
 stepped_same {k} e S = record { kept = S.kept; is = S.is ∙ ap (keep_best cost_in k) e }

@@ -30,6 +30,10 @@ use Rattle.one_step.specs.Inner.Steps.{candidate, candidates}
 use Rattle.one_step.specs.Inner.Loops.{limited, Streamed, Stepped}
 use Rattle.one_step.proofs.Limits.{left_out, let_in, limited_edges}
 
+-- what an item gives within the limit along one edge
+abbrev pub given_by : List ℕ → List ℕ → ℕ → ℕ → ℕ → Edge → List ℕ
+given_by rows prices t limit x e = limited limit (candidate rows prices t (paid_for rows t x) (code_in x) e)
+
 -- ---- one edge
 
 module _ (rows prices : List ℕ) (t paid code : ℕ) (e : Edge) (limit : ℕ) {k count : ℕ} {old : List ℕ} {cost : ℕ}
@@ -166,10 +170,11 @@ module _ {f : ℕ → List ℕ} {k : ℕ} {old : List ℕ} {have : ℕ} where
     is = refl;
   }
 
-  pub stepping_next : {new newer : List ℕ} {made worst i r last : ℕ} → Stepping f k old have new made worst i → i < have → have ≤ length old
-      → Streamed k made new (f (get_or old i 0)) newer r last → Stepping f k old have newer r last (i + 1)
+  pub stepping_next : {new newer : List ℕ} {made worst i r last x : ℕ} → Stepping f k old have new made worst i → i < have
+      → have ≤ length old → x ≡ get_or old i 0 → Streamed k made new (f x) newer r last → Stepping f k old have newer r last (i + 1)
   unfolding flat_map
-  stepping_next {i = i} P h l S =
+  stepping_next {new} {newer} {made} {i = i} {r} {last} P h l e T =
+      let S : Streamed k made new (f (get_or old i 0)) newer r last = subst (λ z. Streamed k made new (f z) newer r last) e T in
       let t : take (i + 1) old ≡ take i old ++ (get_or old i 0 ∷ []) = rw (add-one i) (take-suc old i 0 (omega arith)) in
       let u : flat_map f (take (i + 1) old) ≡ flat_map f (take i old) ++ f (get_or old i 0) =
       ap (flat_map f) t ∙ flat_map_append f (take i old) (get_or old i 0 ∷ [])

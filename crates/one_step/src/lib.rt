@@ -3,9 +3,9 @@
 
 #![tactic(auto)]
 
-ghost use Rattle.std.specs.Prelude.{◌≡◌, ◌<◌, ◌≤◌, length, take};
+ghost use Rattle.std.specs.Prelude.{◌≡◌, ◌<◌, ◌≤◌, take};
 ghost use mathlib.Core.List.{flat_map};
-ghost use Rattle.trellis.specs.Bounds.{most_paths, most_words, most_q};
+ghost use Rattle.trellis.specs.Bounds.{most_words, most_q};
 ghost use Rattle.trellis.specs.Lists.{run};
 ghost use Rattle.paths.specs.Chain.{unreached};
 ghost use Rattle.dearest.specs.Inner.Items.{Kept};
@@ -29,7 +29,7 @@ fn further_code(code: u32, e: Edge) -> u32
     requires { (e.symbol < most_q) × (e.to < most_words) }
     ensures { result ≡ further_code code (meant_edge e) }
 {
-    code / 67108864 * 67108864 + code % 16384 * 4 + ((e.to as u32) * 65536 + (e.symbol as u32))
+    code / 67108864 * 67108864 + code % 16384 * 4 + (e.to as u32 * 65536 + e.symbol as u32)
 }
 
 // One beginning, for which so much is paid, along one edge of step t, unless it costs more than the limit.
@@ -82,14 +82,12 @@ fn keep_item(
     let vertex = vertex_of(code);
     let so_far = paid(rows, t, vertex, x);
     let mut held = before;
-    let mut i = first_edge(pairs, edges, each, vertex);
-    while i < edges {
+    for i in first_edge(pairs, edges, each, vertex)..edges {
         let e = edge_at(pairs, symbols, i);
         if e.from != vertex {
             return held;
         }
         held = keep_edge(rows, prices, t, so_far, code, e, limit, k, held, items);
-        i += 1;
     }
     held
 }
@@ -110,18 +108,16 @@ pub fn step_within(
     items: &mut [u64; MOST_PATHS],
 ) -> Held
     requires { StepEdges pairs.now symbols.now edges × StepRoom k t rows.now prices.now × (have ≤ k)
-        × (length old.now ≡ most_paths) × (length items.old ≡ most_paths) × (each ≤ most_words) × (limit < unreached) }
+        × (each ≤ most_words) × (limit < unreached) }
     ensures { Stepped k (limited limit (flat_map (candidates rows.now prices.now t
         (run (edge_in pairs.now symbols.now) 0 edges)) (take have old.now)))
         items.new result.count result.worst }
 {
     let mut held = Held { count: 0, worst: 0 };
-    let mut i: usize = 0;
-    while i < have {
+    for x in &old[..have] {
         held = keep_item(
-            pairs, symbols, edges, each, rows, prices, t, old[i], limit, k, held, items,
+            pairs, symbols, edges, each, rows, prices, t, *x, limit, k, held, items,
         );
-        i += 1;
     }
     held
 }

@@ -16,12 +16,9 @@ use Rattle.paths.specs.Inner.Ranked.{distance_unit, top_rank, ranked_left, note_
 use Rattle.section_file.specs.Inner.View.{Seen}
 use Rattle.section_file.specs.declared.View.{View}
 use Rattle.section_file.proofs.Seen.{States, roots_at, goals_at, header}
-use Rattle.lowering.specs.Inner.Loops.{Cleared}
 use Rattle.lowering.specs.Inner.Rows.{side}
 use Rattle.sweep.proofs.Sweeping.{side_even, side_odd}
 use Rattle.passes.specs.Inner.Loops.{GoalsRanked, RootsPut}
-
--- ---- one rank
 
 -- ---- a state as it is read
 
@@ -39,6 +36,14 @@ state_read {v = v} A h e =
     let k = A.small v (omega arith) in
     let z = A.at v in
     record { place_lt = omega arith; v_lt = omega arith; s_lt = omega arith }
+
+pub goal_read : {l : List ℕ} {at : View} {g s : ℕ} → Seen l at → g < at.pairs - at.goals → s ≡ get_or l (at.goals + g) 0
+    → StateRead l at.goals g s
+goal_read S h e = state_read (goals_at S) h e
+
+pub root_read : {l : List ℕ} {at : View} {v s : ℕ} → Seen l at → v < at.goals - at.roots → s ≡ get_or l (at.roots + v) 0
+    → StateRead l at.roots v s
+root_read S h e = state_read (roots_at S) h e
 
 -- ---- the row of depth n
 
@@ -97,14 +102,16 @@ module _ {l : List ℕ} {at : View} {v s : ℕ} (S : Seen l at) (h : v < at.goal
   pub root_else : (row : List ℕ) (x t : ℕ) → ((u : ℕ) → u < v + 1 → root_state l u ≡ t → ⊥) → get_or (set row s x) t 0 ≡ get_or row t 0
   root_else row x t k = get_or-set_other row s t x 0 (λ z. k v (omega arith) (sym root_is ∙ sym z))
 
-pub roots_start : {l row notes : List ℕ} → Cleared most_states unreached notes most_states
+pub roots_start : {l row notes : List ℕ} → notes ≡ replicate most_states unreached
     → RootsPut l row (replicate most_states unreached) notes 0
-roots_start I = record {
+roots_start {notes = notes} e = record {
   long = length-replicate {A = ℕ} most_states unreached;
-  notes_long = I.long;
+  notes_long = ap length e ∙ length-replicate {A = ℕ} most_states unreached;
   cost = λ u m. absurd (not-suc-le-zero m);
   note = λ u m. absurd (not-suc-le-zero m);
-  none = λ s m e. (get_or-replicate {A = ℕ} most_states s unreached 0 m, I.at s m);
+  none = λ s m k.
+      let r = get_or-replicate {A = ℕ} most_states s unreached 0 m in
+      (r, ap (λ x. get_or x s 0) e ∙ r);
 }
 
 pub roots_more : {l row left notes : List ℕ} {at : View} {v s rank cost note : ℕ} → Seen l at → RootsPut l row left notes v

@@ -7,15 +7,12 @@
 ghost use Rattle.std.specs.Prelude.{◌≡◌, ◌%◌, ◌<◌, length};
 ghost use Rattle.trellis.specs.Bounds.{most_states, most_words};
 ghost use Rattle.trellis.specs.Layout.{n_of, vertex_count_of};
-ghost use Rattle.paths.specs.Chain.{unreached};
 ghost use Rattle.paths.specs.Inner.Ranked.{PriceRoom};
 ghost use Rattle.section_file.specs.Inner.View.{Seen};
-ghost use Rattle.lowering.specs.Inner.Loops.{Cleared};
 ghost use Rattle.lowering.specs.Inner.Rows.{side};
 ghost use Rattle.passes.specs.Inner.Blocks.{BlockPassed};
 ghost use Rattle.passes.specs.Inner.Loops.{GoalsRanked, RootsAsked, RootsPut};
 
-use numbers::wide;
 pub use ranks::{cost_of, goal_of};
 use ranks::{note_of, ranked_left};
 use section_file::View;
@@ -25,18 +22,17 @@ use trellis::{COSTS_A_BLOCK, MOST_WORDS};
 pub const NO_PATH: u32 = 4294967295;
 
 // The row of depth n: what it costs to end in each goal.
+#[tactic(auto, using(crate::proofs::Ends::goal_read))]
 fn put_goals(l: &[u16], at: View, left: &[u32; COSTS_A_BLOCK], row: &mut [u64; MOST_WORDS])
-    requires { Seen l.now at × (length left.now ≡ most_states) × (length row.old ≡ most_words) }
+    requires { Seen l.now at }
     ensures { GoalsRanked l.now left.now row.new
         (vertex_count_of l.now (n_of l.now)) }
 {
     let goals = at.goals;
     let count = at.pairs - goals;
-    let mut g: usize = 0;
-    while g < count {
-        let s = wide(l[goals + g]);
+    for g in 0..count {
+        let s = usize::from(l[goals + g]);
         row[g] = ranked_left(left[s], s);
-        g += 1;
     }
 }
 
@@ -48,7 +44,7 @@ pub fn put_goals_side(
     even: &mut [u64; MOST_WORDS],
     odd: &mut [u64; MOST_WORDS],
 )
-    requires { Seen l.now at × (length left.now ≡ most_states) × (length even.old ≡ most_words) × (length odd.old ≡ most_words) }
+    requires { Seen l.now at }
     ensures { GoalsRanked l.now left.now
         (side (n_of l.now) even.new odd.new)
         (vertex_count_of l.now (n_of l.now))
@@ -61,19 +57,8 @@ pub fn put_goals_side(
     put_goals(l, at, left, odd);
 }
 
-// No path is noted in any state.
-fn clear_row(notes: &mut [u32])
-    requires { length notes.old ≡ most_states }
-    ensures { Cleared most_states unreached notes.new most_states }
-{
-    let mut s: usize = 0;
-    while s < COSTS_A_BLOCK {
-        notes[s] = NO_PATH;
-        s += 1;
-    }
-}
-
 // What is left to pay before the block, and the notes: at the states of the roots what the row of depth 0 has, and no path elsewhere.
+#[tactic(auto, using(crate::proofs::Ends::root_read))]
 fn put_roots(
     l: &[u16],
     at: View,
@@ -85,16 +70,14 @@ fn put_roots(
     ensures { RootsPut l.now row.now left.new notes.new (vertex_count_of l.now 0) }
 {
     *left = [NO_PATH; COSTS_A_BLOCK];
-    clear_row(notes);
+    notes.fill(NO_PATH);
     let roots = at.roots;
     let count = at.goals - roots;
-    let mut v: usize = 0;
-    while v < count {
-        let s = wide(l[roots + v]);
+    for v in 0..count {
+        let s = usize::from(l[roots + v]);
         let rank = row[v];
         left[s] = cost_of(rank);
         notes[s] = note_of(rank);
-        v += 1;
     }
 }
 
@@ -109,8 +92,7 @@ pub fn pass_block(
     even: &mut [u64; MOST_WORDS],
     odd: &mut [u64; MOST_WORDS],
 )
-    requires { Seen l.now at × PriceRoom prices.now × (length left.old ≡ most_states) × (length notes.old ≡ most_states)
-        × (length even.old ≡ most_words) × (length odd.old ≡ most_words) }
+    requires { Seen l.now at × PriceRoom prices.now × (length notes.old ≡ most_states) }
     ensures { BlockPassed l.now prices.now left.old left.new notes.new
         × (length even.new ≡ most_words) × (length odd.new ≡ most_words) }
 {

@@ -13,7 +13,7 @@ pub fn ranked_left(cost: u32, s: usize) -> u64
     requires { s < most_states }
     ensures { (result ≡ ranked_left cost s) × (result ≤ top_rank) }
 {
-    (cost as u64) * DISTANCE_UNIT + (s as u64)
+    u64::from(cost) * DISTANCE_UNIT + s as u64
 }
 
 // The cost of a rank, and its note.

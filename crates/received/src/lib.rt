@@ -13,24 +13,22 @@ pub fn bit_at(mask: u8, n: usize, t: usize) -> u32
     requires { (t < n) × (n ≤ most_symbols) }
     ensures { (result ≡ one_if (marked_at n t mask)) × (result ≤ 1) }
 {
-    ((mask >> (n - 1 - t)) & 1) as u32
+    u32::from(mask >> (n - 1 - t) & 1)
 }
 
 // Whether the mask has n bits.
 fn mask_fits(mask: u8, n: usize) -> bool
     ensures { result ≡ ltb mask (2 ^ n) }
 {
-    if n < 8 { mask >> n < 1 } else { true }
+    n >= 8 || mask >> n == 0
 }
 
+#[tactic(auto, unfolding(crate::specs::Received::stray))]
 fn is_stray(received: u16, erased: u8, n: usize, t: usize) -> bool
     requires { (t < n) × (n ≤ most_symbols) }
     ensures { result ≡ stray n received erased t }
 {
-    if bit_at(erased, n, t) == 1 {
-        return label::symbol(received, n, t) != 0;
-    }
-    false
+    bit_at(erased, n, t) == 1 && label::symbol(received, n, t) != 0
 }
 
 // Whether no erased symbol is other than 0.
@@ -38,26 +36,19 @@ fn is_clear(received: u16, erased: u8, n: usize) -> bool
     requires { n ≤ most_symbols }
     ensures { result ≡ eqb (first (stray n received erased) n) n }
 {
-    let mut t: usize = 0;
-    while t < n {
+    for t in 0..n {
         if is_stray(received, erased, n, t) {
             return false;
         }
-        t += 1;
     }
     true
 }
 
 // Whether a received label and mask fit a section of n symbols below q.
+#[tactic(auto, unfolding(crate::specs::Received::fits_block))]
 pub fn fits(q: u16, n: usize, received: u16, erased: u8) -> bool
     requires { n ≤ most_symbols }
     ensures { result ≡ fits_block n received erased q }
 {
-    if !packed::is_label(received, q, n) {
-        return false;
-    }
-    if !mask_fits(erased, n) {
-        return false;
-    }
-    is_clear(received, erased, n)
+    packed::is_label(received, q, n) && mask_fits(erased, n) && is_clear(received, erased, n)
 }

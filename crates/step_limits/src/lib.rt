@@ -2,7 +2,7 @@
 
 #![tactic(auto)]
 
-ghost use Rattle.std.specs.Prelude.{◌≡◌, ◌<◌, ◌≤◌, length, take};
+ghost use Rattle.std.specs.Prelude.{◌≡◌, ◌<◌, ◌≤◌, take};
 ghost use mathlib.Core.List.{flat_map};
 ghost use Rattle.trellis.specs.Bounds.{most_paths, most_words};
 ghost use Rattle.trellis.specs.Lists.{run};
@@ -24,13 +24,11 @@ use trellis::MOST_PATHS;
 pub const NONE_ABOVE: u64 = NO_PATH as u64 - 1;
 
 // Whether nothing that a limit left out can be among the k best: k are kept within it, or it leaves nothing out.
+#[tactic(auto, unfolding(one_step::specs::Inner::Loops::is_enough))]
 fn is_enough(count: usize, k: usize, limit: u64) -> bool
     ensures { result ≡ is_enough count k limit }
 {
-    if count == k {
-        return true;
-    }
-    limit == NONE_ABOVE
+    count == k || limit == NONE_ABOVE
 }
 
 // The first `have` items one step further: the k best of all that they become. They are looked for within the limit first. Where k items
@@ -50,24 +48,24 @@ pub fn keep_step(
     items: &mut [u64; MOST_PATHS],
 ) -> Held
     requires { StepEdges pairs.now symbols.now edges × StepRoom k t rows.now prices.now × (have ≤ k)
-        × (length old.now ≡ most_paths) × (length items.old ≡ most_paths) × (each ≤ most_words) × (limit < unreached) }
+        × (each ≤ most_words) × (limit < unreached) }
     ensures { Stepped k (flat_map (candidates rows.now prices.now t
         (run (edge_in pairs.now symbols.now) 0 edges)) (take have old.now))
         items.new result.count result.worst }
 {
-    let mut bound = limit;
-    loop {
-        let held = step_within(
-            pairs, symbols, edges, each, rows, prices, t, old, have, bound, k, items,
-        );
-        if is_enough(held.count, k, bound) {
-            return held;
-        }
-        bound = NONE_ABOVE;
+    let held = step_within(
+        pairs, symbols, edges, each, rows, prices, t, old, have, limit, k, items,
+    );
+    if is_enough(held.count, k, limit) {
+        return held;
     }
+    step_within(
+        pairs, symbols, edges, each, rows, prices, t, old, have, NONE_ABOVE, k, items,
+    )
 }
 
 // The limit of the next step: where k items are kept, what the dearest of them costs.
+#[tactic(auto, using(kept::proofs::Admitting::worst_inside))]
 pub fn limit_of(items: &[u64; MOST_PATHS], k: usize, held: Held) -> u64
     requires { Kept k items.now held.count held.worst × (k ≤ most_paths) }
     ensures { result < unreached }
@@ -75,7 +73,5 @@ pub fn limit_of(items: &[u64; MOST_PATHS], k: usize, held: Held) -> u64
     if held.count < k {
         return NONE_ABOVE;
     }
-    let worst = held.worst;
-    let cost = cost_of(items[worst]);
-    if cost < NONE_ABOVE { cost } else { NONE_ABOVE }
+    cost_of(items[held.worst]).min(NONE_ABOVE)
 }

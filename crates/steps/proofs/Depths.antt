@@ -1,6 +1,6 @@
 -- Step by step through a section: what is kept at depth t, and the steps that are left, give what is kept in the end. The edges of the next
 -- step begin where those of the steps before end.
-use mathlib.Core.Path.{◌≡◌, sym, ap, ◌∙◌}
+use mathlib.Core.Path.{◌≡◌, refl, sym, ap, ◌∙◌}
 use mathlib.Core.List.{List, flat_map}
 use Prim.Native.Nat.{ℕ, suc, ◌+◌, ◌-◌, ◌*◌, ◌≤◌, ◌<◌}
 use native.Mathlib.Omega.{arith}
@@ -17,7 +17,7 @@ use Rattle.section_file.specs.Inner.View.{Seen}
 use Rattle.section_file.specs.declared.View.{View}
 use Rattle.section_file.proofs.Seen.{viewed, near_of, laid_of}
 use Rattle.whole_section.specs.Inner.StepAt.{part_from}
-use Rattle.whole_section.proofs.Places.{StepPlaces, places_start, count_in, step_at, places_next, edges_are}
+use Rattle.whole_section.proofs.Places.{StepPlaces, places_start, count_in, step_at, pairs_near, symbols_near, places_next, edges_are}
 use Rattle.least_rows.specs.Inner.Rows.{rows_long}
 use Rattle.one_step.specs.Inner.Steps.{candidates, stepped_from}
 use Rattle.one_step.specs.Inner.Loops.{StepRoom, Stepped, Gone}
@@ -30,6 +30,13 @@ pub record Deep (s rows prices : List ℕ) (k have : ℕ) (old items : List ℕ)
   pub places : StepPlaces s pairs symbols t
   pub left : stepped_from (step_edges s) rows prices k (n_of s - t) t (take count items)
       ≡ stepped_from (step_edges s) rows prices k (n_of s) 0 (take have old)
+
+-- where the edges of step t begin and end
+pub record Here (s : List ℕ) (pairs symbols edges : ℕ) : Type 0 where
+  pub pairs_in : pairs ≤ length s
+  pub symbols_in : symbols ≤ length s
+  pub pairs_near : pairs + 2 * edges < 200000
+  pub symbols_near : symbols + edges < 200000
 
 n_is : {s : List ℕ} {at : View} → Seen s at → at.n ≡ n_of s
 n_is S = (viewed S.is).n_is
@@ -48,6 +55,16 @@ module _ {s : List ℕ} {at : View} (S : Seen s at) {rows prices : List ℕ} {k 
 
   module _ {items : List ℕ} {count pairs symbols t : ℕ}
       (d : Deep s rows prices k have old items count pairs symbols t) where
+    pub deep_here : {edges : ℕ} → t < at.n → edges ≡ get_or s (4 + at.n + t) 0 → edges < 65536 → Here s pairs symbols edges
+    deep_here h e near =
+        let at = step_at S d.places h refl (e, near) in
+        record {
+          pairs_in = at.pairs_in;
+          symbols_in = at.symbols_in;
+          pairs_near = pairs_near S d.places h refl (e, near);
+          symbols_near = symbols_near S d.places h refl (e, near);
+        }
+
     pub deep_room : t < at.n → 0 < k → k ≤ most_paths → length rows ≡ rows_long → PriceRoom prices → StepRoom k t rows prices
     deep_room h some few l p =
         record { some = some; few = few; inside = omega (arith, (near_of (laid_of S)).steps_few); rows_are = l; priced = p }

@@ -3,18 +3,16 @@
 
 #![tactic(auto)]
 
-ghost use Rattle.std.specs.Prelude.{◌≡◌, ◌<◌, ◌≤◌, length};
+ghost use Rattle.std.specs.Prelude.{◌<◌, ◌≤◌};
 ghost use Rattle.trellis.specs.Bounds.{most_paths};
 ghost use Rattle.trellis.specs.Layout.{n_of, step_edges};
 ghost use Rattle.paths.specs.Chain.{unreached};
 ghost use Rattle.paths.specs.Inner.Ranked.{PriceRoom};
 ghost use Rattle.section_file.specs.Inner.View.{Seen};
-ghost use Rattle.least_rows.specs.Inner.Rows.{rows_long};
 ghost use Rattle.one_step.specs.Inner.Loops.{Gone};
 
 use edge_search::edges_each;
 use least_rows::ROWS;
-use numbers::wide;
 use section_file::View;
 pub use step_limits::NONE_ABOVE;
 use step_limits::{keep_step, limit_of};
@@ -38,8 +36,8 @@ pub fn keep_section(
     k: usize,
     items: &mut [u64; MOST_PATHS],
 ) -> Grown
-    requires { Seen l.now at × (0 < k) × (k ≤ most_paths) × (have ≤ k) × (length rows.now ≡ rows_long) × PriceRoom prices.now
-        × (length items.old ≡ most_paths) × (limit < unreached) }
+    requires { Seen l.now at × (0 < k) × (k ≤ most_paths) × (have ≤ k) × PriceRoom prices.now
+        × (limit < unreached) }
     ensures { Gone (step_edges l.now) rows.now prices.now k (n_of l.now) have
         items.old items.new result.count × (result.limit < unreached) }
 {
@@ -47,10 +45,9 @@ pub fn keep_section(
     let mut grown = Grown { count: have, limit };
     let mut pairs = at.pairs;
     let mut symbols = at.symbols;
-    let mut t: usize = 0;
-    while t < n {
+    for t in 0..n {
         let old = *items;
-        let edges = wide(l[4 + n + t]);
+        let edges = usize::from(l[4 + n + t]);
         let each = edges_each(l, t, edges);
         let held = keep_step(
             &l[pairs..],
@@ -66,14 +63,12 @@ pub fn keep_section(
             k,
             items,
         );
-        let next = limit_of(items, k, held);
         grown = Grown {
             count: held.count,
-            limit: next,
+            limit: limit_of(items, k, held),
         };
         pairs += 2 * edges;
         symbols += edges;
-        t += 1;
     }
     grown
 }

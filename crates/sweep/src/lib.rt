@@ -11,11 +11,11 @@ ghost use Rattle.lowering.specs.Inner.Rows.{SweepAsked, Swept, side};
 ghost use Rattle.lowering.specs.Inner.Loops.{RowAsked, RowDone};
 
 use lowering::{clear, lower};
-use numbers::wide;
 use section_file::View;
 use trellis::MOST_WORDS;
 
 // The row of depth t from the row behind it. The edges of the step begin behind the `before` edges of the steps before it.
+#[tactic(auto, using(crate::proofs::Sweeping::near_by))]
 fn lower_depth(
     l: &[u16],
     at: View,
@@ -31,11 +31,11 @@ fn lower_depth(
     let pairs = at.pairs + 2 * before;
     let symbols = at.symbols + before;
     let first = 4 * t;
-    clear(wide(l[3 + t]), row);
+    clear(usize::from(l[3 + t]), row);
     lower(
         &l[pairs..],
         &l[symbols..],
-        wide(l[4 + at.n + t]),
+        usize::from(l[4 + at.n + t]),
         &prices[first..],
         behind,
         row,
@@ -53,8 +53,7 @@ pub fn lower_side(
     odd: &mut [u64; MOST_WORDS],
 )
     requires { Seen l.now at
-        × RowAsked l.now t before prices.now (side (suc t) even.old odd.old) (side t even.old odd.old)
-        × (length even.old ≡ most_words) × (length odd.old ≡ most_words) }
+        × RowAsked l.now t before prices.now (side (suc t) even.old odd.old) (side t even.old odd.old) }
     ensures { RowDone l.now t prices.now (side (suc t) even.old odd.old)
         (side t even.new odd.new)
         × (length even.new ≡ most_words) × (length odd.new ≡ most_words) }
@@ -67,6 +66,7 @@ pub fn lower_side(
 }
 
 // From the row of depth n to the row of depth 0, which is left in `even`.
+#[tactic(auto, using(section_file::proofs::Seen::header))]
 pub fn sweep(
     l: &[u16],
     at: View,
@@ -79,11 +79,9 @@ pub fn sweep(
         odd.new }
 {
     let n = at.n;
-    let mut t = n;
     let mut before = at.edges;
-    while t > 0 {
-        t -= 1;
-        before -= wide(l[4 + n + t]);
+    for t in (0..n).rev() {
+        before -= usize::from(l[4 + n + t]);
         lower_side(l, at, t, before, prices, even, odd);
     }
 }

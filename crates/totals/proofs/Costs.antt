@@ -22,13 +22,9 @@ module _ (rows : List ℕ) (t x : ℕ) {vertex ahead cost : ℕ} (v : vertex ≡
   ahead_is : ahead ≡ row_at rows t (code_vertex (code_in x))
   ahead_is = a.0 ∙ ap (row_at rows t) v
 
-  pub paid_none : cost < ahead → (0 ≡ paid_for rows t x) × (0 < 4294967296)
+  pub paid_is : {r : ℕ} → r ≡ cost - ahead → (r ≡ paid_for rows t x) × (r < 4294967296)
   unfolding paid_for
-  paid_none h = (omega (arith, ahead_is, p.0), omega arith)
-
-  pub paid_some : (cost - ahead ≡ paid_for rows t x) × (cost - ahead < 4294967296)
-  unfolding paid_for
-  paid_some = (ap₂ (λ m n. m - n) p.0 ahead_is, omega (arith, p.1))
+  paid_is e = (e ∙ ap₂ (λ m n. m - n) p.0 ahead_is, omega (arith, p.1))
 
 pub total_is : (rows prices : List ℕ) (t paid : ℕ) (e : Edge) {price rest : ℕ}
     → (price ≡ get_or prices (4 * t + e.symbol) 0 / distance_unit) × (price < 4294967296)

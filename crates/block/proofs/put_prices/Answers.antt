@@ -1,6 +1,5 @@
 -- `block::put_prices` goes from the last symbol to the first, each weighing four times the one before it. The loop's invariant: the steps
--- passed have what their symbols add; what a symbol costs is its bit of the mask against the label that has it throughout. The measure is
--- how many steps are left.
+-- passed have what their symbols add; what a symbol costs is its bit of the mask against the label that has it throughout.
 use mathlib.Core.Path.{refl}
 use lib.Dec.{lit<}
 use borrow.Author.Rules.{rules}

@@ -1,5 +1,5 @@
 -- `dearest::dearest_before` goes back from the place at which cheaper ones begin. The loop's invariant: those from i on cost less than the
--- bound, and none costs more. So an item that costs as much as the bound is the last dearest. The measure is i.
+-- bound, and none costs more. So an item that costs as much as the bound is the last dearest.
 use Rattle.dearest.proofs.LastDearest.{cheaper_found, cheaper_more}
 use Rattle.dearest.proofs.dearest_before.Goals as goal
 

@@ -1,5 +1,4 @@
 -- `dearest::last_dearest` passes over the items. The loop's invariant: of those passed, the last dearest is the one found, with its cost.
--- The measure is how many are left.
 use borrow.Author.Rules.{rules}
 use Rattle.dearest.proofs.LastDearest.{looked_start, looked_more, looked_all}
 use Rattle.dearest.proofs.last_dearest.Goals as goal

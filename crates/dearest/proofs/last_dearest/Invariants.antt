@@ -1,11 +1,6 @@
 -- `dearest::last_dearest` passes over the items. The loop's invariant: of those passed, the last dearest is the one found, with its cost.
--- The measure is how many are left.
-use Prim.Native.Nat.{◌-◌}
 use Rattle.dearest.proofs.LastDearest.{Looked}
 use Rattle.dearest.proofs.last_dearest.Given as goal
 
 abbrev pub invariant-loop-i : goal.invariant-loop-i
 invariant-loop-i l = Looked l.items l.count l.found.at l.found.cost l.i
-
-abbrev pub decreases-loop-i : goal.decreases-loop-i
-decreases-loop-i l = l.count - l.i

@@ -7,15 +7,15 @@ use Rattle.edge_search.proofs.search_edge.Goals as goal
 pub loop-low-init : goal.loop-low-init
 loop-low-init c = halving_start _ _ _
 
-pub loop-low-preserved-then-wide-vertex : goal.loop-low-preserved-then-wide-vertex
-loop-low-preserved-then-wide-vertex c =
+pub loop-low-preserved-then-from-vertex : goal.loop-low-preserved-then-from-vertex
+loop-low-preserved-then-from-vertex c =
     halving_up c.loop-low.invariant c.loop-low-test.true c.requires.rise
-    (omega (arith, c.wide.ensures.0, c.if-wide-vertex.true))
+    (omega (arith, c.from.ensures, c.if-from-vertex.true))
 
 pub loop-low-preserved : goal.loop-low-preserved
 loop-low-preserved c =
     halving_down c.loop-low.invariant c.loop-low-test.true c.requires.rise
-    (omega (arith, c.wide.ensures.0, c.if-wide-vertex.false))
+    (omega (arith, c.from.ensures, c.if-from-vertex.false))
 
 pub returns : goal.returns
 returns c = halving_done c.loop-low.invariant c.loop-low-test.false

@@ -2,7 +2,7 @@
 -- all stays; or the last dearest goes out and the candidate goes behind the others. Then those from the freed place on cost less than the
 -- one that went, and none costs more, so that the next last dearest is looked for in front of that place.
 use borrow.Author.Rules.{rules}
-use Rattle.kept.proofs.Admitting.{worst_inside, put_long, admit_more, admit_skip, swap_cheaper, admit_swap}
+use Rattle.kept.proofs.Admitting.{worst_inside, admit_more, admit_skip, swap_cheaper, admit_swap}
 use Rattle.kept.proofs.admit.Goals as goal
 
 pub returns-then-count-k : goal.returns-then-count-k
@@ -31,7 +31,6 @@ dearest_before-next-requires c =
     let C = c.close_up.ensures in (
       swap_cheaper _ K c.if-count-k.false (search rules) c.cost_of-cost.ensures.0 c.cost_of.ensures.0 less C,
       search rules,
-      put_long _ _ K C,
     )
 
 pub returns : goal.returns

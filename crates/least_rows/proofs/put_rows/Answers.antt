@@ -1,7 +1,7 @@
 -- `least_rows::put_rows` makes the rows from the last depth to the first and saves each. The loop's invariant: the row of depth t holds the
--- least ranks, and the depths from t on have their costs saved. The measure is t.
+-- least ranks, and the depths from t on have their costs saved.
 use borrow.Author.Rules.{rules}
-use Rattle.section_file.proofs.Seen.{goals_at, header}
+use Rattle.section_file.proofs.Seen.{goals_at}
 use Rattle.sweep.proofs.Sweeping.{sweep_start, sweep_fits, sweep_more}
 use Rattle.sweep.proofs.Sweeping as sweep
 use Rattle.passes.proofs.Passing.{sweep_asked}
@@ -12,33 +12,21 @@ pub overflow_sub-at : goal.overflow_sub-at
 overflow_sub-at c = (goals_at c.requires.0).le
 
 pub save_side-requires : goal.save_side-requires
-save_side-requires c = last_asked _ _ c.requires.0 c.put_goals_side.ensures.0 c.requires.5
+save_side-requires c = last_asked _ _ c.requires.0 c.put_goals_side.ensures.0 (search rules)
 
 pub loop-t-init : goal.loop-t-init
 loop-t-init c =
     let S = c.requires.0 in
     let G = c.put_goals_side.ensures in
     let I = sweep_start S (sweep_asked S c.requires.1 G.0 G.1 G.2) in
-    (I, rows_more I (rows_none S c.requires.5) c.save_side.ensures (goals_count S) (search rules))
-
-pub overflow_add-n : goal.overflow_add-n
-overflow_add-n c = search (rules, header c.requires.0)
-
-pub overflow_add-n-in-loop-t : goal.overflow_add-n-in-loop-t
-overflow_add-n-in-loop-t c = search (rules, header c.requires.0)
-
-pub offset_bounds-l-n : goal.offset_bounds-l-n
-offset_bounds-l-n c = search (rules, header c.requires.0)
-
-pub bounds-l-n : goal.bounds-l-n
-bounds-l-n c = search (rules, header c.requires.0)
+    (I, rows_more I (rows_none S (search rules)) c.save_side.ensures (goals_count S) (search rules))
 
 pub overflow_sub-before : goal.overflow_sub-before
 overflow_sub-before c =
     let S = c.requires.0 in
     let G = c.put_goals_side.ensures in
     let A = sweep_asked S c.requires.1 G.0 G.1 G.2 in
-    sweep_fits S A c.loop-t.invariant.0 c.loop-t-test.true c.wide-before.ensures.0
+    sweep_fits S A c.loop-t.invariant.0 c.loop-t-test.true c.from-before.ensures
 
 pub lower_side-requires : goal.lower_side-requires
 lower_side-requires c =
@@ -46,16 +34,7 @@ lower_side-requires c =
     let G = c.put_goals_side.ensures in
     let A = sweep_asked S c.requires.1 G.0 G.1 G.2 in
     let I = c.loop-t.invariant.0 in
-    (S, sweep.sweep_asked S A I c.loop-t-test.true c.wide-before.ensures.0, I.even_long, I.odd_long)
-
-pub overflow_add-t : goal.overflow_add-t
-overflow_add-t c = search (rules, header c.requires.0)
-
-pub offset_bounds-l-t : goal.offset_bounds-l-t
-offset_bounds-l-t c = search (rules, header c.requires.0)
-
-pub bounds-l-t : goal.bounds-l-t
-bounds-l-t c = search (rules, header c.requires.0)
+    (S, sweep.sweep_asked S A I c.loop-t-test.true c.from-before.ensures)
 
 pub save_side-requires-in-loop-t : goal.save_side-requires-in-loop-t
 save_side-requires-in-loop-t c =
@@ -64,8 +43,8 @@ save_side-requires-in-loop-t c =
     let A = sweep_asked S c.requires.1 G.0 G.1 G.2 in
     let D = c.lower_side.ensures in
     let I = c.loop-t.invariant in
-    let J = sweep_more S A I.0 c.loop-t-test.true c.wide-before.ensures.0 D.0 D.1 D.2 in
-    save_asked S J.t_le c.wide.ensures.0 D.0.long J.small I.1.long
+    let J = sweep_more S A I.0 c.loop-t-test.true c.from-before.ensures D.0 D.1 D.2 in
+    save_asked S J.t_le c.from.ensures D.0.long J.small I.1.long
 
 pub loop-t-preserved : goal.loop-t-preserved
 loop-t-preserved c =
@@ -74,8 +53,8 @@ loop-t-preserved c =
     let A = sweep_asked S c.requires.1 G.0 G.1 G.2 in
     let D = c.lower_side.ensures in
     let I = c.loop-t.invariant in
-    let J = sweep_more S A I.0 c.loop-t-test.true c.wide-before.ensures.0 D.0 D.1 D.2 in
-    (J, rows_more J I.1 c.save_side-in-loop-t.ensures c.wide.ensures.0 (search rules))
+    let J = sweep_more S A I.0 c.loop-t-test.true c.from-before.ensures D.0 D.1 D.2 in
+    (J, rows_more J I.1 c.save_side-in-loop-t.ensures c.from.ensures (search rules))
 
 pub returns : goal.returns
 returns c =

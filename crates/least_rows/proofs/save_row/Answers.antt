@@ -1,5 +1,4 @@
--- `least_rows::save_row` goes over the ranks of a row. The loop's invariant: the distances of those passed are saved. The measure is how
--- many are left.
+-- `least_rows::save_row` goes over the ranks of a row. The loop's invariant: the distances of those passed are saved.
 use borrow.Author.Rules.{rules}
 use Rattle.least_rows.proofs.Saving.{save_start, save_more, save_end}
 use Rattle.least_rows.proofs.save_row.Goals as goal

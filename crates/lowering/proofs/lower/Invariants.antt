@@ -1,11 +1,7 @@
 -- `lowering::lower` takes the edges of a step one by one. The loop's invariant: what each vertex of the row has and what the edges to come
--- give it come to what all its edges give. The measure is how many edges are left.
-use Prim.Native.Nat.{◌-◌}
+-- give it come to what all its edges give.
 use Rattle.lowering.proofs.Lowered.{InLower}
 use Rattle.lowering.proofs.lower.Given as goal
 
 abbrev pub invariant-loop-k : goal.invariant-loop-k
 invariant-loop-k l = InLower l.pairs l.symbols l.count l.prices l.behind l.initial.row l.row l.k
-
-abbrev pub decreases-loop-k : goal.decreases-loop-k
-decreases-loop-k l = l.count - l.k

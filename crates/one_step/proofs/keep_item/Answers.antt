@@ -1,25 +1,20 @@
 -- `one_step::keep_item` meets its contract. The loop's invariant: what is kept, and the candidates within the limit along the edges of the
--- vertex from i on, give what is to be kept of all. The measure is what is left of the edges.
+-- vertex from i on, give what is to be kept of all.
 use mathlib.Core.Path.{sym, ap, ◌∙◌}
 use native.Mathlib.Omega.{arith}
 use Rattle.trellis.specs.Lists.{run}
 use Rattle.edges.specs.Inner.Edges.{edge_in}
 use Rattle.edges.specs.declared.Edge.{Edge}
-use Rattle.dearest.specs.Inner.Items.{code_in}
 use Rattle.codes.specs.Inner.Codes.{code_vertex}
-use Rattle.one_step.specs.Inner.Steps.{candidate}
-use Rattle.totals.specs.Inner.Totals.{paid_for}
-use Rattle.one_step.specs.Inner.Loops.{limited}
 use Rattle.edge_search.proofs.FirstEdges.{froms_rise_lem}
 use Rattle.one_step.proofs.Streaming.{streaming_start, streaming_next, streaming_done, streaming_stops, streamed_at}
-use Rattle.one_step.proofs.Streaming.{streamed_all}
-use borrow.Author.Rules.{rules}
+use Rattle.one_step.proofs.Streaming.{streamed_all, given_by}
 use Rattle.one_step.proofs.keep_item.Goals as goal
 
 pub paid-so_far-requires : goal.paid-so_far-requires
 paid-so_far-requires c =
     let r = c.requires.1 in
-    (r.inside, r.rows_are, c.vertex_of-vertex.ensures ∙ ap code_vertex c.code_of-code.ensures)
+    (r.inside, c.vertex_of-vertex.ensures ∙ ap code_vertex c.code_of-code.ensures)
 
 pub first_edge-i-requires : goal.first_edge-i-requires
 first_edge-i-requires c =
@@ -28,7 +23,8 @@ first_edge-i-requires c =
 
 pub loop-i-init : goal.loop-i-init
 loop-i-init c =
-    streaming_start {cand = (λ y. limited c.args.limit (candidate c.args.rows.now c.args.prices.now c.args.t (paid_for c.args.rows.now c.args.t c.args.x) (code_in c.args.x) y))} c.first_edge-i.ensures
+    let a = c.args in
+    streaming_start {cand = given_by a.rows.now a.prices.now a.t a.limit a.x} c.first_edge-i.ensures
     (c.vertex_of-vertex.ensures ∙ ap code_vertex c.code_of-code.ensures) c.requires.2
 
 pub edge_at-e-requires : goal.edge_at-e-requires
@@ -40,7 +36,7 @@ pub returns-then-e-vertex : goal.returns-then-e-vertex
 returns-then-e-vertex c =
     let a = c.args in
     streamed_all a.rows.now a.prices.now a.t a.limit (run (edge_in a.pairs.now a.symbols.now) 0 a.edges) a.x
-    (streaming_stops {cand = (λ y. limited c.args.limit (candidate c.args.rows.now c.args.prices.now c.args.t (paid_for c.args.rows.now c.args.t c.args.x) (code_in c.args.x) y))} c.requires.0.froms_rise c.loop-i.invariant c.loop-i-test.true
+    (streaming_stops {cand = given_by a.rows.now a.prices.now a.t a.limit a.x} c.requires.0.froms_rise c.loop-i.invariant c.loop-i-test.true
     (λ q. c.if-e-vertex.true (ap (λ (x : Edge). x.from) c.edge_at-e.ensures ∙ q
     ∙ sym (c.vertex_of-vertex.ensures ∙ ap code_vertex c.code_of-code.ensures))))
 
@@ -55,13 +51,10 @@ keep_edge-held-requires c =
       s.4,
     )
 
-pub overflow_add-i : goal.overflow_add-i
-overflow_add-i c = search (rules, c.requires.0.small.there.few)
-
 pub loop-i-preserved : goal.loop-i-preserved
 loop-i-preserved c =
     let a = c.args in
-    streaming_next {cand = (λ y. limited c.args.limit (candidate c.args.rows.now c.args.prices.now c.args.t (paid_for c.args.rows.now c.args.t c.args.x) (code_in c.args.x) y))} c.requires.0.froms_rise c.loop-i.invariant c.loop-i-test.true
+    streaming_next {cand = given_by a.rows.now a.prices.now a.t a.limit a.x} c.requires.0.froms_rise c.loop-i.invariant c.loop-i-test.true
     (sym (ap (λ (x : Edge). x.from) c.edge_at-e.ensures) ∙ c.if-e-vertex.false
     ∙ c.vertex_of-vertex.ensures ∙ ap code_vertex c.code_of-code.ensures)
     (streamed_at a.rows.now a.prices.now a.t a.x (edge_in a.pairs.now a.symbols.now c.loop-i.i) a.limit
@@ -71,4 +64,4 @@ pub returns : goal.returns
 returns c =
     let a = c.args in
     streamed_all a.rows.now a.prices.now a.t a.limit (run (edge_in a.pairs.now a.symbols.now) 0 a.edges) a.x
-    (streaming_done {cand = (λ y. limited c.args.limit (candidate c.args.rows.now c.args.prices.now c.args.t (paid_for c.args.rows.now c.args.t c.args.x) (code_in c.args.x) y))} c.requires.0.froms_rise c.loop-i.invariant c.loop-i-test.false)
+    (streaming_done {cand = given_by a.rows.now a.prices.now a.t a.limit a.x} c.requires.0.froms_rise c.loop-i.invariant c.loop-i-test.false)

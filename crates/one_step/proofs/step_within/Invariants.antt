@@ -1,6 +1,5 @@
 -- `one_step::step_within` meets its contract. The loop's invariant: what is kept is what is kept of the candidates of the items passed,
--- within the limit, which came one after another. The measure is what is left of the items.
-use Prim.Native.Nat.{◌-◌}
+-- within the limit, which came one after another.
 use Rattle.trellis.specs.Lists.{run}
 use Rattle.edges.specs.Inner.Edges.{edge_in}
 use Rattle.one_step.specs.Inner.Steps.{candidates}
@@ -8,9 +7,6 @@ use Rattle.one_step.specs.Inner.Loops.{limited}
 use Rattle.one_step.proofs.Streaming.{Stepping}
 use Rattle.one_step.proofs.step_within.Given as goal
 
-abbrev pub invariant-loop-i : goal.invariant-loop-i
-invariant-loop-i l = Stepping (λ x. limited l.limit (candidates l.rows l.prices l.t (run (edge_in l.pairs l.symbols) 0 l.edges) x)) l.k l.old l.have l.items
-    l.held.count l.held.worst l.i
-
-abbrev pub decreases-loop-i : goal.decreases-loop-i
-decreases-loop-i l = l.have - l.i
+abbrev pub invariant-loop-x : goal.invariant-loop-x
+invariant-loop-x l = Stepping (λ x. limited l.limit (candidates l.rows l.prices l.t (run (edge_in l.pairs l.symbols) 0 l.edges) x)) l.k l.old l.have l.items
+    l.held.count l.held.worst l.x-index

@@ -1,11 +1,6 @@
 -- `passes::put_goals` goes over the goals. The loop's invariant: the places passed have what is left to pay in the states of their goals.
--- The measure is how many goals are left.
-use Prim.Native.Nat.{◌-◌}
 use Rattle.passes.specs.Inner.Loops.{GoalsRanked}
 use Rattle.passes.proofs.put_goals.Given as goal
 
 abbrev pub invariant-loop-g : goal.invariant-loop-g
 invariant-loop-g l = GoalsRanked l.l l.left l.row l.g
-
-abbrev pub decreases-loop-g : goal.decreases-loop-g
-decreases-loop-g l = l.count - l.g

@@ -1,5 +1,4 @@
--- `received::is_clear` tests the symbols in their order. The loop's invariant: none of those passed is erased and other than 0. The measure
--- is how many are left.
+-- `received::is_clear` tests the symbols in their order. The loop's invariant: none of those passed is erased and other than 0.
 use borrow.Author.Rules.{rules}
 use Rattle.received.proofs.Fitting.{stray_start, stray_found, stray_more, stray_none}
 use Rattle.received.proofs.is_clear.Goals as goal

@@ -1,14 +1,13 @@
 -- `steps::keep_section` meets its contract. The loop's invariant: what is kept at depth t, and the steps that are left, give what is kept
--- in the end, and the limit is below the cost of no path. The measure is what is left of the steps.
+-- in the end, and the limit is below the cost of no path.
 use mathlib.Core.Path.{refl}
-use Rattle.whole_section.proofs.Places.{counts_near, count_near, count_in, step_at, twice_near, pairs_near, symbols_near, next_near}
-use Rattle.whole_section.proofs.Places.{next_less}
-use Rattle.steps.proofs.Depths.{deep_start, deep_room, deep_each, deep_next, deep_all}
+use Rattle.whole_section.proofs.Places.{counts_near, count_near, count_in, step_at}
+use Rattle.steps.proofs.Depths.{deep_start, deep_here, deep_room, deep_each, deep_next, deep_all}
 use borrow.Author.Rules.{rules, Fits-under}
 use Rattle.steps.proofs.keep_section.Goals as goal
 
 pub loop-t-init : goal.loop-t-init
-loop-t-init c = let p = c.requires in (deep_start p.0 p.3 p.6, p.7)
+loop-t-init c = let p = c.requires in (deep_start p.0 p.3 (search rules), p.5)
 
 pub overflow_add-n : goal.overflow_add-n
 overflow_add-n c = Fits-under _ _ 13 (counts_near c.requires.0) tt
@@ -23,65 +22,50 @@ pub bounds-l-n : goal.bounds-l-n
 bounds-l-n c = search (rules, count_in c.requires.0 c.loop-t-test.true)
 
 pub edges_each-each-requires : goal.edges_each-each-requires
-edges_each-each-requires c = deep_each c.requires.0 c.loop-t.invariant.0 c.loop-t-test.true refl c.wide-edges.ensures
+edges_each-each-requires c = deep_each c.requires.0 c.loop-t.invariant.0 c.loop-t-test.true refl (c.from-edges.ensures, search rules)
 
 pub offset_bounds-l-pairs : goal.offset_bounds-l-pairs
-offset_bounds-l-pairs c = search (rules, (step_at c.requires.0 c.loop-t.invariant.0.places c.loop-t-test.true refl c.wide-edges.ensures).pairs_in)
+offset_bounds-l-pairs c = search (rules, deep_here c.requires.0 c.loop-t.invariant.0 c.loop-t-test.true c.from-edges.ensures (search rules))
 
 pub slice_bounds-keep_step-count : goal.slice_bounds-keep_step-count
-slice_bounds-keep_step-count c = search (rules, (step_at c.requires.0 c.loop-t.invariant.0.places c.loop-t-test.true refl c.wide-edges.ensures).pairs_in)
+slice_bounds-keep_step-count c = search (rules, deep_here c.requires.0 c.loop-t.invariant.0 c.loop-t-test.true c.from-edges.ensures (search rules))
 
 pub slice_bounds-keep_step-start : goal.slice_bounds-keep_step-start
-slice_bounds-keep_step-start c = search (rules, (step_at c.requires.0 c.loop-t.invariant.0.places c.loop-t-test.true refl c.wide-edges.ensures).pairs_in)
+slice_bounds-keep_step-start c = search (rules, deep_here c.requires.0 c.loop-t.invariant.0 c.loop-t-test.true c.from-edges.ensures (search rules))
 
 pub offset_bounds-l-symbols : goal.offset_bounds-l-symbols
-offset_bounds-l-symbols c = search (rules, (step_at c.requires.0 c.loop-t.invariant.0.places c.loop-t-test.true refl c.wide-edges.ensures).symbols_in)
+offset_bounds-l-symbols c = search (rules, deep_here c.requires.0 c.loop-t.invariant.0 c.loop-t-test.true c.from-edges.ensures (search rules))
 
 pub slice_bounds-keep_step-count-in-loop-t : goal.slice_bounds-keep_step-count-in-loop-t
-slice_bounds-keep_step-count-in-loop-t c = search (rules, (step_at c.requires.0 c.loop-t.invariant.0.places c.loop-t-test.true refl c.wide-edges.ensures).symbols_in)
+slice_bounds-keep_step-count-in-loop-t c = search (rules, deep_here c.requires.0 c.loop-t.invariant.0 c.loop-t-test.true c.from-edges.ensures (search rules))
 
 pub slice_bounds-keep_step-start-in-loop-t : goal.slice_bounds-keep_step-start-in-loop-t
-slice_bounds-keep_step-start-in-loop-t c = search (rules, (step_at c.requires.0 c.loop-t.invariant.0.places c.loop-t-test.true refl c.wide-edges.ensures).symbols_in)
+slice_bounds-keep_step-start-in-loop-t c = search (rules, deep_here c.requires.0 c.loop-t.invariant.0 c.loop-t-test.true c.from-edges.ensures (search rules))
 
 pub keep_step-held-requires : goal.keep_step-held-requires
 keep_step-held-requires c =
     let p = c.requires in let i = c.loop-t.invariant in (
-      (step_at p.0 i.0.places c.loop-t-test.true refl c.wide-edges.ensures).edges,
-      deep_room p.0 i.0 c.loop-t-test.true p.1 p.2 p.4 p.5,
+      (step_at p.0 i.0.places c.loop-t-test.true refl (c.from-edges.ensures, search rules)).edges,
+      deep_room p.0 i.0 c.loop-t-test.true p.1 p.2 (search rules) p.4,
       i.0.most,
-      i.0.long,
-      i.0.long,
       c.edges_each-each.ensures,
       i.1,
     )
 
-pub limit_of-next-requires : goal.limit_of-next-requires
-limit_of-next-requires c = (c.keep_step-held.ensures.kept, c.requires.2)
-
-pub overflow_mul-pairs : goal.overflow_mul-pairs
-overflow_mul-pairs c = Fits-under _ _ 200000 (twice_near _ c.wide-edges.ensures.1) tt
+pub limit_of-requires : goal.limit_of-requires
+limit_of-requires c = (c.keep_step-held.ensures.kept, c.requires.2)
 
 pub overflow_add-pairs : goal.overflow_add-pairs
-overflow_add-pairs c =
-    let i = c.loop-t.invariant.0 in
-    Fits-under _ _ 200000 (pairs_near c.requires.0 i.places c.loop-t-test.true refl c.wide-edges.ensures) tt
+overflow_add-pairs c = search (rules, deep_here c.requires.0 c.loop-t.invariant.0 c.loop-t-test.true c.from-edges.ensures (search rules))
 
 pub overflow_add-symbols : goal.overflow_add-symbols
-overflow_add-symbols c =
-    let i = c.loop-t.invariant.0 in
-    Fits-under _ _ 200000 (symbols_near c.requires.0 i.places c.loop-t-test.true refl c.wide-edges.ensures) tt
-
-pub overflow_add-t : goal.overflow_add-t
-overflow_add-t c = Fits-under _ _ 21 (next_near c.requires.0 c.loop-t-test.true) tt
-
-pub loop-t-smaller : goal.loop-t-smaller
-loop-t-smaller c = next_less _ _ c.loop-t-test.true
+overflow_add-symbols c = search (rules, deep_here c.requires.0 c.loop-t.invariant.0 c.loop-t-test.true c.from-edges.ensures (search rules))
 
 pub loop-t-preserved : goal.loop-t-preserved
 loop-t-preserved c =
     let s = c.keep_step-held.ensures in
-    let d = deep_next c.requires.0 c.loop-t.invariant.0 c.loop-t-test.true refl c.wide-edges.ensures s in
-    (d, c.limit_of-next.ensures)
+    let d = deep_next c.requires.0 c.loop-t.invariant.0 c.loop-t-test.true refl (c.from-edges.ensures, search rules) s in
+    (d, c.limit_of.ensures)
 
 pub returns : goal.returns
 returns c =

@@ -1,41 +1,25 @@
--- `sweep::sweep` makes the rows from the last depth to the first. The loop's invariant: the row of depth t holds the least costs. The
--- measure is t.
+-- `sweep::sweep` makes the rows from the last depth to the first. The loop's invariant: the row of depth t holds the least costs.
 use borrow.Author.Rules.{rules}
-use Rattle.section_file.proofs.Seen.{header}
 use Rattle.sweep.proofs.Sweeping.{sweep_start, sweep_fits, sweep_asked, sweep_more, sweep_end}
 use Rattle.sweep.proofs.sweep.Goals as goal
 
 pub loop-t-init : goal.loop-t-init
 loop-t-init c = sweep_start c.requires.0 c.requires.1
 
-pub overflow_add-n : goal.overflow_add-n
-overflow_add-n c = search (rules, header c.requires.0)
-
-pub overflow_add-n-in-loop-t : goal.overflow_add-n-in-loop-t
-overflow_add-n-in-loop-t c = search (rules, header c.requires.0)
-
-pub offset_bounds-l-n : goal.offset_bounds-l-n
-offset_bounds-l-n c = search (rules, header c.requires.0)
-
-pub bounds-l-n : goal.bounds-l-n
-bounds-l-n c = search (rules, header c.requires.0)
-
 pub overflow_sub-before : goal.overflow_sub-before
-overflow_sub-before c = sweep_fits c.requires.0 c.requires.1 c.loop-t.invariant c.loop-t-test.true c.wide-before.ensures.0
+overflow_sub-before c = sweep_fits c.requires.0 c.requires.1 c.loop-t.invariant c.loop-t-test.true c.from-before.ensures
 
 pub lower_side-requires : goal.lower_side-requires
 lower_side-requires c =
     let I = c.loop-t.invariant in (
       c.requires.0,
-      sweep_asked c.requires.0 c.requires.1 I c.loop-t-test.true c.wide-before.ensures.0,
-      I.even_long,
-      I.odd_long,
+      sweep_asked c.requires.0 c.requires.1 I c.loop-t-test.true c.from-before.ensures,
     )
 
 pub loop-t-preserved : goal.loop-t-preserved
 loop-t-preserved c =
     let E = c.lower_side.ensures in
-    sweep_more c.requires.0 c.requires.1 c.loop-t.invariant c.loop-t-test.true c.wide-before.ensures.0 E.0 E.1 E.2
+    sweep_more c.requires.0 c.requires.1 c.loop-t.invariant c.loop-t-test.true c.from-before.ensures E.0 E.1 E.2
 
 pub returns : goal.returns
 returns c = sweep_end c.loop-t.invariant (search rules)
