@@ -10,7 +10,7 @@ first_word-requires c = (omega (arith, c.requires.2.start_le c.args.i c.requires
 
 pub returns-then-own-first_word : goal.returns-then-own-first_word
 returns-then-own-first_word c =
-    agrees_no _ c.args.starts.now c.args.firsts.now c.args.i _ _ _ c.wide-start.ensures.0
+    agrees_no _ c.args.starts.now c.args.firsts.now c.args.i _ _ _ c.from-start.ensures
     c.first_word-own.ensures c.first_word.ensures c.if-own-first_word.true
 
 pub overflow_sub-i : goal.overflow_sub-i
@@ -27,6 +27,6 @@ goes_on-requires-2 c = (
 
 pub returns : goal.returns
 returns c =
-    agrees_yes _ c.args.starts.now c.args.firsts.now c.args.i _ _ _ c.wide-start.ensures.0
+    agrees_yes _ c.args.starts.now c.args.firsts.now c.args.i _ _ _ c.from-start.ensures
     c.first_word-own.ensures
     c.first_word.ensures _ _ c.if-own-first_word.false c.goes_on.ensures c.goes_on-2.ensures

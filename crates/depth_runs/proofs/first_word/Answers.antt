@@ -11,4 +11,4 @@ pub bounds-starts-first : goal.bounds-starts-first
 bounds-starts-first c = omega (arith, c.requires.2.first_le c.args.i c.requires.0)
 
 pub returns : goal.returns
-returns c = c.wide.ensures.0 ∙ ap (at c.args.starts.now) c.wide-first.ensures.0
+returns c = c.from.ensures ∙ ap (at c.args.starts.now) c.from-first.ensures

@@ -1,10 +1,6 @@
 -- `refusing::clear` clears one place after another: the loop keeps those that are cleared so far.
-use Prim.Native.Nat.{◌-◌}
 use Rattle.refusing.proofs.Clearing.{InClear}
 use Rattle.refusing.proofs.clear.Given as goal
 
 abbrev pub invariant-loop-i : goal.invariant-loop-i
 invariant-loop-i l = InClear l.count l.initial.map l.map l.i
-
-abbrev pub decreases-loop-i : goal.decreases-loop-i
-decreases-loop-i l = l.count - l.i
