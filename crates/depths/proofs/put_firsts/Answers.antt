@@ -9,13 +9,13 @@ pub loop-i-init : goal.loop-i-init
 loop-i-init c = firsts_none _ _ _ _ (search rules) c.requires.1
 
 pub overflow_mul-key : goal.overflow_mul-key
-overflow_mul-key c = omega (arith, firsts_small c.loop-i.invariant c.wide.ensures.0 (search rules))
+overflow_mul-key c = omega (arith, firsts_small c.loop-i.invariant c.from.ensures (search rules))
 
 pub overflow_add-key : goal.overflow_add-key
 overflow_add-key c =
     omega (
       arith,
-      firsts_lt c.loop-i.invariant c.wide.ensures.0 c.symbol.ensures c.wide-in-loop-i.ensures.0
+      firsts_lt c.loop-i.invariant c.from.ensures c.symbol.ensures c.from-in-loop-i.ensures
           (search rules),
     )
 
@@ -23,7 +23,7 @@ pub offset_bounds-seen-key : goal.offset_bounds-seen-key
 offset_bounds-seen-key c =
     omega (
       arith,
-      firsts_lt c.loop-i.invariant c.wide.ensures.0 c.symbol.ensures c.wide-in-loop-i.ensures.0
+      firsts_lt c.loop-i.invariant c.from.ensures c.symbol.ensures c.from-in-loop-i.ensures
           (search rules),
     )
 
@@ -31,7 +31,7 @@ pub bounds-seen-key : goal.bounds-seen-key
 bounds-seen-key c =
     omega (
       arith,
-      firsts_lt c.loop-i.invariant c.wide.ensures.0 c.symbol.ensures c.wide-in-loop-i.ensures.0
+      firsts_lt c.loop-i.invariant c.from.ensures c.symbol.ensures c.from-in-loop-i.ensures
           (search rules),
     )
 
@@ -39,7 +39,7 @@ pub offset_bounds-seen-key-in-loop-i : goal.offset_bounds-seen-key-in-loop-i
 offset_bounds-seen-key-in-loop-i c =
     omega (
       arith,
-      firsts_lt c.loop-i.invariant c.wide.ensures.0 c.symbol.ensures c.wide-in-loop-i.ensures.0
+      firsts_lt c.loop-i.invariant c.from.ensures c.symbol.ensures c.from-in-loop-i.ensures
           (search rules),
     )
 
@@ -47,14 +47,14 @@ pub bounds-seen-key-in-loop-i : goal.bounds-seen-key-in-loop-i
 bounds-seen-key-in-loop-i c =
     omega (
       arith,
-      firsts_lt c.loop-i.invariant c.wide.ensures.0 c.symbol.ensures c.wide-in-loop-i.ensures.0
+      firsts_lt c.loop-i.invariant c.from.ensures c.symbol.ensures c.from-in-loop-i.ensures
           (search rules),
     )
 
 pub loop-i-preserved : goal.loop-i-preserved
 loop-i-preserved c =
     firsts_more c.loop-i.invariant
-    (firsts_key c.loop-i.invariant c.wide.ensures.0 c.symbol.ensures c.wide-in-loop-i.ensures.0)
+    (firsts_key c.loop-i.invariant c.from.ensures c.symbol.ensures c.from-in-loop-i.ensures)
     c.noted-first.ensures (search rules)
 
 pub returns : goal.returns

@@ -1,6 +1,5 @@
 -- `depths::put_firsts` meets its contract. The loop keeps the first words of the words before i, and for each key the first of them that
 -- has it.
-use lib.ListN.{length}
 use Rattle.depths.proofs.Firsts.{InFirsts}
 use Rattle.depths.proofs.put_firsts.Given as goal
 

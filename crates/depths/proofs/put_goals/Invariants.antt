@@ -1,5 +1,4 @@
 -- `depths::put_goals` meets its contract. The loop keeps that the first i numbers of the row are the first i goals, which are bytes.
-use lib.ListN.{length}
 use Rattle.depths.proofs.Goals.{InBytes}
 use Rattle.depths.proofs.put_goals.Given as goal
 

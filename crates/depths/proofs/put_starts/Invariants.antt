@@ -1,5 +1,4 @@
 -- `depths::put_starts` meets its contract. The loop keeps the starts of the runs of the words before i, and that of the last of them.
-use lib.ListN.{length}
 use Rattle.depths.proofs.Starts.{InStarts}
 use Rattle.depths.proofs.put_starts.Given as goal
 
