@@ -10,12 +10,12 @@ use Rattle.lacking.proofs.first_lacking.Goals as goal
 pub offset_bounds-starts-l : goal.offset_bounds-starts-l
 offset_bounds-starts-l c =
     let asked = c.requires in
-    omega (arith, c.wide-l.ensures.0, asked.rows.few, asked.j_lt, asked.rows.endings.le _ asked.j_lt)
+    omega (arith, c.from-l.ensures, asked.rows.few, asked.j_lt, asked.rows.endings.le _ asked.j_lt)
 
 pub bounds-starts-l : goal.bounds-starts-l
 bounds-starts-l c =
     let asked = c.requires in
-    omega (arith, c.wide-l.ensures.0, asked.rows.few, asked.j_lt, asked.rows.endings.le _ asked.j_lt)
+    omega (arith, c.from-l.ensures, asked.rows.few, asked.j_lt, asked.rows.endings.le _ asked.j_lt)
 
 pub in_run-requires : goal.in_run-requires
 in_run-requires c =
@@ -24,11 +24,11 @@ in_run-requires c =
 
 pub returns-then-in_run : goal.returns-then-in_run
 returns-then-in_run c =
-    settled c.requires c.wide-k.ensures.0 c.wide-l.ensures.0
+    settled c.requires c.from-k.ensures c.from-l.ensures
     (sym c.in_run.ensures ∙ c.if-in_run.true)
 
 pub loop-k-init : goal.loop-k-init
-loop-k-init c = lacking_none c.requires c.wide-k.ensures.0 c.wide-l.ensures.0
+loop-k-init c = lacking_none c.requires c.from-k.ensures c.from-l.ensures
 
 pub reach-l-requires : goal.reach-l-requires
 reach-l-requires c =
@@ -42,13 +42,13 @@ returns-then-not-in_run c =
     (sym c.in_run-in-loop-k.ensures ∙ c.if-not-in_run.true)
 
 pub loop-k-smaller : goal.loop-k-smaller
-loop-k-smaller c = omega (arith, c.wide-k-in-loop-k.ensures.0, ahead c.loop-k.invariant.asked.chains _ c.loop-k-test.true, c.loop-k-test.true)
+loop-k-smaller c = omega (arith, c.from-k-in-loop-k.ensures, ahead c.loop-k.invariant.asked.chains _ c.loop-k-test.true, c.loop-k-test.true)
 
 pub loop-k-preserved : goal.loop-k-preserved
 loop-k-preserved c =
     let inv = c.loop-k.invariant in
     lacking_more inv c.loop-k-test.true refl (c.reach-l.ensures _ inv.asked.chains)
-    (sym c.in_run-in-loop-k.ensures ∙ c.if-not-in_run.false) c.wide-k-in-loop-k.ensures.0
+    (sym c.in_run-in-loop-k.ensures ∙ c.if-not-in_run.false) c.from-k-in-loop-k.ensures
 
 pub returns : goal.returns
 returns c = lacking_end c.loop-k.invariant c.loop-k-test.false
