@@ -8,18 +8,18 @@ pub overflow_mul-result : goal.overflow_mul-result
 overflow_mul-result c =
     omega (
       arith,
-      arc_from _ _ c.requires.0 c.requires.1 c.wide-from.ensures.0 c.symbol.ensures
-          c.wide-symbol.ensures.0,
+      arc_from _ _ c.requires.0 c.requires.1 c.from-from.ensures c.symbol.ensures
+          c.from-symbol.ensures,
     )
 
 pub overflow_add-result : goal.overflow_add-result
 overflow_add-result c =
     omega (
       arith,
-      arc_from _ _ c.requires.0 c.requires.1 c.wide-from.ensures.0 c.symbol.ensures c.wide-symbol.ensures.0,
-      arc_symbol _ _ c.requires.0 c.requires.1 c.wide-from.ensures.0 c.symbol.ensures
-          c.wide-symbol.ensures.0,
+      arc_from _ _ c.requires.0 c.requires.1 c.from-from.ensures c.symbol.ensures c.from-symbol.ensures,
+      arc_symbol _ _ c.requires.0 c.requires.1 c.from-from.ensures c.symbol.ensures
+          c.from-symbol.ensures,
     )
 
 pub returns : goal.returns
-returns c = arc_is _ _ c.requires.0 c.requires.1 c.wide-from.ensures.0 c.symbol.ensures c.wide-symbol.ensures.0 refl
+returns c = arc_is _ _ c.requires.0 c.requires.1 c.from-from.ensures c.symbol.ensures c.from-symbol.ensures refl

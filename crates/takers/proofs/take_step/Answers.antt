@@ -11,7 +11,7 @@ loop-i-init c = takers_none _ _ _ _
 pub loop-i-preserved : goal.loop-i-preserved
 loop-i-preserved c =
     takers_more c.loop-i.invariant c.arc_at-arc.ensures refl c.higher.ensures
-    c.as_high.ensures c.note-to.ensures (search rules)
+    refl c.note-to.ensures (search rules)
 
 pub returns : goal.returns
 returns c = takers_end c.loop-i.invariant (search rules)
