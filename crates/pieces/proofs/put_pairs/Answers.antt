@@ -14,7 +14,7 @@ overflow_add-section c =
     omega (
       arith,
       word_below c.requires.0 c.loop-k.invariant
-          c.wide-i.ensures.0 (search rules),
+          c.from-i.ensures (search rules),
     )
 
 pub offset_bounds-map-row : goal.offset_bounds-map-row
@@ -22,7 +22,7 @@ offset_bounds-map-row c =
     omega (
       arith,
       word_below c.requires.0 c.loop-k.invariant
-          c.wide-i.ensures.0 (search rules),
+          c.from-i.ensures (search rules),
     )
 
 pub bounds-map-row : goal.bounds-map-row
@@ -30,7 +30,7 @@ bounds-map-row c =
     omega (
       arith,
       word_below c.requires.0
-          c.loop-k.invariant c.wide-i.ensures.0 (search rules),
+          c.loop-k.invariant c.from-i.ensures (search rules),
     )
 
 pub overflow_add-section-in-loop-k : goal.overflow_add-section-in-loop-k
@@ -38,7 +38,7 @@ overflow_add-section-in-loop-k c =
     omega (
       arith,
       word_below c.requires.0
-          c.loop-k.invariant c.wide-i.ensures.0 (search rules),
+          c.loop-k.invariant c.from-i.ensures (search rules),
     )
 
 pub overflow_add-section-in-loop-k-2 : goal.overflow_add-section-in-loop-k-2
@@ -46,7 +46,7 @@ overflow_add-section-in-loop-k-2 c =
     omega (
       arith,
       word_below c.requires.0
-          c.loop-k.invariant c.wide-i.ensures.0 (search rules),
+          c.loop-k.invariant c.from-i.ensures (search rules),
     )
 
 pub offset_bounds-map-row-in-loop-k : goal.offset_bounds-map-row-in-loop-k
@@ -54,7 +54,7 @@ offset_bounds-map-row-in-loop-k c =
     omega (
       arith,
       word_below c.requires.0
-          c.loop-k.invariant c.wide-i.ensures.0 (search rules),
+          c.loop-k.invariant c.from-i.ensures (search rules),
     )
 
 pub bounds-map-row-in-loop-k : goal.bounds-map-row-in-loop-k
@@ -62,7 +62,7 @@ bounds-map-row-in-loop-k c =
     omega (
       arith,
       word_below c.requires.0
-          c.loop-k.invariant c.wide-i.ensures.0 (search rules),
+          c.loop-k.invariant c.from-i.ensures (search rules),
     )
 
 pub bounds-section-to-in-loop-k : goal.bounds-section-to-in-loop-k
@@ -71,7 +71,7 @@ bounds-section-to-in-loop-k c =
     (arith, c.loop-k.invariant.len, c.loop-k.invariant.to_is))
 
 pub loop-k-preserved : goal.loop-k-preserved
-loop-k-preserved c = pair_more _ _ _ c.loop-k.invariant c.wide-i.ensures.0 refl refl (search rules)
+loop-k-preserved c = pair_more _ _ _ c.loop-k.invariant c.from-i.ensures refl refl (search rules)
 
 pub returns : goal.returns
 returns c = piece_end c.loop-k.invariant (search rules)

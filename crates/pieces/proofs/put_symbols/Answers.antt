@@ -12,7 +12,7 @@ offset_bounds-labels-i c =
     omega (
       arith,
       word_below c.requires.0 c.loop-k.invariant
-          c.wide-i.ensures.0 (search rules),
+          c.from-i.ensures (search rules),
     )
 
 pub bounds-labels-i : goal.bounds-labels-i
@@ -20,11 +20,11 @@ bounds-labels-i c =
     omega (
       arith,
       word_below c.requires.0
-          c.loop-k.invariant c.wide-i.ensures.0 (search rules),
+          c.loop-k.invariant c.from-i.ensures (search rules),
     )
 
 pub loop-k-preserved : goal.loop-k-preserved
-loop-k-preserved c = symbol_more _ _ _ c.loop-k.invariant c.wide-i.ensures.0 c.symbol.ensures (search rules)
+loop-k-preserved c = symbol_more _ _ _ c.loop-k.invariant c.from-i.ensures c.symbol.ensures (search rules)
 
 pub returns : goal.returns
 returns c = piece_end c.loop-k.invariant (search rules)
