@@ -3,11 +3,8 @@
 use mathlib.Core.Path.{sym, ◌∙◌}
 use native.Mathlib.Omega.{arith}
 use Rattle.lacking.proofs.Endings.{before_yes}
-use Rattle.lacking.proofs.Chains.{way_none, way_more, way_end}
+use Rattle.lacking.proofs.Chains.{way_more, way_end}
 use Rattle.lacking.proofs.reach.Goals as goal
-
-pub loop-word-init : goal.loop-word-init
-loop-word-init c = λ firsts C. way_none _ _ firsts _ _
 
 pub offset_bounds-next-word : goal.offset_bounds-next-word
 offset_bounds-next-word c = omega (arith, (before_yes _ _ _ _ (sym c.before_run.ensures ∙ c.loop-word-test.true)).0, c.requires.0)
