@@ -9,7 +9,6 @@ ghost use Rattle.trellis.specs.Inner.Write.{Wrote};
 ghost use Rattle.assemble.specs.Inner.Numbers.{first_numbers, size_numbers, SizesAsked, length_by, LengthAsked, numbers_of, Parts};
 
 use layout::states;
-use numbers::wide;
 pub use outer_depths::{Outer, OuterDepth, put_outer};
 use takers::Edges;
 use trellis::MOST_SYMBOLS;
@@ -19,11 +18,7 @@ pub fn put_numbers(source: &[u16], count: usize, section: &mut [u16], at: usize)
     requires { (count ≤ length source.now) × (at + count ≤ length section.old) }
     ensures { Wrote section.old at (first_numbers source.now count) section.new result }
 {
-    let mut i: usize = 0;
-    while i < count {
-        section[at + i] = source[i];
-        i += 1;
-    }
+    section[at..at + count].copy_from_slice(&source[..count]);
     at + count
 }
 
@@ -32,9 +27,9 @@ fn put_header(q: u8, n: usize, states: u8, sizes: &mut [u16]) -> usize
     requires { (n ≤ most_symbols) × (3 ≤ length sizes.old) }
     ensures { Wrote sizes.old 0 (q ∷ n ∷ states ∷ []) sizes.new result }
 {
-    sizes[0] = q as u16;
+    sizes[0] = u16::from(q);
     sizes[1] = n as u16;
-    sizes[2] = states as u16;
+    sizes[2] = u16::from(states);
     3
 }
 
@@ -61,7 +56,7 @@ pub fn section_length(n: usize, vertices: &[u16; MOST_SYMBOLS + 1], edges: usize
     requires { LengthAsked n vertices.now edges }
     ensures { result ≡ length_by n vertices.now edges }
 {
-    4 + 2 * n + (wide(vertices[0]) + wide(vertices[n])) + 3 * edges
+    4 + 2 * n + (usize::from(vertices[0]) + usize::from(vertices[n])) + 3 * edges
 }
 
 // The section's numbers in document 01's layout, from the front of the buffer on. `sizes` is what put_sizes left, `words` and `edges` what
@@ -81,12 +76,9 @@ pub fn put_section(
         ≡ over (numbers_of n sizes.now outer.roots outer.goals map.now labels.now)
         section.old }
 {
-    let roots = outer.roots;
-    let goals = outer.goals;
-    let steps = edges.counts;
     let mut at = put_numbers(sizes, 4 + 2 * n, section, 0);
-    at = states::put_states(&roots, section, at);
-    at = states::put_states(&goals, section, at);
-    at = layout::put_all_pairs(words, &steps, n, labels, map, section, at);
-    layout::put_all_symbols(words, &steps, n, labels, map, section, at);
+    at = states::put_states(&outer.roots, section, at);
+    at = states::put_states(&outer.goals, section, at);
+    at = layout::put_all_pairs(words, &edges.counts, n, labels, map, section, at);
+    layout::put_all_symbols(words, &edges.counts, n, labels, map, section, at);
 }

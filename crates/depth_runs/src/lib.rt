@@ -9,7 +9,6 @@ ghost use Rattle.trellis.specs.Lists.{one_if};
 ghost use Rattle.runs.specs.Inner.Runs.{goes_on};
 ghost use Rattle.depth_runs.specs.Inner.Rows.{at, first_word_in, agrees_test, runs_agree_test, Backward, ToNumber, VerticesNumbered};
 
-use numbers::wide;
 use trellis::MOST_WORDS;
 
 // Whether the word after i is of i's run.
@@ -25,8 +24,8 @@ fn first_word(starts: &[u16; MOST_WORDS], firsts: &[u16; MOST_WORDS], w: usize, 
     requires { (i < w) × (w ≤ most_words) × Backward w starts.now firsts.now }
     ensures { result ≡ first_word_in starts.now firsts.now i }
 {
-    let first = wide(firsts[i]);
-    wide(starts[first])
+    let first = usize::from(firsts[i]);
+    usize::from(starts[first])
 }
 
 // Whether i's run agrees at i with the run of its first word.
@@ -34,7 +33,7 @@ fn agrees(starts: &[u16; MOST_WORDS], firsts: &[u16; MOST_WORDS], w: usize, i: u
     requires { (i < w) × (w ≤ most_words) × Backward w starts.now firsts.now }
     ensures { result ≡ agrees_test w (at starts.now) (first_word_in starts.now firsts.now) i }
 {
-    let start = wide(starts[i]);
+    let start = usize::from(starts[i]);
     let own = first_word(starts, firsts, w, i);
     if own != first_word(starts, firsts, w, start) {
         return false;
@@ -46,12 +45,10 @@ pub fn runs_agree(starts: &[u16; MOST_WORDS], firsts: &[u16; MOST_WORDS], w: usi
     requires { (w ≤ most_words) × Backward w starts.now firsts.now }
     ensures { result ≡ runs_agree_test w starts.now firsts.now }
 {
-    let mut i: usize = 0;
-    while i < w {
+    for i in 0..w {
         if !agrees(starts, firsts, w, i) {
             return false;
         }
-        i += 1;
     }
     true
 }
@@ -76,14 +73,12 @@ pub fn put_numbers(
     ensures { VerticesNumbered place w (first_word_in starts.now firsts.now) map.old
         map.new result }
 {
-    let mut i: usize = 0;
     let mut count: u16 = 0;
-    while i < w {
+    for i in 0..w {
         let first = first_word(starts, firsts, w, i);
         map[place + i] = count; // what is read back if i is the first word of its vertex
         map[place + i] = map[place + first];
         count = numbered(count, first, i);
-        i += 1;
     }
     count
 }

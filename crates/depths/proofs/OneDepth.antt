@@ -7,6 +7,7 @@ use mathlib.Core.Logic.{◌↔◌}
 use mathlib.Core.List.{List}
 use Prim.Native.Nat.{ℕ, ◌*◌, ◌≤◌, ◌<◌}
 use native.Mathlib.Omega.{arith}
+use Rattle.std.specs.Prelude.{Some, None}
 use lib.ListN.{length}
 use lib.Dec.{eqb}
 use Rattle.trellis.specs.Word.{Word, Table, RectangularAt}
@@ -24,7 +25,6 @@ use Rattle.depth_runs.specs.Inner.Rows.{VerticesNumbered}
 use Rattle.depth_runs.proofs.Agreement.{agrees_iff, agrees_cong, all_iff}
 use Rattle.depths.specs.Inner.Words.{words}
 use Rattle.depths.specs.Inner.Merge.{DepthAsked, DepthDone}
-use Rattle.depths.specs.declared.Depth.TheVariants.{Merged, Refused}
 use Rattle.depths.proofs.Words.{held_length}
 use Rattle.depths.proofs.Starts.{starts_are}
 use Rattle.depths.proofs.Firsts.{firsts_are, ends_now}
@@ -101,7 +101,7 @@ module _ {n t : ℕ} {roots labels goals old map row starts : List ℕ} (M : Dep
 
   -- ---- the ways that a depth ends
 
-  pub depth_refused : false ≡ runs_agree_test (length roots) starts row → DepthDone n t table row map map Refused
+  pub depth_refused : false ≡ runs_agree_test (length roots) starts row → DepthDone n t table row map map None
   depth_refused e = record { ends = ends_now M.held t M.deep M.ends B; outcome = record { fails = fail; kept = refl } }
     where
       fail : RectangularAt n t table → ⊥
@@ -139,7 +139,7 @@ module _ {n t : ℕ} {roots labels goals old map row starts : List ℕ} (M : Dep
 
   pub depth_merged : {new : List ℕ} {count : ℕ} → true ≡ runs_agree_test (length roots) starts row
       → VerticesNumbered (t * length roots) (length roots) (first_word_in starts row) map new count
-      → DepthDone n t table row map new (Merged count)
+      → DepthDone n t table row map new (Some count)
   depth_merged {new} {count} e N =
       let D = subst (λ k. RowAt (t * k) k (number_of (first_word_in starts row)) map new) (sym size) N.row in
       record {

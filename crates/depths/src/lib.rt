@@ -11,7 +11,6 @@ ghost use Rattle.depths.specs.Inner.Words.{words};
 ghost use Rattle.depths.specs.Inner.Merge.{DepthAsked, DepthDone};
 
 use depth_runs::{put_numbers, runs_agree};
-use numbers::wide;
 use trellis::{MOST_Q, MOST_WORDS};
 
 // Whether words i and j have the same beginning at depth t.
@@ -43,12 +42,10 @@ pub fn put_starts(roots: &[u8], labels: &[u16], n: usize, t: usize, starts: &mut
     ensures { Row (length roots.now) (run_start (joins roots.now labels.now n t))
         starts.new }
 {
-    let mut i: usize = 0;
     let mut start: u16 = 0;
-    while i < roots.len() {
+    for i in 0..roots.len() {
         start = run_start(roots, labels, n, t, i, start);
         starts[i] = start;
-        i += 1;
     }
 }
 
@@ -69,24 +66,15 @@ pub fn put_firsts(labels: &[u16], n: usize, t: usize, row: &mut [u16; MOST_WORDS
         row.new }
 {
     let mut seen = [NOTHING; MOST_Q * MOST_WORDS];
-    let mut i: usize = 0;
-    while i < labels.len() {
-        let key = wide(row[i]) * 4 + wide(label::symbol(labels[i], n, t));
+    for i in 0..labels.len() {
+        let key = usize::from(row[i]) * 4 + usize::from(label::symbol(labels[i], n, t));
         let first = noted(seen[key], i as u16);
         seen[key] = first;
         row[i] = first;
-        i += 1;
     }
 }
 
-// What one depth comes to: how many vertices it has, or that the table is not rectangular there.
-#[derive(Clone, Copy)]
-pub enum Depth {
-    Merged(u16),
-    Refused,
-}
-
-// Depth t of a table. The row tells the endings at depth t + 1 apart, and then those at depth t; the map gets the depth's vertices.
+// Depth t of a table: how many vertices it has, or none if the table is not rectangular there. The row tells the endings at depth t + 1 apart, and then those at depth t; the map gets the depth's vertices.
 pub fn merge_depth(
     roots: &[u8],
     labels: &[u16],
@@ -95,7 +83,7 @@ pub fn merge_depth(
     t: usize,
     row: &mut [u16; MOST_WORDS],
     map: &mut [u16],
-) -> Depth
+) -> Option<u16>
     requires { DepthAsked n t roots.now labels.now goals.now row.old map.old }
     ensures { DepthDone n t (words roots.now labels.now goals.now) row.new
         map.old map.new result }
@@ -105,15 +93,9 @@ pub fn merge_depth(
     put_starts(roots, labels, n, t, &mut starts);
     put_firsts(labels, n, t, row);
     if !runs_agree(&starts, row, w) {
-        return Depth::Refused;
+        return None;
     }
-    Depth::Merged(put_numbers(&starts, row, w, map, t * w))
-}
-
-fn widen(x: u8) -> u16
-    ensures { (result ≡ x) × (result < 256) }
-{
-    x as u16
+    Some(put_numbers(&starts, row, w, map, t * w))
 }
 
 // The goals as a row: they tell the endings at depth n apart.
@@ -121,9 +103,7 @@ pub fn put_goals(goals: &[u8], row: &mut [u16; MOST_WORDS])
     requires { (length goals.now ≤ most_words) × (length row.old ≡ most_words) }
     ensures { Bytes goals.now row.new }
 {
-    let mut i: usize = 0;
-    while i < goals.len() {
-        row[i] = widen(goals[i]);
-        i += 1;
+    for i in 0..goals.len() {
+        row[i] = u16::from(goals[i]);
     }
 }

@@ -3,8 +3,9 @@
 use mathlib.Core.Path.{◌≡◌, refl, sym, ap, subst, ◌∙◌}
 use mathlib.Core.Logic.{◌↔◌}
 use mathlib.Core.List.{List}
-use Prim.Native.Nat.{ℕ, zero, suc, ◌+◌, ◌-◌, ◌*◌, ◌≤◌, ◌<◌}
+use Prim.Native.Nat.{ℕ, suc, ◌+◌, ◌-◌, ◌*◌, ◌≤◌, ◌<◌}
 use native.Mathlib.Omega.{arith}
+use Rattle.std.specs.Prelude.{Option, Some, None}
 use native.Mathlib.Nat.{mul-le-mul_right, suc-mul}
 use native.Mathlib.Decide.{ℕ_discrete}
 use lib.ListN.{length, set, length-set}
@@ -15,11 +16,9 @@ use Rattle.trellis.specs.Own.{vertex_of, vertex_count}
 use Rattle.depth_runs.specs.Inner.Rows.{at}
 use Rattle.depth_runs.proofs.Places.{at_set}
 use Rattle.depths.specs.Inner.Words.{words}
-use Rattle.depths.specs.Inner.Merge.{EndingRow, DepthAsked, DepthMerged, DepthDone, lowest_of, count_of, Inner, InnerOutcome, InnerDone}
-use Rattle.depths.specs.declared.Depth.{Depth}
-use Rattle.depths.specs.declared.Depth.TheVariants.{Merged, Refused}
+use Rattle.depths.specs.Inner.Merge.{EndingRow, DepthAsked, DepthMerged, DepthDone, Inner, InnerOutcome, InnerDone}
 
-pub record InDepths (n : ℕ) (table : List Word) (old_map map old_counts counts row : List ℕ) (t refused : ℕ) : Type 0 where
+pub record InDepths (n : ℕ) (table : List Word) (old_map map old_counts counts row : List ℕ) (t : ℕ) (refused : Option ℕ) : Type 0 where
   pub some : 0 < t
   pub le : t ≤ n
   pub ends : EndingRow n table t row
@@ -36,7 +35,7 @@ rows_apart : (t u w : ℕ) → t < u → t * w + w ≤ u * w
 rows_apart t u w h = let p = mul-le-mul_right w h in omega (arith, suc-mul t w)
 
 pub depths_none : {n : ℕ} {table : List Word} {map counts row : List ℕ} → 0 < n → EndingRow n table n row → length counts ≡ 9
-    → InDepths n table map map counts counts row n 0
+    → InDepths n table map map counts counts row n None
 depths_none {n} {table} {map} {counts} {row} h E k = record {
   some = h;
   le = omega arith;
@@ -54,7 +53,7 @@ depths_none {n} {table} {map} {counts} {row} h E k = record {
   nine = k;
 }
 
-pub depths_ask : {n : ℕ} {roots labels goals old_map map old_counts counts row : List ℕ} {t refused : ℕ}
+pub depths_ask : {n : ℕ} {roots labels goals old_map map old_counts counts row : List ℕ} {t : ℕ} {refused : Option ℕ}
     → Inner n roots labels goals old_map old_counts
     → InDepths n (words roots labels goals) old_map map old_counts counts row t refused → 1 < t
     → DepthAsked n (t - 1) roots labels goals row map
@@ -69,10 +68,10 @@ depths_ask {n} {roots} {labels} {goals} {old_map} {map} {old_counts} {counts} {r
 -- ---- one depth more
 
 module _ (n : ℕ) (table : List Word) (t : ℕ) (map new counts : List ℕ) where
-  found_merged : (refused count : ℕ) → t < length counts → InnerOutcome n table (suc t) map counts refused
+  found_merged : (refused : Option ℕ) (count : ℕ) → t < length counts → InnerOutcome n table (suc t) map counts refused
       → DepthMerged n table t map new count
       → InnerOutcome n table t new (set counts t count) refused
-  found_merged zero count room F D = record {
+  found_merged None count room F D = record {
     rectangular = λ u p q. now u p q (ℕ_discrete t u);
     vertices = λ u i p q r. there u i p q r (ℕ_discrete t u);
     counted = λ u p q. tally u p q (ℕ_discrete t u);
@@ -92,23 +91,22 @@ module _ (n : ℕ) (table : List Word) (t : ℕ) (map new counts : List ℕ) whe
       tally u p q (yes e) =
           subst (λ k. at (set counts t count) k ≡ vertex_count n table k) e (get_or-set_same counts t count 0 room ∙ D.counted)
       tally u p q (no e) = at_set counts t u count (λ d. e (sym d)) ∙ F.counted u (omega arith) q
-  found_merged (suc r) count room F D =
+  found_merged (Some r) count room F D =
       record { from = omega (arith, F.from); inner = F.inner; fails = F.fails; sooner = λ u p q. now u p q (ℕ_discrete t u) }
     where
-      now : (u : ℕ) → t ≤ u → u < suc r → Dec (t ≡ u) → RectangularAt n u table
+      now : (u : ℕ) → t ≤ u → u < r → Dec (t ≡ u) → RectangularAt n u table
       now u p q (yes e) = subst (λ k. RectangularAt n k table) e D.rectangular
       now u p q (no e) = F.sooner u (omega arith) q
 
 found_refused : (n : ℕ) (table : List Word) (t : ℕ) (map counts : List ℕ) → 0 < t → t < n → (RectangularAt n t table → ⊥)
-    → InnerOutcome n table t map counts t
-found_refused n table zero map counts h l f = absurd (omega arith)
-found_refused n table (suc t) map counts h l f = record { from = omega arith; inner = l; fails = f; sooner = λ u p q. absurd (omega arith) }
+    → InnerOutcome n table t map counts (Some t)
+found_refused n table t map counts h l f = record { from = omega arith; inner = l; fails = f; sooner = λ u p q. absurd (omega arith) }
 
-module _ {n : ℕ} {table : List Word} {old_map map old_counts counts row new row' : List ℕ} {t refused : ℕ}
+module _ {n : ℕ} {table : List Word} {old_map map old_counts counts row new row' : List ℕ} {t : ℕ} {refused : Option ℕ}
     (c : InDepths n table old_map map old_counts counts row t refused) (short : n ≤ most_symbols) (h : 1 < t) where
-  turned : (depth : Depth) → DepthDone n (t - 1) table row' map new depth
-      → InDepths n table old_map new old_counts (set counts (t - 1) (count_of depth)) row' (t - 1) (lowest_of depth (t - 1) refused)
-  turned (Merged count) D =
+  pub depths_merged : {count : ℕ} → DepthDone n (t - 1) table row' map new (Some count)
+      → InDepths n table old_map new old_counts (set counts (t - 1) count) row' (t - 1) refused
+  depths_merged {count} D =
       let e : t ≡ suc (t - 1) = omega arith in
       let R = D.outcome.row in
       let a = rows_apart (t - 1) t (length table) (omega arith) in
@@ -126,29 +124,26 @@ module _ {n : ℕ} {table : List Word} {old_map map old_counts counts row new ro
         later_counts = λ j p. at_set counts (t - 1) j count (λ q. omega (arith, c.le)) ∙ c.later_counts j p;
         nine = simp length-set c.nine;
       }
-  turned Refused D =
+
+  pub depths_refused : DepthDone n (t - 1) table row' map new None
+      → InDepths n table old_map new old_counts counts row' (t - 1) (Some (t - 1))
+  depths_refused D =
       let k : (j : ℕ) → at new j ≡ at map j = λ j. ap (λ l. at l j) D.outcome.kept in
       let a = rows_apart (t - 1) t (length table) (omega arith) in
       record {
         some = omega arith;
         le = omega (arith, c.le);
         ends = D.ends;
-        found = found_refused n table (t - 1) new (set counts (t - 1) 0) (omega arith) (omega (arith, c.le)) D.outcome.fails;
+        found = found_refused n table (t - 1) new counts (omega arith) (omega (arith, c.le)) D.outcome.fails;
         before = λ j p. k j ∙ c.before j (omega arith);
         behind = λ j p. k j ∙ c.behind j p;
         len = ap length D.outcome.kept ∙ c.len;
-        root_count = at_set counts (t - 1) 0 0 (λ q. omega arith) ∙ c.root_count;
-        later_counts = λ j p. at_set counts (t - 1) j 0 (λ q. omega (arith, c.le)) ∙ c.later_counts j p;
-        nine = simp length-set c.nine;
+        root_count = c.root_count;
+        later_counts = c.later_counts;
+        nine = c.nine;
       }
 
-  pub depths_more : {refused' count : ℕ} {depth : Depth} → DepthDone n (t - 1) table row' map new depth → count ≡ count_of depth
-      → refused' ≡ lowest_of depth (t - 1) refused → InDepths n table old_map new old_counts (set counts (t - 1) count) row' (t - 1) refused'
-  depths_more {refused'} {count} {depth} D p q =
-      subst (λ x. InDepths n table old_map new old_counts (set counts (t - 1) x) row' (t - 1) refused') (sym p)
-      (subst (InDepths n table old_map new old_counts (set counts (t - 1) (count_of depth)) row' (t - 1)) (sym q) (turned depth D))
-
-pub depths_end : {n : ℕ} {table : List Word} {old_map map old_counts counts row : List ℕ} {t refused : ℕ}
+pub depths_end : {n : ℕ} {table : List Word} {old_map map old_counts counts row : List ℕ} {t : ℕ} {refused : Option ℕ}
     → InDepths n table old_map map old_counts counts row t refused → t ≤ 1 → InnerDone n table old_map map old_counts counts refused
 depths_end {n} {table} {old_map} {map} {old_counts} {counts} {row} {t} {refused} c h =
     let e : t ≡ 1 = omega (arith, c.some) in
@@ -162,10 +157,13 @@ depths_end {n} {table} {old_map} {map} {old_counts} {counts} {row} {t} {refused}
       nine = c.nine;
     }
 
--- the answer 0 is that of rectangular tables
-pub inner_rectangular : (n : ℕ) (table : List Word) (old_map map old_counts counts : List ℕ) (r : ℕ)
+some_none : {A : Type 0} {a : A} → ◌≡◌ {A = Option A} (Some a) None → ⊥
+some_none e = let z : ◌≡◌ {A = ℕ} 0 1 = cc in omega arith
+
+-- the answer none is that of rectangular tables
+pub inner_rectangular : (n : ℕ) (table : List Word) (old_map map old_counts counts : List ℕ) (r : Option ℕ)
     → InnerDone n table old_map map old_counts counts r
-    → (r ≡ 0) ↔ Rectangular n table
-inner_rectangular n table old_map map old_counts counts zero D = (λ e t p q. D.found.rectangular t p q, λ R. refl)
-inner_rectangular n table old_map map old_counts counts (suc r) D =
-    (λ e. absurd (omega arith), λ R. absurd (D.found.fails (R (suc r) (omega arith) D.found.inner)))
+    → (r ≡ None) ↔ Rectangular n table
+inner_rectangular n table old_map map old_counts counts None D = (λ e t p q. D.found.rectangular t p q, λ R. refl)
+inner_rectangular n table old_map map old_counts counts (Some r) D =
+    (λ e. absurd (some_none e), λ R. absurd (D.found.fails (R r D.found.from D.found.inner)))

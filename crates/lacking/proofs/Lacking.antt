@@ -5,6 +5,7 @@ use mathlib.Core.Bool.{true, false}
 use mathlib.Core.List.{List}
 use Prim.Native.Nat.{ℕ, ◌+◌, ◌≤◌, ◌<◌}
 use native.Mathlib.Omega.{arith}
+use Rattle.std.specs.Prelude.{Some, None}
 use native.Mathlib.Decide.{ℕ_discrete, dec_lt}
 use Rattle.depth_runs.specs.Inner.Rows.{at}
 use Rattle.lacking.specs.Inner.Search.{FirstWith}
@@ -32,8 +33,8 @@ lacking_none {w} {starts} {firsts} {next} {i} {j} {k} {l} A e f = record {
 }
 
 module _ {w : ℕ} {starts firsts next : List ℕ} {i j k l : ℕ} (c : InLacking w starts firsts next i j k l) where
-  pub lacking_end : w ≤ k → FirstWith (refutes_in starts firsts w) w i j k
-  lacking_end h = record { none = λ z p q. none_with starts firsts w i j z (c.held z p q); passes = λ p. absurd (omega arith) }
+  pub lacking_end : w ≤ k → FirstWith (refutes_in starts firsts w) w i j None
+  lacking_end h = λ z q. none_with starts firsts w i j z (c.held z (omega arith) q)
 
   module _ {a r : ℕ} (h : k < w) (e : a ≡ at starts k) (T : Reached w starts firsts a l r) where
     -- the words with j's ending before r are in runs before k's
@@ -66,10 +67,11 @@ module _ {w : ℕ} {starts firsts next : List ℕ} {i j k l : ℕ} (c : InLackin
             ending_yes (record { place = r; below = x.0; begins = x.1 ∙ e ∙ ap (at starts) (sym o); ends = ends x.0 })
         go z p q g (no d) (no o) = absurd (N.none z (omega arith) (omega arith) q (sym g ∙ sym (c.k_ends h)))
 
-    pub lacking_hit : in_run starts w a r ≡ false → FirstWith (refutes_in starts firsts w) w i j k
+    pub lacking_hit : in_run starts w a r ≡ false → FirstWith (refutes_in starts firsts w) w i j (Some k)
     lacking_hit s = record {
-      none = λ z p q. none_with starts firsts w i j z (c.held z p q);
-      passes = λ p. sym (refutes_last starts firsts w i j k c.asked.begins (sym (c.k_ends h)) (sym lacks));
+      below = h;
+      none = λ z p. none_with starts firsts w i j z (c.held z p (omega arith));
+      passes = sym (refutes_last starts firsts w i j k c.asked.begins (sym (c.k_ends h)) (sym lacks));
     }
       where
         later : (r < w) → at starts k < at starts r

@@ -6,17 +6,16 @@ use mathlib.Core.Bool.{Bool, true, false, cond, not}
 use mathlib.Core.List.{List}
 use Prim.Native.Nat.{ℕ, ◌+◌, ◌≤◌, ◌<◌}
 use native.Mathlib.Omega.{arith}
+use Rattle.std.specs.Prelude.{Some, None}
 use native.Mathlib.Decide.{ℕ_discrete, dec_lt}
 use lib.Dec.{eqb, eqb→eq, ltb, ltb→lt}
 use borrow.Author.Tests.{lt-ltb, le-ltb}
 use Rattle.trellis.proofs.Bools.{holds, fails, eqb_of}
 use Rattle.depth_runs.specs.Inner.Rows.{at}
 use Rattle.depth_runs.proofs.Places.{upto_next}
-use Rattle.lacking.specs.Inner.Search.{NoneAt, NoneFrom, NoneBefore, FirstWith, FirstIn}
+use Rattle.lacking.specs.Inner.Search.{NoneAt, NoneFrom, NoneBefore, FirstWith, FirstAt}
 use Rattle.lacking.specs.Inner.Rows.{SearchRows, in_run, to_try, has_ending, refutes_in}
-use Rattle.lacking.specs.Inner.Chains.{Chained, Asked}
-use Rattle.lacking.specs.declared.Witness.TheVariants.{At}
-use Rattle.lacking.proofs.Search.{before_more}
+use Rattle.lacking.specs.Inner.Chains.{Chained, Begun, Asked}
 use Rattle.lacking.proofs.Endings.{Ends, ending_yes, ending_of, run_yes, run_no, refutes_begin, refutes_end, refutes_last}
 
 -- ---- a triple that does not refute
@@ -45,19 +44,16 @@ not_missing starts firsts w i j k e p q =
 
 pub settled : {w : ℕ} {starts firsts next : List ℕ} {i j k l : ℕ} → Asked w starts firsts next i j → k ≡ at firsts i → l ≡ at firsts j
     → in_run starts i (at starts l) k ≡ true
-    → FirstWith (refutes_in starts firsts w) w i j w
-settled {w} {starts} {firsts} {next} {i} {j} {k} {l} A e f r = record {
-  none = λ z p h. none_with starts firsts w i j z (λ g.
-      let E = not_missing starts firsts w k l z (A.before.none k run.0 l (omega (arith, A.j_lt, l_le)) z h) run.1
-      (ap (at firsts) e ∙ A.rows.endings.own i A.i_lt ∙ g) in
-      ending_yes (record {
-        place = E.place;
-        below = E.below;
-        begins = E.begins;
-        ends = E.ends ∙ ap (at firsts) f ∙ A.rows.endings.own j A.j_lt;
-      }));
-  passes = λ h. absurd (omega arith);
-}
+    → FirstWith (refutes_in starts firsts w) w i j None
+settled {w} {starts} {firsts} {next} {i} {j} {k} {l} A e f r = λ z h. none_with starts firsts w i j z (λ g.
+    let E = not_missing starts firsts w k l z (A.before.none k run.0 l (omega (arith, A.j_lt, l_le)) z h) run.1
+    (ap (at firsts) e ∙ A.rows.endings.own i A.i_lt ∙ g) in
+    ending_yes (record {
+      place = E.place;
+      below = E.below;
+      begins = E.begins;
+      ends = E.ends ∙ ap (at firsts) f ∙ A.rows.endings.own j A.j_lt;
+    }))
   where
     run : (k < i) × (at starts k ≡ at starts l)
     run = run_yes starts i (at starts l) k r
@@ -131,17 +127,16 @@ pub record InTries (starts firsts : List ℕ) (w i j : ℕ) : Type 0 where
   pub none : (y : ℕ) → y < j → NoneAt (refutes_in starts firsts w) w i y
 
 -- no word before i's run begins like i
-pub tries_none : {starts firsts : List ℕ} {w i j : ℕ} → SearchRows w starts firsts → NoneBefore (refutes_in starts firsts w) w i → i < w
-    → j ≡ at starts i
+pub tries_none : {starts firsts next : List ℕ} {w i j : ℕ} → Begun w starts firsts next i → j ≡ at starts i
     → InTries starts firsts w i j
-tries_none {starts} {firsts} {w} {i} {j} R B h e =
-    let l = R.runs.le i h in
+tries_none {starts} {firsts} {next} {w} {i} {j} B e =
+    let l = B.rows.runs.le i B.i_lt in
     record {
-      rows = R;
-      i_lt = h;
+      rows = B.rows;
+      i_lt = B.i_lt;
       from = omega arith;
-      before = B;
-      none = λ y p k q. sym (refutes_begin starts firsts w i y k (λ d. omega (arith, R.runs.le y (omega arith))));
+      before = B.before;
+      none = λ y p k q. sym (refutes_begin starts firsts w i y k (λ d. omega (arith, B.i_lt, B.rows.runs.le y (omega (arith, B.i_lt)))));
     }
 
 module _ {starts firsts : List ℕ} {w i j : ℕ} (c : InTries starts firsts w i j) where
@@ -152,24 +147,24 @@ module _ {starts firsts : List ℕ} {w i j : ℕ} (c : InTries starts firsts w i
   tries_asked C e =
       record { rows = c.rows; chains = C; i_lt = c.i_lt; j_lt = tries_lt e; begins = (try_yes c.rows c.i_lt e).1; before = c.before }
 
-  pub tries_more : {k : ℕ} → FirstWith (refutes_in starts firsts w) w i j k → w ≤ k → InTries starts firsts w i (j + 1)
-  tries_more F h = record {
+  pub tries_more : FirstWith (refutes_in starts firsts w) w i j None → InTries starts firsts w i (j + 1)
+  tries_more F = record {
     rows = c.rows;
     i_lt = c.i_lt;
     from = omega (arith, c.from);
     before = c.before;
-    none = upto_next (NoneAt (refutes_in starts firsts w) w i) j c.none (λ z l. F.none z (omega arith) l);
+    none = upto_next (NoneAt (refutes_in starts firsts w) w i) j c.none F;
   }
 
-  pub tries_hit : {k : ℕ} → to_try starts w i j ≡ true → FirstWith (refutes_in starts firsts w) w i j k → k < w
-      → FirstIn (refutes_in starts firsts w) w (At i j k)
-  tries_hit e F h = record {
-    below = (c.i_lt, tries_lt e, h);
-    passes = F.passes h;
+  pub tries_hit : {k : ℕ} → to_try starts w i j ≡ true → FirstWith (refutes_in starts firsts w) w i j (Some k)
+      → FirstAt (refutes_in starts firsts w) w i j k
+  tries_hit e F = record {
+    below = (c.i_lt, tries_lt e, F.below);
+    passes = F.passes;
     first_i = c.before.none;
     first_j = c.none;
-    first_k = λ z l. F.none z l (omega arith);
+    first_k = F.none;
   }
 
-  pub tries_end : to_try starts w i j ≡ false → NoneBefore (refutes_in starts firsts w) w (i + 1)
-  tries_end e = before_more c.before c.i_lt (tried c.rows c.i_lt e c.from c.before c.none)
+  pub tries_end : to_try starts w i j ≡ false → NoneFrom (refutes_in starts firsts w) w i
+  tries_end e = tried c.rows c.i_lt e c.from c.before c.none

@@ -8,17 +8,17 @@ ghost use Rattle.lacking.specs.Inner.Search.{FirstWith};
 ghost use Rattle.lacking.specs.Inner.Rows.{FirstRow, in_run, before_run, refutes_in};
 ghost use Rattle.lacking.specs.Inner.Chains.{Ahead, Chained, Reached, Asked};
 
-use numbers::wide;
 use trellis::MOST_WORDS;
 
 // No word has this index.
 pub const NOTHING: u16 = MOST_WORDS as u16;
 
-// Words i, j and k, or that there are none.
-#[derive(Clone, Copy)]
-pub enum Witness {
-    At(usize, usize, usize),
-    Nothing,
+// The words i, j and k that refute a table.
+#[derive(Clone, Copy, PartialEq, Eq)]
+pub struct Triple {
+    pub i: usize,
+    pub j: usize,
+    pub k: usize,
 }
 
 // For each word the next one with its ending. From the last word on, each is put between the first with its ending and the next after that.
@@ -27,10 +27,8 @@ pub fn put_next(firsts: &[u16; MOST_WORDS], w: usize, next: &mut [u16; MOST_WORD
     ensures { Chained w firsts.now next.new }
 {
     *next = [NOTHING; MOST_WORDS];
-    let mut i = w;
-    while i > 0 {
-        i -= 1;
-        let first = wide(firsts[i]);
+    for i in (0..w).rev() {
+        let first = usize::from(firsts[i]);
         let after = next[first];
         next[first] = i as u16;
         next[i] = after; // as it was, if i is that first word
@@ -59,13 +57,14 @@ fn reach(starts: &[u16; MOST_WORDS], next: &[u16; MOST_WORDS], w: usize, a: u16,
     ensures { (firsts : List ℕ) → Chained w firsts next.now → Reached w starts.now firsts a l result }
 {
     let mut word = l;
+    // Each word of a chain says where the next is, so no range goes over them: `for` would be no plainer.
     while before_run(starts, w, a, word) {
-        word = wide(next[word]);
+        word = usize::from(next[word]);
     }
     word
 }
 
-// The first word with i's ending whose run lacks the ending of j, or w or more if there is none. Where the first words with these endings
+// The first word with i's ending whose run lacks the ending of j, if there is one. Where the first words with these endings
 // are of one run, and before i, there is none: with them it would be a witness that begins before i.
 pub fn first_lacking(
     starts: &[u16; MOST_WORDS],
@@ -74,22 +73,23 @@ pub fn first_lacking(
     w: usize,
     i: usize,
     j: usize,
-) -> usize
+) -> Option<usize>
     requires { Asked w starts.now firsts.now next.now i j }
     ensures { FirstWith (refutes_in starts.now firsts.now w) w i j result }
 {
-    let mut k = wide(firsts[i]);
-    let mut l = wide(firsts[j]);
+    let mut k = usize::from(firsts[i]);
+    let mut l = usize::from(firsts[j]);
     if in_run(starts, i, starts[l], k) {
-        return w;
+        return None;
     }
+    // It goes along the chain, as reach does.
     while k < w {
         let a = starts[k];
         l = reach(starts, next, w, a, l);
         if !in_run(starts, w, a, l) {
-            return k;
+            return Some(k);
         }
-        k = wide(next[k]);
+        k = usize::from(next[k]);
     }
-    k
+    None
 }

@@ -9,7 +9,6 @@ ghost use Rattle.takers.specs.Inner.Pieces.{SmallMap, step_takers, Taken, step_p
 
 pub mod states;
 
-use numbers::wide;
 use pieces::{put_pairs, put_symbols};
 pub use takers::{Edges, take_edges, take_step};
 use trellis::MOST_SYMBOLS;
@@ -34,13 +33,11 @@ pub fn put_all_pairs(
     let mut to = at;
     let mut lo: usize = 0;
     let mut row: usize = 0;
-    let mut t: usize = 0;
-    while t < n {
-        let count = wide(counts[t]);
+    for t in 0..n {
+        let count = usize::from(counts[t]);
         to = put_pairs(words, lo, lo + count, map, row, w, section, to);
         lo += count;
         row += w;
-        t += 1;
     }
     to
 }
@@ -63,12 +60,10 @@ pub fn put_all_symbols(
 {
     let mut to = at;
     let mut lo: usize = 0;
-    let mut t: usize = 0;
-    while t < n {
-        let count = wide(counts[t]);
+    for t in 0..n {
+        let count = usize::from(counts[t]);
         to = put_symbols(words, lo, lo + count, labels, n, t, section, to);
         lo += count;
-        t += 1;
     }
     to
 }

@@ -2,8 +2,9 @@
 -- rows leaves what stands beyond the map as it was, so both ends are the same for the buffer as it was before.
 use mathlib.Core.Path.{◌≡◌, refl, sym, ap, ap₂, subst, ◌∙◌}
 use mathlib.Core.List.{List}
-use Prim.Native.Nat.{ℕ, zero, suc, ◌+◌, ◌*◌}
+use Prim.Native.Nat.{ℕ, suc, ◌+◌, ◌*◌}
 use native.Mathlib.Omega.{arith}
+use Rattle.std.specs.Prelude.{Option, Some, None}
 use native.Mathlib.Nat.{mul_comm, suc-mul}
 use native.Mathlib.Numerals.{add-one}
 use lib.ListN.{length, replicate, length-replicate}
@@ -30,7 +31,7 @@ pub inner_asked : {n : ℕ} {roots labels goals map counts : List ℕ} → Words
 inner_asked {n} {roots} {labels} {goals} {map} {counts} A nine =
     record { held = A.held; room = omega (arith, A.room, suc-mul n (length roots)); nine = nine }
 
-module _ {n r : ℕ} {roots labels goals map0 map1 counts0 counts : List ℕ} (A : WordsHeld n roots labels goals map0)
+module _ {n : ℕ} {r : Option ℕ} {roots labels goals map0 map1 counts0 counts : List ℕ} (A : WordsHeld n roots labels goals map0)
     (D : InnerDone n (words roots labels goals) map0 map1 counts0 counts r) where
   abbrev table : List Word
   table = words roots labels goals
@@ -51,10 +52,10 @@ module _ {n r : ℕ} {roots labels goals map0 map1 counts0 counts : List ℕ} (A
 
   -- ---- all inner depths are rectangular
 
-  pub inside : r ≡ 0 → Inside n roots labels goals map1 counts
+  pub inside : r ≡ None → Inside n roots labels goals map1 counts
   inside e = record { asked = asked; sound = subst (InnerOutcome n table 1 map1 counts) e D.found; nine = D.nine }
 
-  no_witness : r ≡ 0 → witness n table ≡ nothing
+  no_witness : r ≡ None → witness n table ≡ nothing
   no_witness e = (witness_none n table).1 (λ t p q. (inside e).sound.rectangular t p q)
 
   same_written : (q states : ℕ) (section : List ℕ) → written q n states table map1 section ≡ written q n states table map0 section
@@ -63,7 +64,7 @@ module _ {n r : ℕ} {roots labels goals map0 map1 counts0 counts : List ℕ} (A
       let e = same_behind (map_of n table) (map_length_lem n table ∙ ap (λ w. suc n * w) size) in
       rw e
 
-  pub ends_written : (q states : ℕ) (section sizes : List ℕ) {map2 section2 sizes2 : List ℕ} {a : Merged} → r ≡ 0
+  pub ends_written : (q states : ℕ) (section sizes : List ℕ) {map2 section2 sizes2 : List ℕ} {a : Merged} → r ≡ None
       → EndsSized (written q n states table map1 section) (over (section_sizes q n states table) sizes) a map2 section2 sizes2
       → EndsSized (merged q n states table map0 section (witness n table)) (sized_by q n states table sizes (witness n table)) a
       map2 section2 sizes2
@@ -76,27 +77,26 @@ module _ {n r : ℕ} {roots labels goals map0 map1 counts0 counts : List ℕ} (A
 
   -- ---- or one is not
 
-  first_of : (k : ℕ) → (k ≡ 0 → ⊥) → InnerOutcome n table 1 map1 counts k → FirstRefused n table 1 k
-  first_of zero d f = absurd (d refl)
-  first_of (suc k) d f = f
+  first_of : {depth : ℕ} → r ≡ Some depth → FirstRefused n table 1 depth
+  first_of e = subst (InnerOutcome n table 1 map1 counts) e D.found
 
-  pub refused : (r ≡ 0 → ⊥) → RefusedAt n r roots labels goals map1
-  refused d = record { asked = asked; first = first_of r d D.found }
+  pub refused : {depth : ℕ} → r ≡ Some depth → RefusedAt n depth roots labels goals map1
+  refused e = record { asked = asked; first = first_of e }
 
-  pub ends_refused : (q states : ℕ) (section sizes : List ℕ) {map2 : List ℕ} {a : Merged} → (r ≡ 0 → ⊥)
+  pub ends_refused : (q states : ℕ) (section sizes : List ℕ) {map2 : List ℕ} {a : Merged} {depth : ℕ} → r ≡ Some depth
       → (merged_outcome a ≡ refusal_of (witness n table)) × (map2 ≡ cleared (length roots * (n + 1)) map1)
       → EndsSized (merged q n states table map0 section (witness n table)) (sized_by q n states table sizes (witness n table)) a map2 section
       sizes
   unfolding merged sized_by
-  ends_refused q states section sizes {map2} {a} d (p, m) = go (witness n table) refl p
+  ends_refused q states section sizes {map2} {a} {depth} d (p, m) = go (witness n table) refl p
     where
-      F : FirstRefused n (words roots labels goals) 1 r
-      F = first_of r d D.found
+      F : FirstRefused n (words roots labels goals) 1 depth
+      F = first_of d
 
       go : (w : Witness) → witness n (words roots labels goals) ≡ w → merged_outcome a ≡ refusal_of w
           → EndsSized (merged q n states (words roots labels goals) map0 section w)
           (sized_by q n states (words roots labels goals) sizes w) a map2 section sizes
-      go nothing e o = absurd (F.fails ((witness_none n (words roots labels goals)).0 e r F.from F.inner))
+      go nothing e o = absurd (F.fails ((witness_none n (words roots labels goals)).0 e depth F.from F.inner))
       go (found t i j k) e o = record {
         ends = ends_by refl o
             (m ∙ ap (λ w. cleared (w * (n + 1)) map1) (sym size)

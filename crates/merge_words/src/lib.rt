@@ -35,8 +35,7 @@ pub fn merge_words(
         sizes.new }
 {
     let mut counts = [0u16; MOST_SYMBOLS + 1];
-    let depth = inner_depths::merge_inner(roots, labels, goals, n, map, &mut counts);
-    if depth != 0 {
+    if let Some(depth) = inner_depths::merge_inner(roots, labels, goals, n, map, &mut counts) {
         return refuse(n, depth, roots, labels, goals, map);
     }
     finish(

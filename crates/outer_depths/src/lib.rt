@@ -23,10 +23,11 @@ fn put_depth(words: &[u8], map: &mut [u16], place: usize) -> OuterDepth
 {
     let marks = states::mark(words);
     let numbers = states::number(&marks);
-    let ranks = numbers.ranks;
-    let count = numbers.count;
-    states::put_row(words, &ranks, map, place);
-    OuterDepth { marks, count }
+    states::put_row(words, &numbers.ranks, map, place);
+    OuterDepth {
+        marks,
+        count: numbers.count,
+    }
 }
 
 // Both outer depths, and the vertex counts of all depths.

@@ -6,8 +6,6 @@ ghost use Rattle.std.specs.Prelude.{◌+◌, ◌-◌, ◌*◌, ◌<◌, ◌≤�
 ghost use Rattle.trellis.specs.Inner.Write.{Wrote};
 ghost use Rattle.takers.specs.Inner.Pieces.{part, pairs_of, symbols_of, WordsAt};
 
-use numbers::wide;
-
 // The pairs of the words at places lo to hi, written from place `at` on.
 pub fn put_pairs(
     words: &[u16],
@@ -24,13 +22,11 @@ pub fn put_pairs(
         section.new result }
 {
     let mut to = at;
-    let mut k = lo;
-    while k < hi {
-        let i = wide(words[k]);
+    for k in lo..hi {
+        let i = usize::from(words[k]);
         section[to] = map[row + i];
         section[to + 1] = map[row + w + i];
         to += 2;
-        k += 1;
     }
     to
 }
@@ -51,12 +47,10 @@ pub fn put_symbols(
         section.new result }
 {
     let mut to = at;
-    let mut k = lo;
-    while k < hi {
-        let i = wide(words[k]);
+    for k in lo..hi {
+        let i = usize::from(words[k]);
         section[to] = label::symbol(labels[i], n, t);
         to += 1;
-        k += 1;
     }
     to
 }

@@ -5,6 +5,7 @@ use mathlib.Core.Bool.{Bool, true, false}
 use mathlib.Core.List.{List}
 use Prim.Native.Nat.{ℕ, ◌-◌, ◌≤◌, ◌<◌}
 use native.Mathlib.Omega.{arith}
+use Rattle.std.specs.Prelude.{Option, Some, None}
 use native.Mathlib.Decide.{dec_lt}
 use lib.ListN.{length}
 use lib.Dec.{T}
@@ -18,8 +19,7 @@ use Rattle.trellis.proofs.Words.{same_yes, same_self, word_in, rectangular_by}
 use Rattle.trellis.proofs.Witness.{Hit, search_none, search_hit, refutes_of, witness_first, witness_none, none_found}
 use Rattle.depths.specs.Inner.Merge.{FirstRefused}
 use Rattle.lacking.specs.Inner.Search.{as_witness}
-use Rattle.lacking.specs.declared.Witness.{Witness as Found}
-use Rattle.lacking.specs.declared.Witness.TheVariants.{At, Nothing}
+use Rattle.lacking.specs.declared.Triple.{Triple}
 use Rattle.merging.specs.Merging.{refusal_of}
 
 module _ (n : ℕ) (table : List Word) where
@@ -122,9 +122,9 @@ module _ (n : ℕ) (table : List Word) where
 
 -- ---- the refusal that the search gives
 
-module _ {n t : ℕ} {table : List Word} {r : Found} (F : FirstRefused n table 1 t) (e : as_witness t r ≡ witness_at n table t) where
-  pub refusal_at : {i j k : ℕ} → r ≡ At i j k → not_rectangular t i j k ≡ refusal_of (witness n table)
-  refusal_at {i} {j} {k} q = sym (ap refusal_of (first_depth n table t F i j k (sym e ∙ ap (as_witness t) q)))
+module _ {n t : ℕ} {table : List Word} {r : Option Triple} (F : FirstRefused n table 1 t) (e : as_witness t r ≡ witness_at n table t) where
+  pub refusal_at : {x : Triple} → r ≡ Some x → not_rectangular t x.i x.j x.k ≡ refusal_of (witness n table)
+  refusal_at {x} q = sym (ap refusal_of (first_depth n table t F x.i x.j x.k (sym e ∙ ap (as_witness t) q)))
 
-  pub refusal_none : {o : Outcome} → r ≡ Nothing → o ≡ refusal_of (witness n table)
+  pub refusal_none : {o : Outcome} → r ≡ None → o ≡ refusal_of (witness n table)
   refusal_none q = absurd (some_witness n table t F (sym e ∙ ap (as_witness t) q))

@@ -10,18 +10,7 @@ ghost use Rattle.merging.specs.Merging.{refusal_of};
 ghost use Rattle.refusing.specs.Inner.Refused.{cleared, RefusedAt};
 
 use answers::merge::{MergeRefusal, Merged};
-
-// The first `count` places of the map become 0.
-fn clear(map: &mut [u16], count: usize)
-    requires { count ≤ length map.old }
-    ensures { map.new ≡ cleared count map.old }
-{
-    let mut i: usize = 0;
-    while i < count {
-        map[i] = 0;
-        i += 1;
-    }
-}
+use witness::Triple;
 
 // Refusal 6 at the first inner depth that is not rectangular: its witness, and a map of zeros.
 pub fn refuse(
@@ -37,10 +26,10 @@ pub fn refuse(
         × (map.new
         ≡ cleared (length roots.now * (n + 1)) map.old) }
 {
-    clear(map, roots.len() * (n + 1));
+    map[..roots.len() * (n + 1)].fill(0);
     match witness::find_witness(roots, labels, goals, n, t) {
-        lacking::Witness::At(i, j, k) => Err(MergeRefusal::NotRectangular(t, i, j, k)),
+        Some(Triple { i, j, k }) => Err(MergeRefusal::NotRectangular(t, i, j, k)),
         // A depth that is not rectangular has a witness.
-        lacking::Witness::Nothing => Err(MergeRefusal::NotRectangular(t, 0, 0, 0)),
+        None => Err(MergeRefusal::NotRectangular(t, 0, 0, 0)),
     }
 }

@@ -13,7 +13,6 @@ use lib.ListN.{length}
 use lib.Dec.{T, leb, eqb}
 use borrow.Author.Tests.{eqb-true, eqb-false, leb-true, leb-false}
 use Rattle.trellis.specs.Lists.{◌∈◌, Lower, by_first, by_second, by_third, run, each, is_in, ascending}
-use Rattle.trellis.specs.Label.{symbol}
 use Rattle.trellis.specs.Word.{Word, word_at, Table, Rectangular}
 use Rattle.trellis.specs.Own.{Edge, edge_less, edge_of, edges_at}
 use Rattle.trellis.proofs.Bools.{holds, fails}

@@ -2,13 +2,12 @@
 
 #![tactic(auto)]
 
-ghost use Rattle.std.specs.Prelude.{◌≡◌, cond, [], ◌∷◌, ◌+◌, ◌-◌, ◌*◌, ◌<◌, ◌≤◌, length, leb};
+ghost use Rattle.std.specs.Prelude.{◌≡◌, cond, [], ◌∷◌, ◌+◌, ◌-◌, ◌*◌, ◌<◌, ◌≤◌, length};
 ghost use Rattle.trellis.specs.Bounds.{most_words};
 ghost use Rattle.trellis.specs.Inner.Write.{Wrote};
 ghost use Rattle.takers.specs.Inner.Pieces.{SmallMap, AllTaken};
 ghost use Rattle.takers.specs.Inner.Takers.{row_edge, raised, takers, SmallRows, ArcOf};
 
-use numbers::wide;
 use trellis::{MOST_Q, MOST_SYMBOLS, MOST_WORDS};
 
 // What the scan needs of an edge: its vertex and symbol as one number, and where it leads.
@@ -24,8 +23,8 @@ fn arc_at(labels: &[u16], n: usize, t: usize, map: &[u16], row: usize, i: usize)
     ensures { ArcOf (row_edge map.now labels.now n t row i) result.key result.to }
 {
     let w = labels.len();
-    let from = wide(map[row + i]);
-    let symbol = wide(label::symbol(labels[i], n, t));
+    let from = usize::from(map[row + i]);
+    let symbol = usize::from(label::symbol(labels[i], n, t));
     let to = map[row + w + i];
     Arc {
         key: from * 4 + symbol,
@@ -39,13 +38,6 @@ fn higher(high: u16, to: u16) -> u16
     ensures { result ≡ raised high to }
 {
     if high <= to { to + 1 } else { high }
-}
-
-// Whether `to` is as high.
-fn as_high(high: u16, to: u16) -> bool
-    ensures { result ≡ leb high to }
-{
-    high <= to
 }
 
 // Writes v at place `at` if it is wanted; gives the place behind it.
@@ -76,15 +68,13 @@ pub fn take_step(
 {
     let mut high = [0u16; MOST_Q * MOST_WORDS];
     let mut to = at;
-    let mut i: usize = 0;
-    while i < labels.len() {
+    for i in 0..labels.len() {
         let arc = arc_at(labels, n, t, map, row, i);
         let key = arc.key;
         let next = arc.to;
         let before = high[key];
         high[key] = higher(before, next);
-        to = note(out, to, i as u16, as_high(before, next));
-        i += 1;
+        to = note(out, to, i as u16, before <= next);
     }
     to
 }
@@ -104,13 +94,11 @@ pub fn take_edges(labels: &[u16], n: usize, map: &[u16], out: &mut [u16]) -> Edg
     let mut counts = [0u16; MOST_SYMBOLS];
     let mut at: usize = 0;
     let mut row: usize = 0;
-    let mut t: usize = 0;
-    while t < n {
+    for t in 0..n {
         let end = take_step(labels, n, t, map, row, out, at);
         counts[t] = (end - at) as u16;
         at = end;
         row += labels.len();
-        t += 1;
     }
     Edges { total: at, counts }
 }

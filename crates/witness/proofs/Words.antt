@@ -6,6 +6,7 @@ use mathlib.Core.Logic.{◌↔◌}
 use mathlib.Core.List.{List}
 use Prim.Native.Nat.{ℕ, suc, ◌-◌, ◌≤◌, ◌<◌}
 use native.Mathlib.Omega.{arith}
+use Rattle.std.specs.Prelude.{Option}
 use lib.ListN.{length}
 use Rattle.trellis.specs.Lists.{is_in}
 use Rattle.trellis.specs.Word.{Word, word_at, same_word, Table, joined}
@@ -26,7 +27,7 @@ use Rattle.depths.proofs.Starts.{starts_are}
 use Rattle.depths.proofs.Firsts.{row_small, firsts_are, ends_now}
 use Rattle.lacking.specs.Inner.Search.{as_witness, FirstIn}
 use Rattle.lacking.specs.Inner.Rows.{InnerDepth, FirstRow, SearchRows, has_ending, refutes_in}
-use Rattle.lacking.specs.declared.Witness.{Witness}
+use Rattle.lacking.specs.declared.Triple.{Triple}
 use Rattle.lacking.proofs.Search.{first_cong, first_is}
 use Rattle.lacking.proofs.Endings.{ending_yes, ending_of}
 
@@ -137,7 +138,7 @@ module _ {n t : ℕ} {roots labels goals starts : List ℕ} (Q : InnerDepth n t 
     })
 
     -- the first triple that refutes, by the rows, is the witness of the definition
-    pub rows_witness : (r : Witness) → FirstIn (refutes_in starts row (length roots)) (length roots) r → as_witness t r ≡ witness_at n table t
+    pub rows_witness : (r : Option Triple) → FirstIn (refutes_in starts row (length roots)) (length roots) r → as_witness t r ≡ witness_at n table t
     rows_witness r F =
         let e : u ≡ t = omega (arith, c.from) in
         let D = subst (λ k. EndingRow n table k row) e c.ends in

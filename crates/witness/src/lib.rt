@@ -7,12 +7,12 @@ ghost use Rattle.std.specs.Prelude.{◌≡◌, ◌<◌, ◌≤◌};
 ghost use Rattle.trellis.specs.Bounds.{most_words};
 ghost use Rattle.trellis.specs.Witness.{witness_at};
 ghost use Rattle.depths.specs.Inner.Words.{words};
-ghost use Rattle.lacking.specs.Inner.Search.{as_witness, FirstIn};
+ghost use Rattle.lacking.specs.Inner.Search.{as_witness, FirstFrom, FirstIn};
 ghost use Rattle.lacking.specs.Inner.Rows.{InnerDepth, SearchRows, to_try, refutes_in};
+ghost use Rattle.lacking.specs.Inner.Chains.{Begun};
 
-pub use lacking::Witness;
+pub use lacking::Triple;
 use lacking::{NOTHING, first_lacking, in_run, put_next};
-use numbers::wide;
 use trellis::MOST_WORDS;
 
 // Whether j is to be tried with i: it is of i's run, and one of them is the run's first word. If that word begins no witness, another word
@@ -22,40 +22,59 @@ fn to_try(starts: &[u16; MOST_WORDS], w: usize, i: usize, j: usize) -> bool
     ensures { result ≡ to_try starts.now w i j }
 {
     let start = starts[i];
-    let a = wide(start);
+    let a = usize::from(start);
     if a < i {
         return j == a;
     }
     in_run(starts, w, start, j)
 }
 
+// The first j, then k that refute the table with i. `next` is what lacking::put_next left.
+fn first_from(
+    starts: &[u16; MOST_WORDS],
+    firsts: &[u16; MOST_WORDS],
+    next: &[u16; MOST_WORDS],
+    w: usize,
+    i: usize,
+) -> Option<Triple>
+    requires { Begun w starts.now firsts.now next.now i }
+    ensures { FirstFrom (refutes_in starts.now firsts.now w) w i result }
+{
+    let mut j = usize::from(starts[i]);
+    // Which words are tried is known by a test alone, and not by a range: `for` would be no plainer.
+    while to_try(starts, w, i, j) {
+        if let Some(k) = first_lacking(starts, firsts, next, w, i, j) {
+            return Some(Triple { i, j, k });
+        }
+        j += 1;
+    }
+    None
+}
+
 // The first i, then j, then k that refute the table. All words with an ending are gone along only for its first word: so the search takes a
 // few steps for each word, whatever the table is.
-fn first_witness(starts: &[u16; MOST_WORDS], firsts: &[u16; MOST_WORDS], w: usize) -> Witness
+fn first_witness(starts: &[u16; MOST_WORDS], firsts: &[u16; MOST_WORDS], w: usize) -> Option<Triple>
     requires { SearchRows w starts.now firsts.now }
     ensures { FirstIn (refutes_in starts.now firsts.now w) w result }
 {
     let mut next = [NOTHING; MOST_WORDS];
     put_next(firsts, w, &mut next);
-    let mut i: usize = 0;
-    'search: loop {
-        if i >= w {
-            break Witness::Nothing;
+    for i in 0..w {
+        if let Some(words) = first_from(starts, firsts, &next, w, i) {
+            return Some(words);
         }
-        let mut j = wide(starts[i]);
-        while to_try(starts, w, i, j) {
-            let k = first_lacking(starts, firsts, &next, w, i, j);
-            if k < w {
-                break 'search Witness::At(i, j, k);
-            }
-            j += 1;
-        }
-        i += 1;
     }
+    None
 }
 
 // The first words i, j, k that refute the table at the inner depth t.
-pub fn find_witness(roots: &[u8], labels: &[u16], goals: &[u8], n: usize, t: usize) -> Witness
+pub fn find_witness(
+    roots: &[u8],
+    labels: &[u16],
+    goals: &[u8],
+    n: usize,
+    t: usize,
+) -> Option<Triple>
     requires { InnerDepth n t roots.now labels.now goals.now }
     ensures { as_witness t result ≡ witness_at n (words roots.now labels.now goals.now) t }
 {
@@ -63,9 +82,7 @@ pub fn find_witness(roots: &[u8], labels: &[u16], goals: &[u8], n: usize, t: usi
     depths::put_starts(roots, labels, n, t, &mut starts);
     let mut row = [0u16; MOST_WORDS];
     depths::put_goals(goals, &mut row);
-    let mut u = n;
-    while u > t {
-        u -= 1;
+    for u in (t..n).rev() {
         depths::put_firsts(labels, n, u, &mut row);
     }
     first_witness(&starts, &row, roots.len())

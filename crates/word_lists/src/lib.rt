@@ -7,7 +7,6 @@ ghost use Rattle.std.specs.Prelude.{◌+◌, ◌<◌, ◌≤◌};
 ghost use Rattle.trellis.specs.Bounds.{most_words};
 ghost use Rattle.word_lists.specs.Inner.Lists.{Copied};
 
-use numbers::wide;
 use trellis::MOST_WORDS;
 
 // The words of a file, in front of three arrays.
@@ -25,14 +24,12 @@ pub fn copy_words(file: &[u8], count: u16) -> Lists
     let mut roots = [0u8; MOST_WORDS];
     let mut labels = [0u16; MOST_WORDS];
     let mut goals = [0u8; MOST_WORDS];
-    let mut i: u16 = 0;
-    while i < count {
-        let at = wide(i);
+    for i in 0..count {
+        let at = usize::from(i);
         let word = reader::word_through(file, i);
         roots[at] = word.root;
         labels[at] = word.label;
         goals[at] = word.goal;
-        i += 1;
     }
     Lists {
         roots,

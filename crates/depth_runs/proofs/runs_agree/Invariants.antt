@@ -1,10 +1,6 @@
 -- `depth_runs::runs_agree` meets its contract. The loop keeps that all words before i agree.
-use Prim.Native.Nat.{◌-◌}
 use Rattle.depth_runs.proofs.Agreement.{InAgreement}
 use Rattle.depth_runs.proofs.runs_agree.Given as goal
 
 abbrev pub invariant-loop-i : goal.invariant-loop-i
 invariant-loop-i l = InAgreement l.w l.starts l.firsts l.i
-
-abbrev pub decreases-loop-i : goal.decreases-loop-i
-decreases-loop-i l = l.w - l.i

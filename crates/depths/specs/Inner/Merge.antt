@@ -1,14 +1,12 @@
 -- What merging the inner depths of a table asks and leaves: the smallest depth at which the table is not rectangular, or the vertices of
 -- every inner depth.
-use Rattle.std.specs.Prelude.{◌≡◌, List, ℕ, zero, suc, ◌+◌, ◌*◌, ◌≤◌, ◌<◌, length}
+use Rattle.std.specs.Prelude.{◌≡◌, Option, Some, None, List, ℕ, suc, ◌+◌, ◌*◌, ◌≤◌, ◌<◌, length}
 use Rattle.trellis.specs.Word.{Word, RectangularAt}
 use Rattle.trellis.specs.Own.{vertex_of, vertex_count}
 use Rattle.runs.specs.Inner.Runs.{Tells}
 use Rattle.runs.specs.Inner.Cuts.{ending_at}
 use Rattle.depth_runs.specs.Inner.Rows.{at, RowAt, Small}
 use Rattle.depths.specs.Inner.Words.{words, Held}
-use Rattle.depths.specs.declared.Depth.{Depth}
-use Rattle.depths.specs.declared.Depth.TheVariants.{Merged, Refused}
 
 -- ---- one depth
 
@@ -34,24 +32,16 @@ pub record DepthRefused (n : ℕ) (table : List Word) (t : ℕ) (old new : List 
   pub fails : RectangularAt n t table → ⊥
   pub kept : new ≡ old
 
-abbrev pub DepthOutcome : ℕ → List Word → ℕ → List ℕ → List ℕ → Depth → Type 0
-DepthOutcome n table t old new (Merged count) = DepthMerged n table t old new count
-DepthOutcome n table t old new Refused = DepthRefused n table t old new
+abbrev pub DepthOutcome : ℕ → List Word → ℕ → List ℕ → List ℕ → Option ℕ → Type 0
+DepthOutcome n table t old new (Some count) = DepthMerged n table t old new count
+DepthOutcome n table t old new None = DepthRefused n table t old new
 
 -- the row now tells the endings at depth t apart
-pub record DepthDone (n t : ℕ) (table : List Word) (row old new : List ℕ) (r : Depth) : Type 0 where
+pub record DepthDone (n t : ℕ) (table : List Word) (row old new : List ℕ) (r : Option ℕ) : Type 0 where
   pub ends : EndingRow n table t row
   pub outcome : DepthOutcome n table t old new r
 
 -- ---- all inner depths
-
-abbrev pub lowest_of : Depth → ℕ → ℕ → ℕ
-lowest_of (Merged count) t deeper = deeper
-lowest_of Refused t deeper = t
-
-abbrev pub count_of : Depth → ℕ
-count_of (Merged count) = count
-count_of Refused = 0
 
 -- the map has room for a row for each depth below n
 pub record Inner (n : ℕ) (roots labels goals map counts : List ℕ) : Type 0 where
@@ -72,13 +62,13 @@ pub record FirstRefused (n : ℕ) (table : List Word) (t u : ℕ) : Type 0 where
   pub fails : RectangularAt n u table → ⊥
   pub sooner : (v : ℕ) → t ≤ v → v < u → RectangularAt n v table
 
--- 0, or the smallest depth
-abbrev pub InnerOutcome : ℕ → List Word → ℕ → List ℕ → List ℕ → ℕ → Type 0
-InnerOutcome n table t map counts zero = InnerMerged n table t map counts
-InnerOutcome n table t map counts (suc u) = FirstRefused n table t (suc u)
+-- none, or the smallest depth
+abbrev pub InnerOutcome : ℕ → List Word → ℕ → List ℕ → List ℕ → Option ℕ → Type 0
+InnerOutcome n table t map counts None = InnerMerged n table t map counts
+InnerOutcome n table t map counts (Some u) = FirstRefused n table t u
 
 -- only the rows of inner depths were written, in the map and in the counts
-pub record InnerDone (n : ℕ) (table : List Word) (old_map map old_counts counts : List ℕ) (r : ℕ) : Type 0 where
+pub record InnerDone (n : ℕ) (table : List Word) (old_map map old_counts counts : List ℕ) (r : Option ℕ) : Type 0 where
   pub found : InnerOutcome n table 1 map counts r
   pub before : (j : ℕ) → j < length table → at map j ≡ at old_map j
   pub behind : (j : ℕ) → n * length table ≤ j → at map j ≡ at old_map j

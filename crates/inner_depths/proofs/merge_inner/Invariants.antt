@@ -6,6 +6,3 @@ use Rattle.inner_depths.proofs.merge_inner.Given as goal
 
 abbrev pub invariant-loop-t : goal.invariant-loop-t
 invariant-loop-t l = InDepths l.n (words l.roots l.labels l.goals) l.initial.map l.map l.initial.counts l.counts l.row l.t l.refused
-
-abbrev pub decreases-loop-t : goal.decreases-loop-t
-decreases-loop-t l = l.t

@@ -1,39 +1,14 @@
 -- `lacking::first_lacking` meets its contract. It leaves at once where an earlier word settles it; else the loop keeps that the runs of the
 -- words before k with i's ending have j's ending, and that the words before l with j's ending are in runs before that of k.
 use mathlib.Core.Path.{refl, sym, ◌∙◌}
-use native.Mathlib.Omega.{arith}
 use Rattle.lacking.proofs.Passing.{settled}
-use Rattle.lacking.proofs.Chains.{ahead}
-use Rattle.lacking.proofs.Lacking.{lacking_none, lacking_more, lacking_hit, lacking_end}
+use Rattle.lacking.proofs.Lacking.{lacking_more, lacking_hit, lacking_end}
 use Rattle.lacking.proofs.first_lacking.Goals as goal
-
-pub offset_bounds-starts-l : goal.offset_bounds-starts-l
-offset_bounds-starts-l c =
-    let asked = c.requires in
-    omega (arith, c.wide-l.ensures.0, asked.rows.few, asked.j_lt, asked.rows.endings.le _ asked.j_lt)
-
-pub bounds-starts-l : goal.bounds-starts-l
-bounds-starts-l c =
-    let asked = c.requires in
-    omega (arith, c.wide-l.ensures.0, asked.rows.few, asked.j_lt, asked.rows.endings.le _ asked.j_lt)
-
-pub in_run-requires : goal.in_run-requires
-in_run-requires c =
-    let asked = c.requires in
-    omega (arith, asked.rows.few, asked.i_lt)
 
 pub returns-then-in_run : goal.returns-then-in_run
 returns-then-in_run c =
-    settled c.requires c.wide-k.ensures.0 c.wide-l.ensures.0
+    settled c.requires c.from-k.ensures c.from-l.ensures
     (sym c.in_run.ensures ∙ c.if-in_run.true)
-
-pub loop-k-init : goal.loop-k-init
-loop-k-init c = lacking_none c.requires c.wide-k.ensures.0 c.wide-l.ensures.0
-
-pub reach-l-requires : goal.reach-l-requires
-reach-l-requires c =
-    let asked = c.loop-k.invariant.asked in
-    (asked.rows.few, ahead asked.chains)
 
 pub returns-then-not-in_run : goal.returns-then-not-in_run
 returns-then-not-in_run c =
@@ -41,14 +16,11 @@ returns-then-not-in_run c =
     lacking_hit inv c.loop-k-test.true refl (c.reach-l.ensures _ inv.asked.chains)
     (sym c.in_run-in-loop-k.ensures ∙ c.if-not-in_run.true)
 
-pub loop-k-smaller : goal.loop-k-smaller
-loop-k-smaller c = omega (arith, c.wide-k-in-loop-k.ensures.0, ahead c.loop-k.invariant.asked.chains _ c.loop-k-test.true, c.loop-k-test.true)
-
 pub loop-k-preserved : goal.loop-k-preserved
 loop-k-preserved c =
     let inv = c.loop-k.invariant in
     lacking_more inv c.loop-k-test.true refl (c.reach-l.ensures _ inv.asked.chains)
-    (sym c.in_run-in-loop-k.ensures ∙ c.if-not-in_run.false) c.wide-k-in-loop-k.ensures.0
+    (sym c.in_run-in-loop-k.ensures ∙ c.if-not-in_run.false) c.from-k-in-loop-k.ensures
 
 pub returns : goal.returns
 returns c = lacking_end c.loop-k.invariant c.loop-k-test.false

@@ -28,6 +28,13 @@ pub record Reached (w : ℕ) (starts firsts : List ℕ) (a l r : ℕ) : Type 0 w
   pub passed : Passed w starts firsts a l r
   pub there : r < w → a ≤ at starts r
 
+-- no witness begins before i
+pub record Begun (w : ℕ) (starts firsts next : List ℕ) (i : ℕ) : Type 0 where
+  pub rows : SearchRows w starts firsts
+  pub chains : Chained w firsts next
+  pub i_lt : i < w
+  pub before : NoneBefore (refutes_in starts firsts w) w i
+
 -- i and j begin alike, and no witness begins before i
 pub record Asked (w : ℕ) (starts firsts next : List ℕ) (i j : ℕ) : Type 0 where
   pub rows : SearchRows w starts firsts

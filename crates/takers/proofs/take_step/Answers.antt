@@ -2,7 +2,7 @@
 -- more than the highest vertex.
 use mathlib.Core.Path.{refl}
 use borrow.Author.Rules.{rules}
-use Rattle.takers.proofs.Scanning.{takers_none, takers_more, takers_end}
+use Rattle.takers.proofs.Scanning.{takers_none, takers_more}
 use Rattle.takers.proofs.take_step.Goals as goal
 
 pub loop-i-init : goal.loop-i-init
@@ -11,7 +11,4 @@ loop-i-init c = takers_none _ _ _ _
 pub loop-i-preserved : goal.loop-i-preserved
 loop-i-preserved c =
     takers_more c.loop-i.invariant c.arc_at-arc.ensures refl c.higher.ensures
-    c.as_high.ensures c.note-to.ensures (search rules)
-
-pub returns : goal.returns
-returns c = takers_end c.loop-i.invariant (search rules)
+    refl c.note-to.ensures (search rules)

@@ -5,6 +5,3 @@ use Rattle.witness.proofs.find_witness.Given as goal
 
 abbrev pub invariant-loop-u : goal.invariant-loop-u
 invariant-loop-u l = InRows l.n l.t l.roots l.labels l.goals l.row l.u
-
-abbrev pub decreases-loop-u : goal.decreases-loop-u
-decreases-loop-u l = l.u

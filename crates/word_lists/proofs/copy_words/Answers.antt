@@ -11,7 +11,7 @@ loop-i-init c = copy_none _ _ (search rules)
 pub loop-i-preserved : goal.loop-i-preserved
 loop-i-preserved c =
     let e = c.word_through-word.ensures in
-    copy_more c.loop-i.invariant c.wide-at.ensures.0
+    copy_more c.loop-i.invariant c.from-at.ensures
     (ap (λ (w : Word). w.root) e) (ap (λ (w : Word). w.label) e) (ap (λ (w : Word). w.goal) e) (search rules)
 
 pub returns : goal.returns

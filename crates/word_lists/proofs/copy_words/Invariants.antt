@@ -1,10 +1,6 @@
 -- `word_lists::copy_words` copies one word after another: the loop keeps those that are copied so far.
-use Prim.Native.Nat.{◌-◌}
 use Rattle.word_lists.proofs.Copying.{InCopy}
 use Rattle.word_lists.proofs.copy_words.Given as goal
 
 abbrev pub invariant-loop-i : goal.invariant-loop-i
 invariant-loop-i l = InCopy l.file l.count l.roots l.labels l.goals l.i
-
-abbrev pub decreases-loop-i : goal.decreases-loop-i
-decreases-loop-i l = l.count - l.i
