@@ -1,13 +1,15 @@
--- The derived order of the code's edges is the theory's, so the test of an edge against the edge before it is the definition's.
+-- The derived order of the code's edges is the theory's, so the test of an edge against the edge before it is the definition's;
+-- and an edge that is read is within bounds.
 use mathlib.Core.Path.{◌≡◌, refl, ◌∙◌}
 use mathlib.Core.Bool.{Bool, true, false, ◌&&◌}
 use mathlib.Core.List.{List}
-use Prim.Native.Nat.{ℕ, zero, suc, ◌-◌}
+use Prim.Native.Nat.{ℕ, zero, suc, ◌-◌, ◌<◌}
 use native.Mathlib.Omega.{arith}
 use lib.Dec.{ltb, eqb}
+use Rattle.trellis.specs.Bounds.{most_words, most_q}
 use Rattle.trellis.specs.Lists.{lower}
 use Rattle.trellis.specs.Own as own
-use Rattle.edges.specs.Inner.Edges.{above, edge_in, held_edge, meant_edge}
+use Rattle.edges.specs.Inner.Edges.{above, edge_in, held_edge, meant_edge, EdgesSmall}
 use Rattle.edges.specs.declared.Edge.{Edge}
 use Rattle.edges.specs.contracts.EdgePartialOrd.TheImpl.{partial_cmp-value}
 use Rattle.std.proofs.Common.{Less, Equal, Greater}
@@ -42,3 +44,13 @@ module _ (pairs symbols : List ℕ) where
   unfolding above
   next_above zero h d g i = absurd (h refl)
   next_above (suc k) {e} {f} h d g i = let q : suc k - 1 ≡ k = omega arith in i ∙ less_is e f ∙ rw (d, g, q)
+
+-- an edge that is read is within the bounds that all are in
+pub record EdgeSmall (e : Edge) : Type 0 where
+  pub from_in : e.from < most_words
+  pub symbol_in : e.symbol < most_q
+  pub to_in : e.to < most_words
+
+pub edge_small : {pairs symbols : List ℕ} {count k : ℕ} {e : Edge} → EdgesSmall pairs symbols count → k < count
+    → e ≡ held_edge (edge_in pairs symbols k) → EdgeSmall e
+edge_small {k = k} s h d = rw d (record { from_in = s.from_small k h; symbol_in = s.symbol_small k h; to_in = s.to_small k h })

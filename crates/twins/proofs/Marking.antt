@@ -17,6 +17,7 @@ use Rattle.trellis.specs.Bounds.{most_q, most_words}
 use Rattle.trellis.specs.Lists.{one_if, all, any}
 use Rattle.trellis.proofs.Bools.{clash}
 use Rattle.edges.specs.declared.Edge.{Edge}
+use Rattle.edges.proofs.Reading.{EdgeSmall}
 use Rattle.edges.specs.Inner.Edges.{EdgesSmall, held_edge}
 use Rattle.edges.proofs.Tests.{all_of, all_same, all_fails, Passed, passed_start, passed_by, passed_all}
 use Rattle.twins.specs.Inner.Twins.{covered, apart, no_twins, turned_in, Marks}
@@ -107,16 +108,10 @@ pub slot_small : {one symbol other : ℕ → ℕ} {count k slot : ℕ} → Small
     → slot < most_q * most_words
 slot_small {k = k} s h e = omega (arith, s.ones k h, s.symbols k h)
 
--- an edge that the code reads, and the place that it has in the array of what was seen
-pub record SmallEdge (e : Edge) : Type 0 where
-  pub slot_in : most_q * e.from + e.symbol < most_q * most_words
-  pub to_in : e.to < most_words
-
+-- the same of an edge that is read
 pub edge_small : {pairs symbols : List ℕ} {count k : ℕ} {e : Edge} (back : Bool) → EdgesSmall pairs symbols count → k < count
-    → e ≡ held_edge (turned_in back pairs symbols k) → SmallEdge e
-edge_small {k = k} back s h d =
-    let t = small_of back s in
-    rw d (record { slot_in = slot_small t h refl; to_in = t.others k h })
+    → e ≡ held_edge (turned_in back pairs symbols k) → EdgeSmall e
+edge_small {k = k} back s h d = let t = small_of back s in rw d (record { from_in = t.ones k h; symbol_in = t.symbols k h; to_in = t.others k h })
 
 module _ (one symbol other : ℕ → ℕ) where
   pub apart_of : (j k : ℕ) → (one j ≡ one k → symbol j ≡ symbol k → other j ≡ other k) → apart one symbol other j k ≡ true

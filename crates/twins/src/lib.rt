@@ -30,6 +30,7 @@ pub fn edge_met(pairs: &[u16], symbols: &[u16], k: usize, back: bool) -> Edge
 }
 
 // A mark for each vertex that an edge starts from.
+#[tactic(auto, using(crate::proofs::Marking::edge_small))]
 pub fn marks(pairs: &[u16], symbols: &[u16], count: usize, back: bool) -> [u8; MOST_WORDS]
     requires { EdgesSmall pairs.now symbols.now count }
     ensures { Marks (λ k. (turned_in back pairs.now symbols.now k).from) count result }
@@ -64,6 +65,7 @@ fn differs(seen: u16, vertex: usize) -> bool
 // Whether edges that share a symbol and the vertex that they start from share the vertex where they end. The array has a place for each
 // vertex and symbol, with the vertex that was seen at the other end.
 #[inline(never)]
+#[tactic(auto, using(crate::proofs::Marking::edge_small))]
 fn without_twins(pairs: &[u16], symbols: &[u16], count: usize, back: bool) -> bool
     requires { EdgesSmall pairs.now symbols.now count }
     ensures { result ≡ no_twins_of (turned_in back pairs.now symbols.now) count }

@@ -1,61 +1,21 @@
 -- `twins::without_twins` meets its contract. The loop's invariant: no two edges passed make twins, and for each vertex and
 -- symbol that they have the array has their one vertex at the other end.
 use mathlib.Core.Path.{refl, ap}
-use native.Mathlib.Omega.{arith}
 use Prim.Native.Nat.{◌+◌, ◌*◌}
 use Rattle.trellis.specs.Bounds.{most_q}
 use Rattle.edges.specs.declared.Edge.{Edge}
-use Rattle.twins.proofs.Marking.{small_of, edge_small, apart_start, twins_found, twins_not, twins_none}
+use Rattle.twins.proofs.Marking.{small_of, apart_start, twins_found, twins_not, twins_none}
 use borrow.Author.Rules.{rules}
 use Rattle.twins.proofs.without_twins.Goals as goal
 
 pub loop-k-init : goal.loop-k-init
 loop-k-init c = apart_start refl
 
-pub overflow_mul-slot : goal.overflow_mul-slot
-overflow_mul-slot c =
-    let small = edge_small c.args.back c.requires c.loop-k-test.true c.edge_met-e.ensures in
-    record { fits = omega arith }
-
-pub overflow_add-slot : goal.overflow_add-slot
-overflow_add-slot c =
-    let small = edge_small c.args.back c.requires c.loop-k-test.true c.edge_met-e.ensures in
-    record { fits = omega arith }
-
-pub offset_bounds-seen-slot : goal.offset_bounds-seen-slot
-offset_bounds-seen-slot c =
-    let small = edge_small c.args.back c.requires c.loop-k-test.true c.edge_met-e.ensures in
-    record { fits = omega arith }
-
-pub bounds-seen-slot : goal.bounds-seen-slot
-bounds-seen-slot c = (edge_small c.args.back c.requires c.loop-k-test.true c.edge_met-e.ensures).slot_in
-
-pub differs-requires : goal.differs-requires
-differs-requires c = (edge_small c.args.back c.requires c.loop-k-test.true c.edge_met-e.ensures).to_in
-
 pub returns-then-differs : goal.returns-then-differs
 returns-then-differs c =
     twins_found (small_of c.args.back c.requires) c.loop-k.invariant c.loop-k-test.true
     (ap (λ (e : Edge). most_q * e.from + e.symbol) c.edge_met-e.ensures) (ap (λ (e : Edge). e.to) c.edge_met-e.ensures)
     c.differs.ensures c.if-differs.true
-
-pub overflow_add-seen : goal.overflow_add-seen
-overflow_add-seen c =
-    let small = edge_small c.args.back c.requires c.loop-k-test.true c.edge_met-e.ensures in
-    record { fits = omega arith }
-
-pub overflow_cast-seen : goal.overflow_cast-seen
-overflow_cast-seen c =
-    let small = edge_small c.args.back c.requires c.loop-k-test.true c.edge_met-e.ensures in
-    record { fits = omega arith }
-
-pub offset_bounds-seen-slot-in-loop-k : goal.offset_bounds-seen-slot-in-loop-k
-offset_bounds-seen-slot-in-loop-k c =
-    let small = edge_small c.args.back c.requires c.loop-k-test.true c.edge_met-e.ensures in
-    record { fits = omega arith }
-
-pub bounds-seen-slot-in-loop-k : goal.bounds-seen-slot-in-loop-k
-bounds-seen-slot-in-loop-k c = (edge_small c.args.back c.requires c.loop-k-test.true c.edge_met-e.ensures).slot_in
 
 pub loop-k-preserved : goal.loop-k-preserved
 loop-k-preserved c =
