@@ -10,12 +10,6 @@ ghost use Rattle.codes.specs.Inner.Codes.{code_root, code_vertex, code_label, fu
 use edges::Edge;
 use packed::append;
 
-pub fn wider(x: u16) -> u32
-    ensures { (result ≡ x) × (result < 65536) }
-{
-    x as u32
-}
-
 pub fn root_of(c: u32) -> usize
     ensures { result ≡ code_root c }
 {
@@ -39,6 +33,6 @@ pub fn further(c: u32, e: Edge) -> u32
     requires { (e.symbol < most_q) × (e.to < most_words) }
     ensures { result ≡ further_code c (meant_edge e) }
 {
-    let label = wider(append(label_of(c), e.symbol as u16));
-    (c / 67108864 * 1024 + (e.to as u32)) * 65536 + label
+    let label = append(label_of(c), e.symbol as u16);
+    (c / 67108864 * 1024 + (e.to as u32)) * 65536 + u32::from(label)
 }

@@ -4,14 +4,11 @@
 #![tactic(auto)]
 
 ghost use Rattle.std.specs.Prelude.{◌≡◌, ◌+◌, ◌*◌, ◌<◌, length};
-ghost use Rattle.trellis.specs.Own.{edge_less};
 ghost use Rattle.trellis.specs.Lists.{all};
-ghost use Rattle.edges.specs.Inner.Edges.{inside, above, EdgesThere, edge_in, held_edge, meant_edge};
+ghost use Rattle.edges.specs.Inner.Edges.{inside, above, EdgesThere, edge_in, held_edge};
 
-use numbers::wide;
-
-// An edge: the vertices that it joins and its symbol.
-#[derive(Clone, Copy)]
+// An edge: the vertices that it joins and its symbol. Edges are ordered by from, symbol, to, as the fields stand here.
+#[derive(Clone, Copy, PartialEq, Eq, PartialOrd, Ord)]
 pub struct Edge {
     pub from: usize,
     pub symbol: usize,
@@ -24,24 +21,19 @@ pub fn edge_at(pairs: &[u16], symbols: &[u16], k: usize) -> Edge
     ensures { result ≡ held_edge (edge_in pairs.now symbols.now k) }
 {
     Edge {
-        from: wide(pairs[2 * k]),
-        symbol: wide(symbols[k]),
-        to: wide(pairs[2 * k + 1]),
+        from: usize::from(pairs[2 * k]),
+        symbol: usize::from(symbols[k]),
+        to: usize::from(pairs[2 * k + 1]),
     }
 }
 
+#[tactic(auto, unfolding(crate::specs::Inner::Edges::inside))]
 fn is_inside(pairs: &[u16], symbols: &[u16], k: usize, q: usize, froms: usize, tos: usize) -> bool
     requires { (2 * k + 1 < length pairs.now) × (k < length symbols.now) }
     ensures { result ≡ inside (edge_in pairs.now symbols.now) q froms tos k }
 {
     let e = edge_at(pairs, symbols, k);
-    if e.from >= froms {
-        return false;
-    }
-    if e.to >= tos {
-        return false;
-    }
-    e.symbol < q
+    e.from < froms && e.to < tos && e.symbol < q
 }
 
 pub fn all_inside(
@@ -55,55 +47,21 @@ pub fn all_inside(
     requires { EdgesThere pairs.now symbols.now count }
     ensures { result ≡ all (inside (edge_in pairs.now symbols.now) q froms tos) count }
 {
-    let mut k: usize = 0;
-    while k < count {
-        if !is_inside(pairs, symbols, k, q, froms, tos) {
-            return false;
-        }
-        k += 1;
-    }
-    true
-}
-
-fn is_less(e: Edge, f: Edge) -> bool
-    ensures { result ≡ edge_less (meant_edge e) (meant_edge f) }
-{
-    if e.from < f.from {
-        return true;
-    }
-    if e.from != f.from {
-        return false;
-    }
-    if e.symbol < f.symbol {
-        return true;
-    }
-    if e.symbol != f.symbol {
-        return false;
-    }
-    e.to < f.to
+    (0..count).all(|k| is_inside(pairs, symbols, k, q, froms, tos))
 }
 
 // Whether edge k is above the edge before it.
+#[tactic(auto, using(crate::proofs::Reading::first_above))]
 fn is_above(pairs: &[u16], symbols: &[u16], k: usize) -> bool
     requires { (2 * k + 1 < length pairs.now) × (k < length symbols.now) }
     ensures { result ≡ above (edge_in pairs.now symbols.now) k }
 {
-    if k == 0 {
-        return true;
-    }
-    is_less(edge_at(pairs, symbols, k - 1), edge_at(pairs, symbols, k))
+    k == 0 || edge_at(pairs, symbols, k - 1) < edge_at(pairs, symbols, k)
 }
 
 pub fn all_above(pairs: &[u16], symbols: &[u16], count: usize) -> bool
     requires { EdgesThere pairs.now symbols.now count }
     ensures { result ≡ all (above (edge_in pairs.now symbols.now)) count }
 {
-    let mut k: usize = 0;
-    while k < count {
-        if !is_above(pairs, symbols, k) {
-            return false;
-        }
-        k += 1;
-    }
-    true
+    (0..count).all(|k| is_above(pairs, symbols, k))
 }

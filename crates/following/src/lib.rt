@@ -41,6 +41,7 @@ fn match_step(
 }
 
 // Whether each edge of the last step leaves the vertex whose partner the edge with its end and symbol leaves; `starts` has these.
+#[tactic(auto, using(edges::proofs::Reading::edge_small))]
 fn all_close(
     pairs: &[u16],
     symbols: &[u16],
@@ -54,15 +55,12 @@ fn all_close(
         (edge_in pairs.now symbols.now k).symbol) 0)
         (get_or matched.now (edge_in pairs.now symbols.now k).from 0)) count }
 {
-    let mut k: usize = 0;
-    while k < count {
+    for k in 0..count {
         let e = edge_at(pairs, symbols, k);
         let slot = MOST_Q * e.to + e.symbol;
-        let v = e.from;
-        if starts[slot] != matched[v] {
+        if starts[slot] != matched[e.from] {
             return false;
         }
-        k += 1;
     }
     true
 }
@@ -93,10 +91,8 @@ fn own_partners(count: usize) -> [u16; MOST_WORDS]
     ensures { (length result ≡ most_words) × ((v : ℕ) → v < count → get_or result v 0 ≡ v + 1) }
 {
     let mut matched = [0u16; MOST_WORDS];
-    let mut v: usize = 0;
-    while v < count {
+    for v in 0..count {
         matched[v] = (v + 1) as u16;
-        v += 1;
     }
     matched
 }
@@ -112,15 +108,13 @@ pub fn follow(a: &[u16], b: &[u16], at: View) -> bool
     let mut matched = own_partners(at.goals - at.roots);
     let mut pairs = at.pairs;
     let mut symbols = at.symbols;
-    let mut t: usize = 0;
-    while t < last {
+    for t in 0..last {
         let count = wide(number(a, 4 + n + t));
         if !match_step(a, b, pairs, symbols, count, &mut matched) {
             return false;
         }
         pairs += 2 * count;
         symbols += count;
-        t += 1;
     }
     let count = wide(number(a, 4 + n + last));
     match_last(a, b, pairs, symbols, count, &matched)

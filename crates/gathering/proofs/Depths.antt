@@ -7,6 +7,7 @@ use native.Mathlib.Omega.{arith}
 use native.Mathlib.Nat.{zero-add}
 use native.Mathlib.Numerals.{add-one}
 use lib.ListN.{length, get_or, take, length-map}
+use Rattle.std.specs.Prelude.{Some, None}
 use Rattle.trellis.specs.Bounds.{most_words}
 use Rattle.trellis.specs.Lists.{run, each}
 use Rattle.trellis.specs.Own.{Edge}
@@ -90,31 +91,32 @@ module _ {s : List ℕ} {at : View} (S : Seen s at) where
       next_count : length (flat_map (grown_codes edges) (take have codes)) ≡ length (level s (suc t))
       next_count = ap length next_codes ∙ length-map (level s (suc t)) coded
 
-      module _ {new : List ℕ} {r : ℕ} (m : PutBehind (flat_map (grown_codes edges) (take have codes)) codes 0 new r) where
-        pub depth_next : r ≤ most_words → Depth s new r (pairs + 2 * count) (symbols + count) (t + 1)
-        depth_next b = record {
+      module _ {new : List ℕ} where
+        pub depth_next : {r : ℕ} → PutBehind (flat_map (grown_codes edges) (take have codes)) codes 0 new (Some r)
+            → Depth s new r (pairs + 2 * count) (symbols + count) (t + 1)
+        depth_next m = record {
           inside = omega (arith, deep);
-          room = b;
+          room = m.put.room;
           long = m.long;
-          filled = m.filled b ∙ next_codes ∙ ap (λ u. map coded (level s u)) (sym (add-one t));
-          count = m.count b ∙ zero-add _ ∙ next_count ∙ ap (λ u. length (level s u)) (sym (add-one t));
+          filled = m.put.filled_is ∙ next_codes ∙ ap (λ u. map coded (level s u)) (sym (add-one t));
+          count = m.put.count ∙ zero-add _ ∙ next_count ∙ ap (λ u. length (level s u)) (sym (add-one t));
           places = places_next S d.places h y_is count_is;
         }
 
-        pub depth_over : most_words < r → Gathered s new r
-        depth_over b = record {
+        pub depth_over : PutBehind (flat_map (grown_codes edges) (take have codes)) codes 0 new None → Gathered s new None
+        depth_over m = record {
           long = m.long;
-          filled = λ c. absurd (omega arith);
-          count_is = λ c. absurd (omega arith);
-          over = λ c. omega (arith, m.over b, next_count, levels_rise S.sound (n_of s - suc t) (suc t) (omega (arith, deep)));
+          found = omega (arith, m.put, next_count, levels_rise S.sound (n_of s - suc t) (suc t) (omega (arith, deep)));
         }
 
-  pub depth_all : {codes : List ℕ} {have pairs symbols t : ℕ} → Depth s codes have pairs symbols t → at.n ≤ t → Gathered s codes have
+  pub depth_all : {codes : List ℕ} {have pairs symbols t : ℕ} → Depth s codes have pairs symbols t → at.n ≤ t → Gathered s codes (Some have)
   depth_all {codes} {have} {pairs} {symbols} {t} d h =
       let e : t ≡ n_of s = omega (arith, d.inside, at_is.n_is) in
       record {
         long = d.long;
-        filled = λ b. d.filled ∙ ap (λ k. map coded (level s k)) e;
-        count_is = λ b. d.count ∙ ap (λ k. length (level s k)) e;
-        over = λ b. absurd (omega (arith, d.room));
+        found = record {
+          room = d.room;
+          filled = d.filled ∙ ap (λ k. map coded (level s k)) e;
+          count_is = d.count ∙ ap (λ k. length (level s k)) e;
+        };
       }

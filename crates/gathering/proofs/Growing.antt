@@ -11,6 +11,7 @@ use native.Mathlib.Decide.{ℕ_discrete}
 use lib.ListN.{length, get_or, set, take, replicate, length-append, length-set, length-replicate, get_or-replicate, length-map}
 use lib.Seq.{get_or-set_same, get_or-set_other, take-suc, take-suc-set}
 use borrow.Author.Tests.{eq-eqb, ne_eqb}
+use Rattle.std.specs.Prelude.{Some, None}
 use Rattle.trellis.specs.Bounds.{most_words}
 use Rattle.trellis.specs.Lists.{run, each}
 use Rattle.trellis.specs.Own.{Edge}
@@ -19,8 +20,6 @@ use Rattle.trellis.proofs.Lists.{run_snoc, flat_map_append}
 use Rattle.whole_section.proofs.Lists.{run_cons, run_none, leaving_yes, leaving_no, leaving_none}
 use Rattle.codes.specs.Inner.Codes.{code, code_vertex}
 use Rattle.gathering.specs.Inner.Growing.{PutBehind, BeginsAt, Starts, FirstLevel, RootCodes}
-
--- ---- one beginning further along one edge
 
 -- ---- where the edges of a vertex begin
 
@@ -99,9 +98,9 @@ noted_all {e} {count} {starts} {k} n h = record {
 }
 
 pub begins_of : {e : ℕ → Edge} {count : ℕ} {starts : List ℕ} (c : ℕ) {v r : ℕ} → Starts e count starts → v ≡ code_vertex c
-    → (r ≡ get_or starts v 0) × (r < 65536) → BeginsAt e count (code_vertex c) r
+    → r ≡ get_or starts v 0 → BeginsAt e count (code_vertex c) r
 begins_of {e} {count} {starts} c {v} {r} s q w =
-    subst (BeginsAt e count (code_vertex c)) (sym (w.0 ∙ ap (λ u. get_or starts u 0) q)) (s.at (code_vertex c) (omega arith))
+    subst (BeginsAt e count (code_vertex c)) (sym (w ∙ ap (λ u. get_or starts u 0) q)) (s.at (code_vertex c) (omega arith))
 
 -- ---- one beginning
 
@@ -155,28 +154,28 @@ module _ {f : Edge → ℕ} {e : ℕ → Edge} {count v : ℕ} {old : List ℕ} 
       above = λ g. omega (arith, rise k (k + 1) (omega arith) g);
     })
 
-    pub putting_over : (e k).from ≡ v → most_words ≤ filled → PutBehind (map f (leaving v (run e 0 count))) old made new 1025
+    pub putting_over : (e k).from ≡ v → most_words ≤ filled → PutBehind (map f (leaving v (run e 0 count))) old made new None
     putting_over q r = record {
       long = p.long;
-      filled = λ b. absurd (omega arith);
-      count = λ b. absurd (omega arith);
-      over = λ b. rw (length-map (leaving v (run e 0 count)) f) (omega (arith, p.size, ap length (leaving_here q)));
+      put = rw (length-map (leaving v (run e 0 count)) f) (omega (arith, p.size, ap length (leaving_here q)));
     }
 
   module _ {new : List ℕ} {filled k : ℕ} (p : Putting f e count v old made new filled k) where
-    done_by : leaving v (run e k (count - k)) ≡ [] → PutBehind (map f (leaving v (run e 0 count))) old made new filled
+    done_by : leaving v (run e k (count - k)) ≡ [] → PutBehind (map f (leaving v (run e 0 count))) old made new (Some filled)
     done_by q = record {
       long = p.long;
-      filled = λ b. sym (append-nil (take filled new)) ∙ ap (λ es. take filled new ++ map f es) (sym q) ∙ p.left;
-      count = λ b. rw (length-map (leaving v (run e 0 count)) f) (omega (arith, p.size, ap length q));
-      over = λ b. absurd (omega (arith, p.room));
+      put = record {
+        room = p.room;
+        filled_is = sym (append-nil (take filled new)) ∙ ap (λ es. take filled new ++ map f es) (sym q) ∙ p.left;
+        count = rw (length-map (leaving v (run e 0 count)) f) (omega (arith, p.size, ap length q));
+      };
     }
 
-    pub putting_done : count ≤ k → PutBehind (map f (leaving v (run e 0 count))) old made new filled
+    pub putting_done : count ≤ k → PutBehind (map f (leaving v (run e 0 count))) old made new (Some filled)
     putting_done h = done_by (ap (leaving v) (run_none e k count h) ∙ leaving_none v)
 
     pub putting_stops : k < count → ((e k).from ≡ v → ⊥) → ((j k : ℕ) → j ≤ k → k < count → (e j).from ≤ (e k).from)
-        → PutBehind (map f (leaving v (run e 0 count))) old made new filled
+        → PutBehind (map f (leaving v (run e 0 count))) old made new (Some filled)
     putting_stops h q rise = done_by (none_later e v k (count - k) (λ j a b r. later j a (omega arith) r))
       where
         later : (j : ℕ) → k ≤ j → j < count → (e j).from ≡ v → ⊥
@@ -197,8 +196,7 @@ module _ {f : ℕ → List ℕ} {old : List ℕ} {have : ℕ} where
   unfolding flat_map
   growing_start l = record { inside = omega arith; room = omega arith; long = l; filled = refl; count = refl }
 
-  module _ {new newer : List ℕ} {made i r : ℕ} (g : Growing f old have new made i) (h : i < have) (l : have ≤ length old)
-      (m : PutBehind (f (get_or old i 0)) new made newer r) where
+  module _ {new : List ℕ} {made i : ℕ} (g : Growing f old have new made i) (h : i < have) (l : have ≤ length old) where
     one_more : flat_map f (take (i + 1) old) ≡ flat_map f (take i old) ++ f (get_or old i 0)
     unfolding flat_map
     one_more =
@@ -209,21 +207,20 @@ module _ {f : ℕ → List ℕ} {old : List ℕ} {have : ℕ} where
     more_count : length (flat_map f (take (i + 1) old)) ≡ length (flat_map f (take i old)) + length (f (get_or old i 0))
     more_count = ap length one_more ∙ length-append (flat_map f (take i old)) (f (get_or old i 0))
 
-    pub growing_next : r ≤ most_words → Growing f old have newer r (i + 1)
-    growing_next b = record {
+    pub growing_next : {newer : List ℕ} {r : ℕ} → PutBehind (f (get_or old i 0)) new made newer (Some r) → Growing f old have newer r (i + 1)
+    growing_next m = record {
       inside = omega arith;
-      room = b;
+      room = m.put.room;
       long = m.long;
-      filled = m.filled b ∙ ap (λ xs. xs ++ f (get_or old i 0)) g.filled ∙ sym one_more;
-      count = m.count b ∙ ap (λ k. k + length (f (get_or old i 0))) g.count ∙ sym more_count;
+      filled = m.put.filled_is ∙ ap (λ xs. xs ++ f (get_or old i 0)) g.filled ∙ sym one_more;
+      count = m.put.count ∙ ap (λ k. k + length (f (get_or old i 0))) g.count ∙ sym more_count;
     }
 
-    pub growing_over : {start : List ℕ} → most_words < r → PutBehind (flat_map f (take have old)) start 0 newer r
-    growing_over b = record {
+    pub growing_over : {start newer : List ℕ} → PutBehind (f (get_or old i 0)) new made newer None
+        → PutBehind (flat_map f (take have old)) start 0 newer None
+    growing_over m = record {
       long = m.long;
-      filled = λ c. absurd (omega arith);
-      count = λ c. absurd (omega arith);
-      over = λ c. omega (arith, m.over b, g.count, more_count, part (have - (i + 1)) (i + 1) (omega arith));
+      put = omega (arith, m.put, g.count, more_count, part (have - (i + 1)) (i + 1) (omega arith));
     }
       where
         part : (k j : ℕ) → j + k ≡ have → length (flat_map f (take j old)) ≤ length (flat_map f (take have old))
@@ -235,14 +232,16 @@ module _ {f : ℕ → List ℕ} {old : List ℕ} {have : ℕ} where
             omega (arith, part k (suc j) (omega arith))
 
   pub growing_all : {start new : List ℕ} {made i : ℕ} → Growing f old have new made i → have ≤ i
-      → PutBehind (flat_map f (take have old)) start 0 new made
+      → PutBehind (flat_map f (take have old)) start 0 new (Some made)
   growing_all {start} {new} {made} {i} g h =
       let e : i ≡ have = omega (arith, g.inside) in
       record {
         long = g.long;
-        filled = λ b. g.filled ∙ ap (λ k. flat_map f (take k old)) e;
-        count = λ b. g.count ∙ ap (λ k. length (flat_map f (take k old))) e ∙ sym (zero-add _);
-        over = λ b. absurd (omega (arith, g.room));
+        put = record {
+          room = g.room;
+          filled_is = g.filled ∙ ap (λ k. flat_map f (take k old)) e;
+          count = g.count ∙ ap (λ k. length (flat_map f (take k old))) e ∙ sym (zero-add _);
+        };
       }
 
 -- ---- the first depth
@@ -257,12 +256,12 @@ unfolding run
 rooted_start s at count l = record { inside = omega arith; long = l; filled = refl }
 
 pub rooted_next : {s : List ℕ} {at count : ℕ} {codes : List ℕ} {v r : ℕ} → Rooted s at count codes v → FirstLevel s at count
-    → v < count → (r ≡ get_or s (at + v) 0) × (r < 65536) → Rooted s at count (set codes v ((r * 1024 + v) * 65536)) (v + 1)
+    → v < count → r ≡ get_or s (at + v) 0 → Rooted s at count (set codes v ((r * 1024 + v) * 65536)) (v + 1)
 rooted_next {s} {at} {count} {codes} {v} {r} g F h w = record {
   inside = omega arith;
   long = length-set codes v ((r * 1024 + v) * 65536) ∙ g.long;
   filled =
-      let q : (r * 1024 + v) * 65536 ≡ code (get_or s (at + v) 0) v 0 = omega (arith, w.0) in
+      let q : (r * 1024 + v) * 65536 ≡ code (get_or s (at + v) 0) v 0 = omega (arith, w) in
       let t : take (v + 1) (set codes v ((r * 1024 + v) * 65536)) ≡ take v codes ++ ((r * 1024 + v) * 65536 ∷ []) =
       rw (add-one v) (take-suc-set codes v _ (omega (arith, F.few, g.long))) in
       let u : each (λ u. code (get_or s (at + u) 0) u 0) (v + 1)

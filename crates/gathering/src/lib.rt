@@ -13,14 +13,11 @@ ghost use Rattle.whole_section.specs.Inner.StepAt.{StepEdges, part_from, StepAt}
 ghost use Rattle.codes.specs.Inner.Codes.{code_vertex, grown_codes};
 ghost use Rattle.gathering.specs.Inner.Growing.{PutBehind, BeginsAt, Starts, Gathered, FirstLevel, RootCodes};
 
-use codes::{further, vertex_of, wider};
+use codes::{further, vertex_of};
 use edges::edge_at;
 use numbers::{number, wide};
 use section_file::View;
 use trellis::MOST_WORDS;
-
-// One word more than a table has.
-const TOO_MANY: usize = MOST_WORDS + 1;
 
 // Where the edges of each vertex begin. Going down, the last note of a vertex is its first edge.
 fn starts_of(pairs: &[u16], symbols: &[u16], count: usize) -> [u16; MOST_WORDS]
@@ -28,17 +25,15 @@ fn starts_of(pairs: &[u16], symbols: &[u16], count: usize) -> [u16; MOST_WORDS]
     ensures { Starts (edge_in pairs.now symbols.now) count result }
 {
     let mut starts = [count as u16; MOST_WORDS];
-    let mut k = count;
-    while k > 0 {
-        k -= 1;
+    for k in (0..count).rev() {
         let e = edge_at(pairs, symbols, k);
-        let v = e.from;
-        starts[v] = k as u16;
+        starts[e.from] = k as u16;
     }
     starts
 }
 
-// Puts the beginning c, one step further along each edge that left its vertex, behind the first `made` numbers.
+// Puts the beginning c, one step further along each edge that left its vertex, behind the first `made` numbers. Answers how many there are
+// then, or nothing where they are more than the array has room for.
 fn grow_one(
     pairs: &[u16],
     symbols: &[u16],
@@ -47,7 +42,7 @@ fn grow_one(
     c: u32,
     made: usize,
     codes: &mut [u32; MOST_WORDS],
-) -> usize
+) -> Option<usize>
     requires { StepEdges pairs.now symbols.now count × BeginsAt (edge_in pairs.now symbols.now) count (code_vertex c) start
         × (made ≤ most_words) × (length codes.old ≡ most_words) }
     ensures { PutBehind (grown_codes (run (edge_in pairs.now symbols.now) 0 count) c) codes.old made
@@ -55,20 +50,18 @@ fn grow_one(
 {
     let vertex = vertex_of(c);
     let mut filled = made;
-    let mut k = start;
-    while k < count {
+    for k in start..count {
         let e = edge_at(pairs, symbols, k);
         if e.from != vertex {
-            return filled;
+            return Some(filled);
         }
         if filled >= MOST_WORDS {
-            return TOO_MANY;
+            return None;
         }
         codes[filled] = further(c, e);
         filled += 1;
-        k += 1;
     }
-    filled
+    Some(filled)
 }
 
 // Puts the first `have` beginnings of `old` one step further.
@@ -79,7 +72,7 @@ fn grow(
     old: &[u32; MOST_WORDS],
     have: usize,
     codes: &mut [u32; MOST_WORDS],
-) -> usize
+) -> Option<usize>
     requires { StepEdges pairs.now symbols.now count × (have ≤ most_words) × (length old.now ≡ most_words)
         × (length codes.old ≡ most_words) }
     ensures { PutBehind (flat_map (grown_codes (run (edge_in pairs.now symbols.now) 0 count))
@@ -87,17 +80,12 @@ fn grow(
 {
     let starts = starts_of(pairs, symbols, count);
     let mut made: usize = 0;
-    let mut i: usize = 0;
-    while i < have {
+    for i in 0..have {
         let c = old[i];
-        let start = wide(starts[vertex_of(c)]);
-        made = grow_one(pairs, symbols, count, start, c, made, codes);
-        if made > MOST_WORDS {
-            return made;
-        }
-        i += 1;
+        let start = usize::from(starts[vertex_of(c)]);
+        made = grow_one(pairs, symbols, count, start, c, made, codes)?;
     }
-    made
+    Some(made)
 }
 
 // Puts the first `have` beginnings one step further, along the `count` edges whose pairs and symbols begin at these places.
@@ -108,7 +96,7 @@ fn grow_step(
     count: usize,
     have: usize,
     codes: &mut [u32; MOST_WORDS],
-) -> usize
+) -> Option<usize>
     requires { StepAt s.now pairs symbols count × (have ≤ most_words) × (length codes.old ≡ most_words) }
     ensures { PutBehind (flat_map (grown_codes (run (edge_in (part_from pairs s.now) (part_from symbols s.now)) 0
         count)) (take have codes.old)) codes.old 0 codes.new result }
@@ -122,15 +110,13 @@ fn first_level(s: &[u16], at: usize, count: usize, codes: &mut [u32; MOST_WORDS]
     requires { FirstLevel s.now at count × (length codes.old ≡ most_words) }
     ensures { RootCodes s.now at count codes.new }
 {
-    let mut v: usize = 0;
-    while v < count {
-        codes[v] = (wider(s[at + v]) * 1024 + (v as u32)) * 65536;
-        v += 1;
+    for v in 0..count {
+        codes[v] = (u32::from(s[at + v]) * 1024 + (v as u32)) * 65536;
     }
 }
 
-// Finds the section's words, depth by depth.
-pub fn gather(s: &[u16], at: View, codes: &mut [u32; MOST_WORDS]) -> usize
+// Finds the section's words, depth by depth: how many they are, if not more than a table has.
+pub fn gather(s: &[u16], at: View, codes: &mut [u32; MOST_WORDS]) -> Option<usize>
     requires { Seen s.now at × (length codes.old ≡ most_words) }
     ensures { Gathered s.now codes.new result }
 {
@@ -140,16 +126,11 @@ pub fn gather(s: &[u16], at: View, codes: &mut [u32; MOST_WORDS]) -> usize
     first_level(s, roots, have, codes);
     let mut pairs = at.pairs;
     let mut symbols = at.symbols;
-    let mut t: usize = 0;
-    while t < n {
+    for t in 0..n {
         let count = wide(number(s, 4 + n + t));
-        have = grow_step(s, pairs, symbols, count, have, codes);
-        if have > MOST_WORDS {
-            return have;
-        }
+        have = grow_step(s, pairs, symbols, count, have, codes)?;
         pairs += 2 * count;
         symbols += count;
-        t += 1;
     }
-    have
+    Some(have)
 }

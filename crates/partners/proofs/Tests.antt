@@ -1,6 +1,6 @@
 -- Tests as the loops make them: two numbers read are compared, and a comparison that fails ends the loop.
 use mathlib.Core.Path.{◌≡◌, sym, ap, ◌∙◌}
-use mathlib.Core.Bool.{Bool, true, false, not, ◌&&◌, ◌||◌}
+use mathlib.Core.Bool.{true, false}
 use mathlib.Core.List.{List}
 use Prim.Native.Nat.{ℕ, ◌+◌, ◌≤◌, ◌<◌}
 use native.Mathlib.Omega.{arith}
@@ -30,18 +30,6 @@ module _ {f g : ℕ → ℕ} {count k : ℕ} (A : Agreeing f g count k) (h : k <
 
   pub agree_next : x ≡ y → Agreeing f g count (k + 1)
   agree_next e = record { passed = passed_by A.passed h (eq-eqb (f k) (g k) (sym x_is ∙ e ∙ y_is)) }
-
--- ---- whether a vertex can have a partner
-
-pub no_end : (known end : ℕ) → end ≡ 0 → false ≡ (not (eqb end 0) && (eqb known 0 || eqb known end))
-no_end known end e = rw (eq-eqb end 0 e)
-
-pub none_known : (known end : ℕ) → (end ≡ 0 → ⊥) → known ≡ 0 → true ≡ (not (eqb end 0) && (eqb known 0 || eqb known end))
-none_known known end d e = rw (ne_eqb end 0 d, eq-eqb known 0 e)
-
-pub one_known : (known end : ℕ) {r : Bool} → (end ≡ 0 → ⊥) → (known ≡ 0 → ⊥) → r ≡ eqb known end
-    → r ≡ (not (eqb end 0) && (eqb known 0 || eqb known end))
-one_known known end d e q = rw (ne_eqb end 0 d, ne_eqb known 0 e) q
 
 -- ---- the first vertices, each its own partner
 

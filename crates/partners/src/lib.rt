@@ -10,11 +10,11 @@ ghost use Rattle.twins.specs.Inner.Twins.{turned_in};
 ghost use Rattle.partners.specs.Inner.Following.{slot, end_for, Single, Leads, Partners, StepCarried};
 
 use edges::{Edge, edge_at};
-use numbers::wide;
 use trellis::{MOST_Q, MOST_WORDS};
 use twins::edge_met;
 
 // Where the edges of a step end, on the way back with from and to in each other's place: a number for each vertex and symbol.
+#[tactic(auto, using(twins::proofs::Marking::edge_small))]
 pub fn ends_of(
     pairs: &[u16],
     symbols: &[u16],
@@ -25,12 +25,10 @@ pub fn ends_of(
     ensures { Leads (turned_in back pairs.now symbols.now) count result }
 {
     let mut ends = [0u16; MOST_Q * MOST_WORDS];
-    let mut k: usize = 0;
-    while k < count {
+    for k in 0..count {
         let e = edge_met(pairs, symbols, k, back);
         let slot = MOST_Q * e.from + e.symbol;
         ends[slot] = (e.to + 1) as u16;
-        k += 1;
     }
     ends
 }
@@ -41,25 +39,19 @@ fn end_for(ends: &[u16; MOST_Q * MOST_WORDS], matched: &[u16; MOST_WORDS], e: Ed
         × (0 < get_or matched.now e.from 0) × (get_or matched.now e.from 0 ≤ most_words) }
     ensures { result ≡ end_for ends.now matched.now (meant_edge e) }
 {
-    let v = e.from;
-    let slot = MOST_Q * (wide(matched[v]) - 1) + e.symbol;
-    ends[slot]
+    let partner = usize::from(matched[e.from]) - 1;
+    ends[MOST_Q * partner + e.symbol]
 }
 
 // Whether a vertex can have the partner `end`, 0 for none, if `known` is the partner that it has, 0 for none yet.
 fn can_join(known: u16, end: u16) -> bool
     ensures { result ≡ (not (eqb end 0) && (eqb known 0 || eqb known end)) }
 {
-    if end == 0 {
-        return false;
-    }
-    if known == 0 {
-        return true;
-    }
-    known == end
+    end != 0 && (known == 0 || known == end)
 }
 
 // Finds the partners of the vertices that a step reaches, if each is the same along all edges that reach the vertex.
+#[tactic(auto, using(edges::proofs::Reading::edge_small))]
 pub fn carry(
     pairs: &[u16],
     symbols: &[u16],
@@ -74,16 +66,13 @@ pub fn carry(
         new.new result }
 {
     *new = [0u16; MOST_WORDS];
-    let mut k: usize = 0;
-    while k < count {
+    for k in 0..count {
         let e = edge_at(pairs, symbols, k);
-        let to = e.to;
         let end = end_for(ends, old, e);
-        if !can_join(new[to], end) {
+        if !can_join(new[e.to], end) {
             return false;
         }
-        new[to] = end;
-        k += 1;
+        new[e.to] = end;
     }
     true
 }

@@ -18,13 +18,13 @@ use Rattle.section_file.specs.Inner.View.{Seen}
 use Rattle.section_file.specs.declared.View.{View}
 use Rattle.section_file.proofs.Seen.{viewed, numbers_from}
 use Rattle.section_file.specs.Usable.{is_section}
-use Rattle.usable.specs.declared.Part.TheVariants.{Unusable}
+use Rattle.std.specs.Prelude.{Some, None}
 use Rattle.whole_section.specs.Inner.Whole.{whole_part}
 use Rattle.whole_section.proofs.Lists.{flat_map_same}
 use Rattle.whole_section.proofs.Sections.{whole_none}
 use Rattle.codes.specs.Inner.Codes.{code_root, code_vertex}
 use Rattle.gathering.specs.Inner.Levels.{Begun, finished, level, coded}
-use Rattle.gathering.specs.Inner.Growing.{Gathered}
+use Rattle.gathering.specs.Inner.Growing.{Gathered, AllGathered}
 use Rattle.gathering.proofs.Levels.{words_are, words_count, Fit, level_fits, fit_vertex, fit_label, root_coded, vertex_coded, label_coded}
 use Rattle.word_file.specs.TableBytes.{bytes_of, pair_bytes, label_bytes, table_bytes}
 use Rattle.word_file.specs.Inner.Written.{byte_of, pair_of_code, label_of_code, file_of_codes}
@@ -54,12 +54,12 @@ module _ {s : List ℕ} (g : Sound s) where
       let F = fits b m in
       ap bytes_of (label_coded b (fit_vertex g (n_of s) (omega arith) F) (fit_label g (n_of s) (omega arith) F))
 
-  file_is_lem : (goals : List ℕ) {codes : List ℕ} {count : ℕ} → ((v : ℕ) → get_or goals v 0 ≡ goal_state s v) → Gathered s codes count
-      → count ≤ most_words → file_of_codes s goals codes count ≡ table_bytes (q_of s) (n_of s) (states_of s) (section_words s)
+  file_is_lem : (goals : List ℕ) {codes : List ℕ} {count : ℕ} → ((v : ℕ) → get_or goals v 0 ≡ goal_state s v) → AllGathered s codes count
+      → file_of_codes s goals codes count ≡ table_bytes (q_of s) (n_of s) (states_of s) (section_words s)
   unfolding file_of_codes table_bytes
-  file_is_lem goals {codes} {count} e G h =
-      let full : take count codes ≡ map coded (level s (n_of s)) = G.filled h in
-      let size : count ≡ length (section_words s) = G.count_is h ∙ sym (words_count s) in
+  file_is_lem goals {codes} {count} e G =
+      let full : take count codes ≡ map coded (level s (n_of s)) = G.filled in
+      let size : count ≡ length (section_words s) = G.count_is ∙ sym (words_count s) in
       let pairs : flat_map (pair_of_code goals) (take count codes) ≡ flat_map pair_bytes (section_words s) =
       ap (flat_map (pair_of_code goals)) full ∙ flat_map_map (pair_of_code goals) coded (level s (n_of s))
       ∙ flat_map_same _ _ (level s (n_of s)) (pair_of goals e)
@@ -74,27 +74,30 @@ module _ {s : List ℕ} (g : Sound s) where
 
 -- ---- the ways out
 
-pub ends_unusable : (s f : List ℕ) → Unusable ≡ whole_part s → left (bad_section 0) f ≡ reading_back s f
+pub ends_unusable : (s f : List ℕ) → None ≡ whole_part s → left (bad_section 0) f ≡ reading_back s f
 unfolding reading_back
 ends_unusable s f e = let d = whole_none s e in rw d
 
-module _ (s f : List ℕ) {at : View} (S : Seen s at × (is_section s ≡ true)) {count : ℕ} {codes : List ℕ} (G : Gathered s codes count) where
-  pub ends_many : most_words < count → left too_many_words f ≡ reading_back s f
+module _ (s f : List ℕ) {at : View} (S : Seen s at × (is_section s ≡ true)) where
+  pub ends_many : {codes : List ℕ} → Gathered s codes None → left too_many_words f ≡ reading_back s f
   unfolding reading_back
-  ends_many h =
+  ends_many G =
       let e = S.1 in
-      let d = lt-ltb most_words (length (section_words s)) (omega (arith, G.over h, words_count s)) in
+      let d = lt-ltb most_words (length (section_words s)) (omega (arith, G.found, words_count s)) in
       rw (e, d)
 
-  module _ (h : count ≤ most_words) where
+  module _ {count : ℕ} {codes : List ℕ} (G : Gathered s codes (Some count)) where
     count_words : count ≡ length (section_words s)
-    count_words = G.count_is h ∙ sym (words_count s)
+    count_words = G.found.count_is ∙ sym (words_count s)
+
+    few : count ≤ most_words
+    few = G.found.room
 
     pub ends_short : length f < 5 + 4 * count → left (short_buffer (5 + 4 * count)) f ≡ reading_back s f
     unfolding reading_back
     ends_short k =
         let e = S.1 in
-        let d = le-ltb most_words (length (section_words s)) (omega (arith, count_words)) in
+        let d = le-ltb most_words (length (section_words s)) (omega (arith, count_words, few)) in
         let m = lt-ltb (length f) (5 + 4 * length (section_words s)) (omega (arith, count_words)) in
         rw (e, d, m, count_words)
 
@@ -104,10 +107,10 @@ module _ (s f : List ℕ) {at : View} (S : Seen s at × (is_section s ≡ true))
     unfolding reading_back goal_state
     ends_file k q =
         let e = S.1 in
-        let d = le-ltb most_words (length (section_words s)) (omega (arith, count_words)) in
+        let d = le-ltb most_words (length (section_words s)) (omega (arith, count_words, few)) in
         let m = le-ltb (length f) (5 + 4 * length (section_words s)) (omega (arith, count_words)) in
         let z = file_is_lem S.0.sound (take (length s - at.goals) (drop at.goals s))
-        (λ v i. numbers_from s (viewed S.0.is).goals_is i v) G h in
+        (λ v i. numbers_from s (viewed S.0.is).goals_is i v) G.found in
         let o : over (table_bytes (q_of s) (n_of s) (states_of s) (section_words s)) f ≡ table_bytes (q_of s) (n_of s) (states_of s)
         (section_words s) ++ drop (5 + 4 * length (section_words s)) f
         = ap (λ k. table_bytes (q_of s) (n_of s) (states_of s) (section_words s) ++ drop k f)

@@ -13,21 +13,20 @@ pub use codes::{further, label_of, root_of, vertex_of};
 use gathering::gather;
 use section_file::View;
 use trellis::MOST_WORDS;
-use usable::Part;
 pub use whole_section::section_of;
 use word_file::put_file;
 
 // Writes the table file of a section's words.
+#[tactic(auto, using(gathering::proofs::Depths::near))]
 fn put_words(section: &[u16], at: View, file: &mut [u8]) -> ReadBack
     requires { Seen section.now at × (is_section section.now ≡ true) }
     ensures { left (read_back_outcome result) file.new ≡ reading_back section.now file.old }
 {
     let goals = at.goals;
     let mut codes = [0u32; MOST_WORDS];
-    let count = gather(section, at, &mut codes);
-    if count > MOST_WORDS {
+    let Some(count) = gather(section, at, &mut codes) else {
         return Err(ReadBackRefusal::TooMany);
-    }
+    };
     let needed = 5 + 4 * count;
     if file.len() < needed {
         return Err(ReadBackRefusal::Short(needed));
@@ -40,9 +39,8 @@ fn put_words(section: &[u16], at: View, file: &mut [u8]) -> ReadBack
 pub fn read_back(section: &[u16], file: &mut [u8]) -> ReadBack
     ensures { left (read_back_outcome result) file.new ≡ reading_back section.now file.old }
 {
-    let part = section_of(section);
-    match part {
-        Part::Usable(at) => put_words(section, at, file),
-        Part::Unusable => Err(ReadBackRefusal::Unusable),
+    match section_of(section) {
+        Some(at) => put_words(section, at, file),
+        None => Err(ReadBackRefusal::Unusable),
     }
 }

@@ -14,21 +14,13 @@ pub use answers::same_section::{SameSection, SameSectionRefusal};
 use following::follow;
 use numbers::number;
 use section_file::View;
-use usable::Part;
 use whole_section::section_of;
 
 // Whether the first `count` numbers of two slices are the same.
 fn alike(a: &[u16], b: &[u16], count: usize) -> bool
     ensures { result ≡ all (λ i. eqb (get_or a.now i 0) (get_or b.now i 0)) count }
 {
-    let mut i: usize = 0;
-    while i < count {
-        if number(a, i) != number(b, i) {
-            return false;
-        }
-        i += 1;
-    }
-    true
+    (0..count).all(|i| number(a, i) == number(b, i))
 }
 
 // Whether two sections have the same words. Sizes, counts and end states stand in front of the edges. With one step no vertex is an inner
@@ -52,16 +44,15 @@ fn compare(a: &[u16], at: View, b: &[u16]) -> SameSection
     requires { Seen a.now at × (is_section a.now ≡ true) }
     ensures { same_section_outcome result ≡ comparing a.now b.now }
 {
-    let part = section_of(b);
-    match part {
-        Part::Usable(_there) => {
+    match section_of(b) {
+        Some(_there) => {
             if same_code(a, b, at) {
                 Ok(true)
             } else {
                 Ok(false)
             }
         },
-        Part::Unusable => Err(SameSectionRefusal::Unusable(1)),
+        None => Err(SameSectionRefusal::Unusable(1)),
     }
 }
 
@@ -69,9 +60,8 @@ fn compare(a: &[u16], at: View, b: &[u16]) -> SameSection
 pub fn same_section(a: &[u16], b: &[u16]) -> SameSection
     ensures { same_section_outcome result ≡ comparing a.now b.now }
 {
-    let part = section_of(a);
-    match part {
-        Part::Usable(at) => compare(a, at, b),
-        Part::Unusable => Err(SameSectionRefusal::Unusable(0)),
+    match section_of(a) {
+        Some(at) => compare(a, at, b),
+        None => Err(SameSectionRefusal::Unusable(0)),
     }
 }

@@ -13,18 +13,8 @@ ghost use Rattle.section_file.specs.Inner.View.{view_of};
 pub mod states;
 
 pub use edges::{Edge, edge_at};
-use numbers::{number, total, wide};
-
-// Document 01's bounds as numbers of the width that they are compared in.
-const LEAST_Q: u16 = trellis::LEAST_Q as u16;
-
-const MOST_Q: u16 = trellis::MOST_Q as u16;
-
-const MOST_SYMBOLS: u16 = trellis::MOST_SYMBOLS as u16;
-
-const MOST_STATES: u16 = trellis::MOST_STATES as u16;
-
-const MOST_WORDS: u16 = trellis::MOST_WORDS as u16;
+use numbers::{number, total};
+use trellis::{LEAST_Q, MOST_Q, MOST_STATES, MOST_SYMBOLS, MOST_WORDS};
 
 // A section's q and n, the places where its root states, its goal states, its pairs (from, to) and its symbols begin, how many edges it
 // has, and where it ends.
@@ -40,22 +30,13 @@ pub struct View {
     pub end: usize,
 }
 
-fn is_within(low: u16, high: u16, x: u16) -> bool
-    ensures { result ≡ within low high x }
-{
-    if x < low { false } else { x <= high }
-}
-
+#[tactic(auto, unfolding(crate::specs::Usable::sizes_right, trellis::specs::Lists::within))]
 pub fn sizes_right(l: &[u16]) -> bool
     ensures { result ≡ sizes_right l.now }
 {
-    if !is_within(LEAST_Q, MOST_Q, number(l, 0)) {
-        return false;
-    }
-    if !is_within(1, MOST_SYMBOLS, number(l, 1)) {
-        return false;
-    }
-    is_within(1, MOST_STATES, number(l, 2))
+    (LEAST_Q..=MOST_Q).contains(&usize::from(number(l, 0)))
+        && (1..=MOST_SYMBOLS).contains(&usize::from(number(l, 1)))
+        && (1..=MOST_STATES).contains(&usize::from(number(l, 2)))
 }
 
 // Whether the numbers from a place on are all 1 to 1,024.
@@ -63,24 +44,14 @@ fn all_counts(l: &[u16], at: usize, count: usize) -> bool
     requires { (at ≤ 100) × (count ≤ 100) }
     ensures { result ≡ all (λ t. within 1 most_words (get_or l.now (at + t) 0)) count }
 {
-    let mut t: usize = 0;
-    while t < count {
-        if !is_within(1, MOST_WORDS, number(l, at + t)) {
-            return false;
-        }
-        t += 1;
-    }
-    true
+    (0..count).all(|t| (1..=MOST_WORDS).contains(&usize::from(number(l, at + t))))
 }
 
 pub fn counts_right(l: &[u16], n: usize) -> bool
     requires { (n ≡ n_of l.now) × (n ≤ most_symbols) }
     ensures { result ≡ counts_right l.now }
 {
-    if !all_counts(l, 3, n + 1) {
-        return false;
-    }
-    all_counts(l, 4 + n, n)
+    all_counts(l, 3, n + 1) && all_counts(l, 4 + n, n)
 }
 
 // Each part stands behind the one before it.
@@ -91,8 +62,8 @@ pub fn view_of(l: &[u16], n: usize) -> View
     let q = number(l, 0);
     let edges = total(l, 4 + n, n);
     let roots = 4 + 2 * n;
-    let goals = roots + wide(number(l, 3));
-    let pairs = goals + wide(number(l, 3 + n));
+    let goals = roots + usize::from(number(l, 3));
+    let pairs = goals + usize::from(number(l, 3 + n));
     let symbols = pairs + 2 * edges;
     let end = symbols + edges;
     View {

@@ -6,44 +6,34 @@ ghost use Rattle.section_file.specs.Inner.Steps.{higher, state_right};
 ghost use Rattle.section_file.specs.Inner.View.{Laid};
 
 use crate::View;
-use numbers::{number, wide};
+use numbers::number;
 
 // Whether vertex v has a state above that of the vertex before it.
+#[tactic(auto, unfolding(crate::specs::Inner::Steps::higher))]
 fn is_higher(states: &[u16], v: usize) -> bool
     requires { v < length states.now }
     ensures { result ≡ higher (λ u. get_or states.now u 0) v }
 {
-    if v == 0 {
-        return true;
-    }
-    states[v - 1] < states[v]
+    v == 0 || states[v - 1] < states[v]
 }
 
+#[tactic(auto, unfolding(crate::specs::Inner::Steps::state_right))]
 fn state_right(states: &[u16], v: usize, bound: u16) -> bool
     requires { v < length states.now }
     ensures { result ≡ state_right (λ u. get_or states.now u 0) bound v }
 {
-    if !is_higher(states, v) {
-        return false;
-    }
-    states[v] < bound
+    is_higher(states, v) && states[v] < bound
 }
 
 fn is_rising(states: &[u16], count: usize, bound: u16) -> bool
     requires { count ≤ length states.now }
     ensures { result ≡ all (state_right (λ u. get_or states.now u 0) bound) count }
 {
-    let mut v: usize = 0;
-    while v < count {
-        if !state_right(states, v, bound) {
-            return false;
-        }
-        v += 1;
-    }
-    true
+    (0..count).all(|v| state_right(states, v, bound))
 }
 
 // Whether the end states ascend strictly and are below S.
+#[tactic(auto, using(crate::proofs::Seen::near_of))]
 pub fn states_right(l: &[u16], at: View) -> bool
     requires { Laid l.now at }
     ensures { result ≡ states_right l.now }
@@ -51,8 +41,6 @@ pub fn states_right(l: &[u16], at: View) -> bool
     let roots = at.roots;
     let goals = at.goals;
     let states = number(l, 2);
-    if !is_rising(&l[roots..], wide(number(l, 3)), states) {
-        return false;
-    }
-    is_rising(&l[goals..], wide(number(l, 3 + at.n)), states)
+    is_rising(&l[roots..], usize::from(number(l, 3)), states)
+        && is_rising(&l[goals..], usize::from(number(l, 3 + at.n)), states)
 }

@@ -12,6 +12,7 @@ use lib.Dec.{eqb, ltb}
 use lib.ListN.{length, get_or, drop, set, length-set, length-drop, replicate, length-replicate, get_or-replicate}
 use lib.Seq.{get_or-set_same, get_or-set_other}
 use borrow.Author.Tests.{lt-ltb, le-ltb, not-true, not-false, ltb-false}
+use Rattle.std.specs.Prelude.{Option, Some, None}
 use Rattle.trellis.specs.Bounds.{most_sections}
 use Rattle.trellis.specs.Lists.{first, within}
 use Rattle.trellis.specs.Layout.{roots_place, goals_place, pairs_place, symbols_place, section_length}
@@ -22,19 +23,17 @@ use Rattle.section_file.specs.Usable.{usable}
 use Rattle.section_file.specs.Inner.View.{view_of}
 use Rattle.section_file.specs.declared.View.{View}
 use Rattle.section_file.proofs.Usable.{usable_sound}
-use Rattle.usable.specs.declared.Part.{Part}
-use Rattle.usable.specs.declared.Part.TheVariants.{Usable, Unusable}
 use Rattle.usable.specs.Inner.Part.{part_of}
 use Rattle.sections.specs.Sections.{section_start, section_at, unusable, sections_bad, bad_section_of}
 use Rattle.sections.specs.Inner.Found.{SectionsFound, no_view, view_in, Looked}
 
 -- ---- the view that was read
 
-pub view_read : (l : List ℕ) {p : Part} {at : View} → p ≡ part_of l → at ≡ view_in p → at ≡ cond (usable l) (view_of l) no_view
+pub view_read : (l : List ℕ) {p : Option View} {at : View} → p ≡ part_of l → at ≡ view_in p → at ≡ cond (usable l) (view_of l) no_view
 unfolding part_of
 view_read l e h = h ∙ ap view_in e ∙ go (usable l)
   where
-    go : (b : Bool) → view_in (cond b (Usable (view_of l)) Unusable) ≡ cond b (view_of l) no_view
+    go : (b : Bool) → view_in (cond b (Some (view_of l)) None) ≡ cond b (view_of l) no_view
     go true = refl
     go false = refl
 

@@ -11,7 +11,6 @@ ghost use Rattle.sections.specs.Inner.Found.{Looked, no_view, view_in};
 use numbers::is_within;
 use section_file::View;
 use trellis::MOST_SECTIONS;
-use usable::Part;
 
 // Whether there is a fault 8, with the number that document 01 returns; if there is none, the places where the K sections and what is
 // behind them begin, and their views.
@@ -39,12 +38,12 @@ fn no_view() -> View
     }
 }
 
-fn view_in(part: Part) -> View
+fn view_in(part: Option<View>) -> View
     ensures { result ≡ view_in part }
 {
     match part {
-        Part::Usable(view) => view,
-        Part::Unusable => no_view(),
+        Some(view) => view,
+        None => no_view(),
     }
 }
 

@@ -16,8 +16,10 @@ use borrow.Author.Tests.{eq-eqb, ne_eqb, eqb-true, eqb-false}
 use Rattle.trellis.specs.Bounds.{most_q, most_words}
 use Rattle.trellis.specs.Lists.{one_if, all, any}
 use Rattle.trellis.proofs.Bools.{clash}
-use Rattle.edges.specs.Inner.Edges.{EdgesSmall}
-use Rattle.edges.proofs.Tests.{all_of, all_fails, Passed, passed_start, passed_by, passed_all}
+use Rattle.edges.specs.declared.Edge.{Edge}
+use Rattle.edges.proofs.Reading.{EdgeSmall}
+use Rattle.edges.specs.Inner.Edges.{EdgesSmall, held_edge}
+use Rattle.edges.proofs.Tests.{all_of, all_same, all_fails, Passed, passed_start, passed_by, passed_all}
 use Rattle.twins.specs.Inner.Twins.{covered, apart, no_twins, turned_in, Marks}
 
 -- ---- met or not
@@ -64,37 +66,16 @@ marking_next {f} {count} {marks} {k} {v} m h v_is small = record {
 pub marking_all : {f : ℕ → ℕ} {count : ℕ} {marks : List ℕ} {k : ℕ} → Marking f count marks k → count ≤ k → Marks f count marks
 marking_all {f} {count} {marks} {k} m h = let e : k ≡ count = omega (arith, m.inside) in subst (λ j. Marks f j marks) e m.so_far
 
--- a vertex by its mark
-module _ {f : ℕ → ℕ} {count : ℕ} {marks : List ℕ} (m : Marks f count marks) where
-  pub unmet : (v : ℕ) → v < most_words → get_or marks v 0 ≡ 0 → any (λ k. eqb (f k) v) count ≡ false
-  unmet v h e = go (any (λ k. eqb (f k) v) count) (sym (m.marked v h) ∙ e)
-    where
-      go : (b : Bool) → one_if b ≡ 0 → b ≡ false
-      go true q = absurd (omega arith)
-      go false q = refl
-
-  pub met : (v : ℕ) → v < most_words → (get_or marks v 0 ≡ 0 → ⊥) → any (λ k. eqb (f k) v) count ≡ true
-  met v h e = go (any (λ k. eqb (f k) v) count) (λ q. e (m.marked v h ∙ q))
-    where
-      go : (b : Bool) → (one_if b ≡ 0 → ⊥) → b ≡ true
-      go true q = refl
-      go false q = absurd (q refl)
-
-pub covered_fails : {f : ℕ → ℕ} {count vertices : ℕ} {marks : List ℕ} {v : ℕ} → Marks f count marks → vertices ≤ most_words
-    → Passed (λ v. any (λ k. eqb (f k) v) count) vertices v → v < vertices → get_or marks v 0 ≡ 0 → false ≡ covered f count vertices
+-- a vertex is met if its mark is not 0
+pub covered_by : {f : ℕ → ℕ} {count vertices : ℕ} {marks : List ℕ} {r : Bool} → Marks f count marks → vertices ≤ most_words
+    → r ≡ all (λ v. not (eqb (get_or marks v 0) 0)) vertices → r ≡ covered f count vertices
 unfolding covered
-covered_fails {f} {count} {vertices} {marks} {v} m few p h e =
-    sym (all_fails (λ v. any (λ k. eqb (f k) v) count) vertices v h (unmet m v (omega arith) e))
-
-pub covered_next : {f : ℕ → ℕ} {count vertices : ℕ} {marks : List ℕ} {v : ℕ} → Marks f count marks → vertices ≤ most_words
-    → Passed (λ v. any (λ k. eqb (f k) v) count) vertices v → v < vertices → (get_or marks v 0 ≡ 0 → ⊥)
-    → Passed (λ v. any (λ k. eqb (f k) v) count) vertices (v + 1)
-covered_next {f} {count} {vertices} {marks} {v} m few p h e = passed_by p h (met m v (omega arith) e)
-
-pub covered_all : {f : ℕ → ℕ} {count vertices : ℕ} {marks : List ℕ} {v : ℕ} → Marks f count marks
-    → Passed (λ v. any (λ k. eqb (f k) v) count) vertices v → vertices ≤ v → true ≡ covered f count vertices
-unfolding covered
-covered_all m p h = passed_all p h
+covered_by {f} {count} {vertices} {marks} m few e =
+    e ∙ all_same _ _ vertices (λ v h. ap (λ x. not (eqb x 0)) (m.marked v (omega arith)) ∙ marked (any (λ k. eqb (f k) v) count))
+  where
+    marked : (b : Bool) → not (eqb (one_if b) 0) ≡ b
+    marked true = refl
+    marked false = refl
 
 -- ---- twins
 
@@ -126,6 +107,11 @@ small_of true s = record { ones = s.to_small; symbols = s.symbol_small; others =
 pub slot_small : {one symbol other : ℕ → ℕ} {count k slot : ℕ} → Small one symbol other count → k < count → slot ≡ most_q * one k + symbol k
     → slot < most_q * most_words
 slot_small {k = k} s h e = omega (arith, s.ones k h, s.symbols k h)
+
+-- the same of an edge that is read
+pub edge_small : {pairs symbols : List ℕ} {count k : ℕ} {e : Edge} (back : Bool) → EdgesSmall pairs symbols count → k < count
+    → e ≡ held_edge (turned_in back pairs symbols k) → EdgeSmall e
+edge_small {k = k} back s h d = let t = small_of back s in rw d (record { from_in = t.ones k h; symbol_in = t.symbols k h; to_in = t.others k h })
 
 module _ (one symbol other : ℕ → ℕ) where
   pub apart_of : (j k : ℕ) → (one j ≡ one k → symbol j ≡ symbol k → other j ≡ other k) → apart one symbol other j k ≡ true

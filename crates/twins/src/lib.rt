@@ -10,7 +10,6 @@ ghost use Rattle.edges.specs.Inner.Edges.{EdgesSmall, held_edge};
 ghost use Rattle.twins.specs.Inner.Twins.{covered, no_twins_of, turned_in, Marks};
 
 use edges::{Edge, edge_at};
-use numbers::wide;
 use trellis::{MOST_Q, MOST_WORDS};
 
 // Edge k, on the way back with from and to in each other's place.
@@ -19,28 +18,27 @@ pub fn edge_met(pairs: &[u16], symbols: &[u16], k: usize, back: bool) -> Edge
     ensures { result ≡ held_edge (turned_in back pairs.now symbols.now k) }
 {
     let e = edge_at(pairs, symbols, k);
-    if !back {
-        return e;
-    }
-    Edge {
-        from: e.to,
-        symbol: e.symbol,
-        to: e.from,
+    if back {
+        Edge {
+            from: e.to,
+            symbol: e.symbol,
+            to: e.from,
+        }
+    } else {
+        e
     }
 }
 
 // A mark for each vertex that an edge starts from.
+#[tactic(auto, using(crate::proofs::Marking::edge_small))]
 pub fn marks(pairs: &[u16], symbols: &[u16], count: usize, back: bool) -> [u8; MOST_WORDS]
     requires { EdgesSmall pairs.now symbols.now count }
     ensures { Marks (λ k. (turned_in back pairs.now symbols.now k).from) count result }
 {
     let mut marks = [0u8; MOST_WORDS];
-    let mut k: usize = 0;
-    while k < count {
+    for k in 0..count {
         let e = edge_met(pairs, symbols, k, back);
-        let v = e.from;
-        marks[v] = 1;
-        k += 1;
+        marks[e.from] = 1;
     }
     marks
 }
@@ -53,14 +51,7 @@ pub fn covers(pairs: &[u16], symbols: &[u16], count: usize, back: bool, vertices
     ensures { result ≡ covered (λ k. (turned_in back pairs.now symbols.now k).from) count vertices }
 {
     let marks = marks(pairs, symbols, count, back);
-    let mut v: usize = 0;
-    while v < vertices {
-        if marks[v] == 0 {
-            return false;
-        }
-        v += 1;
-    }
-    true
+    (0..vertices).all(|v| marks[v] != 0)
 }
 
 // Whether a vertex was seen before, and was another one. Seen is 0 where none was, and else one more than the vertex.
@@ -68,29 +59,25 @@ fn differs(seen: u16, vertex: usize) -> bool
     requires { vertex < most_words }
     ensures { result ≡ (not (eqb seen 0) && not (eqb seen (vertex + 1))) }
 {
-    if seen == 0 {
-        return false;
-    }
-    wide(seen) != vertex + 1
+    seen != 0 && usize::from(seen) != vertex + 1
 }
 
 // Whether edges that share a symbol and the vertex that they start from share the vertex where they end. The array has a place for each
 // vertex and symbol, with the vertex that was seen at the other end.
 #[inline(never)]
+#[tactic(auto, using(crate::proofs::Marking::edge_small))]
 fn without_twins(pairs: &[u16], symbols: &[u16], count: usize, back: bool) -> bool
     requires { EdgesSmall pairs.now symbols.now count }
     ensures { result ≡ no_twins_of (turned_in back pairs.now symbols.now) count }
 {
     let mut seen = [0u16; MOST_Q * MOST_WORDS];
-    let mut k: usize = 0;
-    while k < count {
+    for k in 0..count {
         let e = edge_met(pairs, symbols, k, back);
         let slot = MOST_Q * e.from + e.symbol;
         if differs(seen[slot], e.to) {
             return false;
         }
         seen[slot] = (e.to + 1) as u16;
-        k += 1;
     }
     true
 }
@@ -100,8 +87,5 @@ pub fn twins_right(inner: bool, pairs: &[u16], symbols: &[u16], count: usize, ba
     requires { EdgesSmall pairs.now symbols.now count }
     ensures { result ≡ (not inner || no_twins_of (turned_in back pairs.now symbols.now) count) }
 {
-    if !inner {
-        return true;
-    }
-    without_twins(pairs, symbols, count, back)
+    !inner || without_twins(pairs, symbols, count, back)
 }

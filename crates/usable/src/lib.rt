@@ -13,20 +13,14 @@ ghost use Rattle.usable.specs.Inner.Steps.{edges_right, StepThere};
 ghost use Rattle.usable.specs.Inner.Part.{part_of};
 
 use edges::{all_above, all_inside};
-use numbers::{number, wide};
+use numbers::number;
 use section_file::states::states_right;
 use section_file::{View, counts_right, sizes_right, view_of};
 use twins::{covers, twins_right};
 
-// What stands at a place of a slice: a usable section, of which this is the view, or none.
-#[derive(Clone, Copy)]
-pub enum Part {
-    Usable(View),
-    Unusable,
-}
-
 // The edges of one step. That they are within bounds is checked first: their vertices and symbols are places in the arrays of marks.
 // Twins are looked for at the depth that the step reaches and at the depth that it leaves, where these are inner ones.
+#[tactic(auto, unfolding(crate::specs::Inner::Steps::edges_right), using(crate::proofs::Steps::small_edges))]
 fn edges_right(
     pairs: &[u16],
     symbols: &[u16],
@@ -40,40 +34,31 @@ fn edges_right(
     requires { StepThere pairs.now symbols.now count q froms tos }
     ensures { result ≡ edges_right (edge_in pairs.now symbols.now) count q froms tos reached left }
 {
-    if !all_inside(pairs, symbols, count, q, froms, tos) {
-        return false;
-    }
-    if !all_above(pairs, symbols, count) {
-        return false;
-    }
-    if !covers(pairs, symbols, count, false, froms) {
-        return false;
-    }
-    if !covers(pairs, symbols, count, true, tos) {
-        return false;
-    }
-    if !twins_right(reached, pairs, symbols, count, false) {
-        return false;
-    }
-    twins_right(left, pairs, symbols, count, true)
+    all_inside(pairs, symbols, count, q, froms, tos)
+        && all_above(pairs, symbols, count)
+        && covers(pairs, symbols, count, false, froms)
+        && covers(pairs, symbols, count, true, tos)
+        && twins_right(reached, pairs, symbols, count, false)
+        && twins_right(left, pairs, symbols, count, true)
 }
 
 // One step, whose edges stand behind those of the steps before it.
+#[tactic(auto, using(crate::proofs::Steps::step_places))]
 fn step_right(l: &[u16], at: View, t: usize, before: usize) -> bool
     requires { Laid l.now at × (t < at.n) × (before ≡ edges_before l.now t) }
     ensures { result ≡ step_right l.now t }
 {
     let n = at.n;
-    let count = wide(number(l, 4 + n + t));
-    let froms = wide(number(l, 3 + t));
-    let tos = wide(number(l, 3 + (t + 1)));
+    let count = usize::from(number(l, 4 + n + t));
+    let froms = usize::from(number(l, 3 + t));
+    let tos = usize::from(number(l, 3 + (t + 1)));
     let pairs = at.pairs + 2 * before;
     let symbols = at.symbols + before;
     edges_right(
         &l[pairs..],
         &l[symbols..],
         count,
-        wide(at.q),
+        usize::from(at.q),
         froms,
         tos,
         t + 1 < n,
@@ -81,56 +66,52 @@ fn step_right(l: &[u16], at: View, t: usize, before: usize) -> bool
     )
 }
 
+#[tactic(auto, using(section_file::proofs::Seen::near_of))]
 fn steps_right(l: &[u16], at: View) -> bool
     requires { Laid l.now at }
     ensures { result ≡ all (step_right l.now) at.n }
 {
     let n = at.n;
     let mut before: usize = 0;
-    let mut t: usize = 0;
-    while t < n {
+    for t in 0..n {
         if !step_right(l, at, t, before) {
             return false;
         }
-        before += wide(number(l, 4 + n + t));
-        t += 1;
+        before += usize::from(number(l, 4 + n + t));
     }
     true
 }
 
 // The section at the front of the slice. Sizes and counts are checked first: where the other numbers stand follows from them.
-fn front_part(l: &[u16]) -> Part
+fn front_part(l: &[u16]) -> Option<View>
     ensures { result ≡ part_of l.now }
 {
     if !sizes_right(l) {
-        return Part::Unusable;
+        return None;
     }
-    let n = wide(number(l, 1));
+    let n = usize::from(number(l, 1));
     if !counts_right(l, n) {
-        return Part::Unusable;
+        return None;
     }
     let at = view_of(l, n);
     if l.len() < at.end {
-        return Part::Unusable;
+        return None;
     }
     if !states_right(l, at) {
-        return Part::Unusable;
+        return None;
     }
     if !steps_right(l, at) {
-        return Part::Unusable;
+        return None;
     }
-    Part::Usable(at)
+    Some(at)
 }
 
 // Whether the section that starts at a place of the slice is usable, and if so its view, whose places count from there. For every slice and
 // every place the answer is the definition's: usable exactly if document 01's conditions hold of the numbers from that place on, with the
 // sizes and places that the section's own counts give. A section that is cut short is unusable, and so is one that would start past the end
 // of the slice. Nothing is written.
-pub fn usable_at(s: &[u16], at: usize) -> Part
+pub fn usable_at(s: &[u16], at: usize) -> Option<View>
     ensures { result ≡ part_of (drop at s.now) }
 {
-    if s.len() < at {
-        return Part::Unusable;
-    }
-    front_part(&s[at..])
+    front_part(s.get(at..)?)
 }

@@ -1,6 +1,6 @@
 -- A usable section as reading back meets it: what the edges of a step are where the code reads them, and the section that a list is. Edges
 -- of a step ascend, so the vertices where they start do not fall.
-use mathlib.Core.Path.{◌≡◌, refl, sym, ap, ◌∙◌}
+use mathlib.Core.Path.{◌≡◌, refl, ap, ◌∙◌}
 use mathlib.Core.Bool.{Bool, true, false, cond, ◌&&◌}
 use mathlib.Core.List.{List}
 use Prim.Native.Nat.{ℕ, ◌+◌, ◌-◌, ◌*◌, ◌≤◌, ◌<◌}
@@ -9,7 +9,6 @@ use native.Mathlib.Nat.{add-zero, le_of_eq}
 use native.Mathlib.Decide.{ℕ_discrete}
 use lib.ListN.{length, take, drop}
 use lib.Dec.{eqb}
-use borrow.Author.Tests.{eq-eqb, ne_eqb}
 use Rattle.trellis.specs.Lists.{run, by_first, by_second, by_third}
 use Rattle.trellis.specs.Own.{Edge}
 use Rattle.trellis.specs.Layout.{n_of, edge_count_of, edges_before, pairs_place, symbols_place, section_length, edge_number, step_edges}
@@ -22,7 +21,10 @@ use Rattle.section_file.specs.declared.View.{View}
 use Rattle.section_file.proofs.Usable.{usable_sound}
 use Rattle.section_file.proofs.Seen.{viewed, edges_from, step_edge_lem, step_small}
 use Rattle.usable.specs.Inner.Part.{part_of}
-use Rattle.usable.specs.declared.Part.TheVariants.{Usable, Unusable}
+use mathlib.Core.Path.{ap₂}
+use Rattle.std.specs.Option.{MatchOption}
+use Rattle.std.specs.Bool.{then_some}
+use Rattle.std.specs.Prelude.{Option, Some, None}
 use Rattle.whole_section.specs.Inner.Whole.{whole_part}
 use Rattle.whole_section.specs.Inner.StepAt.{StepEdges}
 use Rattle.whole_section.proofs.Lists.{run_shift}
@@ -68,55 +70,48 @@ module _ (s : List ℕ) where
     pub seen : Seen s at
     pub is_section_lem : is_section s ≡ true
 
-  pub whole_filled : {at : View} → Usable at ≡ whole_part s → Filled at
+  pub whole_filled : {at : View} → Some at ≡ whole_part s → Filled at
   unfolding is_section whole_part
   whole_filled {at} e = go (is_section s) refl e
     where
-      go : (b : Bool) → is_section s ≡ b → Usable at ≡ cond b (Usable (view_of s)) Unusable → Filled at
+      go : (b : Bool) → is_section s ≡ b → Some at ≡ cond b (Some (view_of s)) None → Filled at
       go true t q = record {
         seen = record { sound = usable_sound s (left_true (usable s) _ t); is = cc };
         is_section_lem = t;
       }
       go false t q = absurd (let z : ◌≡◌ {A = ℕ} 0 1 = cc in omega arith)
 
-  pub whole_none : Unusable ≡ whole_part s → is_section s ≡ false
+  pub whole_none : None ≡ whole_part s → is_section s ≡ false
   unfolding is_section whole_part
   whole_none e = go (is_section s) e
     where
-      go : (b : Bool) → Unusable ≡ cond b (Usable (view_of s)) Unusable → b ≡ false
+      go : (b : Bool) → None ≡ cond b (Some (view_of s)) None → b ≡ false
       go true q = absurd (let z : ◌≡◌ {A = ℕ} 0 1 = cc in omega arith)
       go false q = refl
 
-  -- by the length of the part
-  part_usable : {at : View} → Usable at ≡ part_of (drop 0 s) → (usable s ≡ true) × (at ≡ view_of s)
-  unfolding part_of
-  part_usable {at} e = go (usable s) e
-    where
-      go : (b : Bool) → Usable at ≡ cond b (Usable (view_of s)) Unusable → (b ≡ true) × (at ≡ view_of s)
-      go true q = (refl, cc)
-      go false q = absurd (let z : ◌≡◌ {A = ℕ} 0 1 = cc in omega arith)
-
-  pub whole_usable : {at : View} → Usable at ≡ part_of (drop 0 s) → at.end ≡ length s → Usable at ≡ whole_part s
-  unfolding whole_part is_section
-  whole_usable {at} e h =
-      let u = part_usable e in
-      let a = u.0 in
-      let b = eq-eqb (section_length s) (length s) (sym (viewed u.1).end_is ∙ h) in
-      rw (a, b) (ap Usable u.1)
-
-  pub whole_longer : {at : View} → Usable at ≡ part_of (drop 0 s) → (at.end ≡ length s → ⊥) → Unusable ≡ whole_part s
-  unfolding whole_part is_section
-  whole_longer {at} e h =
-      let u = part_usable e in
-      let a = u.0 in
-      let b = ne_eqb (section_length s) (length s) (λ q. h ((viewed u.1).end_is ∙ q)) in
-      rw (a, b)
-
-  pub whole_unusable : Unusable ≡ part_of (drop 0 s) → Unusable ≡ whole_part s
+  -- by what the filter keeps: the view of a section that ends where the list does
+  pub whole_by_filter : {P : View → Bool → Type 0} {r : Option View} (found : Option View) → found ≡ part_of (drop 0 s)
+      → MatchOption found (r ≡ None) (λ x. (b : Bool) × P x b × (r ≡ then_some b x))
+      → ((x : View) (b : Bool) → P x b → b ≡ eqb x.end (length s)) → r ≡ whole_part s
   unfolding whole_part is_section part_of
-  whole_unusable e = go (usable s) e
+  whole_by_filter {P} {r} found e m k = go (usable s) found e m
     where
-      go : (b : Bool) → Unusable ≡ cond b (Usable (view_of s)) Unusable
-          → Unusable ≡ cond (b && eqb (section_length s) (length s)) (Usable (view_of s)) Unusable
-      go true q = absurd (let z : ◌≡◌ {A = ℕ} 0 1 = cc in omega arith)
-      go false q = refl
+      one : (b : Bool) → then_some b (view_of s) ≡ cond b (Some (view_of s)) None
+      one true = refl
+      one false = refl
+
+      same : (x : View) → Some x ≡ Some (view_of s) → x ≡ view_of s
+      same x e = cc
+
+      kept : (x : View) (b : Bool) → x ≡ view_of s → P x b → then_some b x ≡ cond (eqb (section_length s) (length s)) (Some (view_of s)) None
+      kept x b is p =
+          let ends : b ≡ eqb (section_length s) (length s) = k x b p ∙ ap (λ n. eqb n (length s)) (viewed is).end_is in
+          ap₂ (λ (t : Bool) (at : View). then_some t at) ends is ∙ one (eqb (section_length s) (length s))
+
+      go : (u : Bool) (found : Option View) → found ≡ cond u (Some (view_of s)) None
+          → MatchOption found (r ≡ None) (λ x. (b : Bool) × P x b × (r ≡ then_some b x))
+          → r ≡ cond (u && eqb (section_length s) (length s)) (Some (view_of s)) None
+      go true None e m = absurd (let z : ◌≡◌ {A = ℕ} 0 1 = cc in omega arith)
+      go false None e m = m
+      go true (Some x) e (b, p, q) = q ∙ kept x b (same x e) p
+      go false (Some x) e m = absurd (let z : ◌≡◌ {A = ℕ} 0 1 = cc in omega arith)

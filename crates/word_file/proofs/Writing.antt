@@ -56,11 +56,11 @@ pub pair_is : (goals : List ℕ) (c : ℕ) {r a v b : ℕ} → r ≡ code_root c
     → pair_of_code goals c ≡ a ∷ b ∷ []
 pair_is goals c p q r d = sym (ap₂ (λ a b. a ∷ b ∷ []) (q ∙ ap byte_of p) (d ∙ ap (λ v. byte_of (get_or goals v 0)) r))
 
-pub label_is : (c : ℕ) {x w a b : ℕ} → x ≡ code_label c → (w ≡ x) × (w < 65536) → a ≡ byte_of w → b ≡ byte_of (w / 256)
+pub label_is : (c : ℕ) {x w a b : ℕ} → x ≡ code_label c → w ≡ x → a ≡ byte_of w → b ≡ byte_of (w / 256)
     → label_of_code c ≡ a ∷ b ∷ []
 label_is c {x} {w} p u q d =
-    let e : w ≡ code_label c = u.0 ∙ p in
-    let small : byte_of (w / 256) ≡ w / 256 = mod-eq_of_lt (omega (arith, u.1)) in
+    let e : w ≡ code_label c = u ∙ p in
+    let small : byte_of (w / 256) ≡ w / 256 = mod-eq_of_lt (omega arith) in
     sym (ap₂ (λ a b. a ∷ b ∷ []) (q ∙ ap byte_of e) (d ∙ small ∙ ap (λ y. y / 256) e))
 
 pub sizes_put : (l : List ℕ) (s : List ℕ) (count : ℕ) {a b c d e : ℕ} → a ≡ byte_of (get_or s 0 0) → b ≡ byte_of (get_or s 1 0)

@@ -9,7 +9,7 @@ ghost use Rattle.trellis.specs.Inner.Write.{Wrote};
 ghost use Rattle.word_file.specs.Inner.Written.{byte_of, pair_of_code, label_of_code, file_of_codes};
 
 use codes::{label_of, root_of, vertex_of};
-use numbers::{number, wide};
+use numbers::number;
 use trellis::MOST_WORDS;
 
 fn byte(x: usize) -> u8
@@ -22,7 +22,7 @@ fn byte(x: usize) -> u8
 fn byte_at(l: &[u16], i: usize) -> u8
     ensures { result ≡ byte_of (get_or l.now i 0) }
 {
-    byte(wide(number(l, i)))
+    byte(usize::from(number(l, i)))
 }
 
 fn put_sizes(s: &[u16], count: usize, file: &mut [u8])
@@ -43,13 +43,11 @@ fn put_pairs(goals: &[u16], codes: &[u32; MOST_WORDS], count: usize, file: &mut 
         file.new result }
 {
     let mut at: usize = 5;
-    let mut i: usize = 0;
-    while i < count {
+    for i in 0..count {
         let c = codes[i];
         file[at] = byte(root_of(c));
         file[at + 1] = byte_at(goals, vertex_of(c));
         at += 2;
-        i += 1;
     }
     at
 }
@@ -59,13 +57,11 @@ fn put_labels(codes: &[u32; MOST_WORDS], count: usize, start: usize, file: &mut 
     ensures { Wrote file.old start (flat_map label_of_code (take count codes.now)) file.new result }
 {
     let mut at = start;
-    let mut i: usize = 0;
-    while i < count {
-        let label = wide(label_of(codes[i]));
+    for i in 0..count {
+        let label = usize::from(label_of(codes[i]));
         file[at] = byte(label);
         file[at + 1] = byte(label / 256);
         at += 2;
-        i += 1;
     }
     at
 }

@@ -3,4 +3,4 @@ use Rattle.codes.proofs.Codes.{further_is}
 use Rattle.codes.proofs.further.Goals as goal
 
 pub returns : goal.returns
-returns c = further_is _ c.args.e c.label_of.ensures c.append.ensures c.wider-label.ensures
+returns c = further_is _ c.args.e c.label_of.ensures c.append-label.ensures c.from.ensures

@@ -1,6 +1,4 @@
--- `following::all_close` meets its contract. The loop's invariant: the edges passed leave the right vertices. The measure is
--- what is left of them.
-use Prim.Native.Nat.{◌-◌}
+-- `following::all_close` meets its contract. The loop's invariant: the edges passed leave the right vertices.
 use lib.ListN.{get_or}
 use Rattle.edges.specs.Inner.Edges.{edge_in}
 use Rattle.partners.specs.Inner.Following.{slot}
@@ -10,6 +8,3 @@ use Rattle.following.proofs.all_close.Given as goal
 abbrev pub invariant-loop-k : goal.invariant-loop-k
 invariant-loop-k l = Agreeing (λ k. get_or l.starts (slot (edge_in l.pairs l.symbols k).to (edge_in l.pairs l.symbols k).symbol) 0)
     (λ k. get_or l.matched (edge_in l.pairs l.symbols k).from 0) l.count l.k
-
-abbrev pub decreases-loop-k : goal.decreases-loop-k
-decreases-loop-k l = l.count - l.k

@@ -1,7 +1,7 @@
 -- `following::follow` meets its contract. The loop's invariant: the array has the partners of the vertices of depth t, and
--- the edges of the step behind it begin at two places. The measure is what is left of the steps.
-use borrow.Author.Rules.{Fits-under}
-use Rattle.whole_section.proofs.Places.{counts_near, count_near, twice_near, pairs_near, symbols_near, next_near, next_less}
+-- the edges of the step behind it begin at two places.
+use borrow.Author.Rules.{rules, Fits-under}
+use Rattle.whole_section.proofs.Places.{counts_near, count_near, twice_near, pairs_near, symbols_near}
 use Rattle.following.proofs.Depths.{roots_order, roots_few, depth_start, step_here, step_there, single, single_back, partners}
 use Rattle.following.proofs.Depths.{depth_stuck, depth_next, depth_last, before_last, last_step, next_inner, at_last, last_inner}
 use Rattle.following.proofs.Depths.{last_count}
@@ -46,12 +46,6 @@ overflow_add-symbols c =
     Fits-under _ _ 200000 (symbols_near c.requires.0.here c.loop-t.invariant.here (before_last c.loop-t-test.true)
     c.number.ensures c.wide-count.ensures) tt
 
-pub overflow_add-t : goal.overflow_add-t
-overflow_add-t c = Fits-under _ _ 21 (next_near c.requires.0.here (before_last c.loop-t-test.true)) tt
-
-pub loop-t-smaller : goal.loop-t-smaller
-loop-t-smaller c = next_less _ _ c.loop-t-test.true
-
 pub loop-t-preserved : goal.loop-t-preserved
 loop-t-preserved c =
     let B = c.requires.0 in
@@ -67,12 +61,12 @@ overflow_add-n-3 c = Fits-under _ _ 21 (count_near c.requires.0.here (last_step 
 pub match_last-requires : goal.match_last-requires
 match_last-requires c =
     let p = c.requires in let B = p.0 in let i = c.loop-t.invariant in
-    let y = last_count B i c.loop-t-test.false c.number-2.ensures in let n = c.wide-count-2.ensures in
-    (step_here B i y n, step_there B i y n, single_back B i y n (last_inner p.1 c.loop-t-test.false), partners B i y n)
+    let y = last_count B i (search rules) c.number-2.ensures in let n = c.wide-count-2.ensures in
+    (step_here B i y n, step_there B i y n, single_back B i y n (last_inner p.1 (search rules)), partners B i y n)
 
 pub returns : goal.returns
 returns c =
     let B = c.requires.0 in let i = c.loop-t.invariant in
-    depth_last B i (last_count B i c.loop-t-test.false c.number-2.ensures) c.wide-count-2.ensures
-    (at_last B i c.loop-t-test.false)
+    depth_last B i (last_count B i (search rules) c.number-2.ensures) c.wide-count-2.ensures
+    (at_last B i (search rules))
     c.match_last.ensures

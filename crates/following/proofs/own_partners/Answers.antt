@@ -1,6 +1,6 @@
--- `following::own_partners` meets its contract. The loop's invariant: the vertices passed have their own numbers. The measure
--- is what is left of them.
+-- `following::own_partners` meets its contract. The loop's invariant: the vertices passed have their own numbers.
 use mathlib.Core.Path.{refl}
+use borrow.Author.Rules.{rules}
 use Rattle.partners.proofs.Tests.{own_start, own_next, own_all}
 use Rattle.following.proofs.own_partners.Goals as goal
 
@@ -11,4 +11,4 @@ pub loop-v-preserved : goal.loop-v-preserved
 loop-v-preserved c = own_next c.loop-v.invariant c.loop-v-test.true
 
 pub returns : goal.returns
-returns c = own_all c.loop-v.invariant c.loop-v-test.false
+returns c = own_all c.loop-v.invariant (search rules)

@@ -1,8 +1,8 @@
 -- `gathering::gather` meets its contract. The loop's invariant: the array holds the beginnings up to depth t, and the edges that go on from
--- there begin at two places. The measure is what is left of the depths.
-use Rattle.whole_section.proofs.Places.{counts_near, count_near, step_at, twice_near, pairs_near, symbols_near, next_near, next_less}
+-- there begin at two places.
+use Rattle.whole_section.proofs.Places.{counts_near, count_near, step_at, twice_near, pairs_near, symbols_near}
 use Rattle.gathering.proofs.Depths.{roots_first, roots_level, depth_start, depth_next, depth_over, depth_all}
-use borrow.Author.Rules.{Fits-under}
+use borrow.Author.Rules.{rules, Fits-under}
 use Rattle.gathering.proofs.gather.Goals as goal
 
 pub overflow_sub-have : goal.overflow_sub-have
@@ -20,15 +20,15 @@ overflow_add-n c = Fits-under _ _ 13 (counts_near c.requires.0) tt
 pub overflow_add-n-in-loop-t : goal.overflow_add-n-in-loop-t
 overflow_add-n-in-loop-t c = Fits-under _ _ 21 (count_near c.requires.0 c.loop-t-test.true) tt
 
-pub grow_step-have-requires : goal.grow_step-have-requires
-grow_step-have-requires c =
+pub grow_step-requires : goal.grow_step-requires
+grow_step-requires c =
     let i = c.loop-t.invariant in
     (step_at c.requires.0 i.places c.loop-t-test.true c.number.ensures c.wide-count.ensures, i.room, i.long)
 
-pub returns-then-have-gt-MOST_WORDS : goal.returns-then-have-gt-MOST_WORDS
-returns-then-have-gt-MOST_WORDS c =
-    depth_over c.requires.0 c.loop-t.invariant c.loop-t-test.true c.number.ensures c.wide-count.ensures
-    c.grow_step-have.ensures c.if-have-gt-MOST_WORDS.true
+pub returns-in_err-have : goal.returns-in_err-have
+returns-in_err-have c =
+    rw c.from_residual.ensures (depth_over c.requires.0 c.loop-t.invariant c.loop-t-test.true c.number.ensures c.wide-count.ensures
+    c.in_err-have.ensures)
 
 pub overflow_mul-pairs : goal.overflow_mul-pairs
 overflow_mul-pairs c = Fits-under _ _ 200000 (twice_near _ c.wide-count.ensures.1) tt
@@ -43,16 +43,10 @@ overflow_add-symbols c =
     Fits-under _ _ 200000 (symbols_near c.requires.0 c.loop-t.invariant.places c.loop-t-test.true c.number.ensures
     c.wide-count.ensures) tt
 
-pub overflow_add-t : goal.overflow_add-t
-overflow_add-t c = Fits-under _ _ 21 (next_near c.requires.0 c.loop-t-test.true) tt
-
-pub loop-t-smaller : goal.loop-t-smaller
-loop-t-smaller c = next_less _ _ c.loop-t-test.true
-
 pub loop-t-preserved : goal.loop-t-preserved
 loop-t-preserved c =
     depth_next c.requires.0 c.loop-t.invariant c.loop-t-test.true c.number.ensures c.wide-count.ensures
-    c.grow_step-have.ensures c.if-have-gt-MOST_WORDS.false
+    c.in_ok-have.ensures
 
 pub returns : goal.returns
-returns c = depth_all c.requires.0 c.loop-t.invariant c.loop-t-test.false
+returns c = depth_all c.requires.0 c.loop-t.invariant (search rules)

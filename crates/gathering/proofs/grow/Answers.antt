@@ -1,5 +1,4 @@
--- `gathering::grow` meets its contract. The loop's invariant: the beginnings passed are put one step further. The measure is what is left
--- of them.
+-- `gathering::grow` meets its contract. The loop's invariant: the beginnings passed are put one step further.
 use native.Mathlib.Omega.{arith}
 use Rattle.gathering.proofs.Growing.{begins_of, growing_start, growing_next, growing_over, growing_all}
 use borrow.Author.Rules.{rules}
@@ -11,19 +10,20 @@ loop-i-init c = growing_start (search rules)
 pub bounds-starts-vertex_of : goal.bounds-starts-vertex_of
 bounds-starts-vertex_of c = omega (arith, c.vertex_of.ensures)
 
-pub grow_one-made-requires : goal.grow_one-made-requires
-grow_one-made-requires c = (
+pub grow_one-requires : goal.grow_one-requires
+grow_one-requires c = (
   search rules,
-  begins_of _ c.starts_of-starts.ensures c.vertex_of.ensures c.wide-start.ensures,
+  begins_of _ c.starts_of-starts.ensures c.vertex_of.ensures c.from-start.ensures,
   c.loop-i.invariant.room,
   c.loop-i.invariant.long,
 )
 
-pub returns-then-made-gt-MOST_WORDS : goal.returns-then-made-gt-MOST_WORDS
-returns-then-made-gt-MOST_WORDS c = growing_over c.loop-i.invariant c.loop-i-test.true (search rules) c.grow_one-made.ensures c.if-made-gt-MOST_WORDS.true
+pub returns-in_err-made : goal.returns-in_err-made
+returns-in_err-made c =
+    rw c.from_residual.ensures (growing_over c.loop-i.invariant c.loop-i-test.true (search rules) c.in_err-made.ensures)
 
 pub loop-i-preserved : goal.loop-i-preserved
-loop-i-preserved c = growing_next c.loop-i.invariant c.loop-i-test.true (search rules) c.grow_one-made.ensures c.if-made-gt-MOST_WORDS.false
+loop-i-preserved c = growing_next c.loop-i.invariant c.loop-i-test.true (search rules) c.in_ok-made.ensures
 
 pub returns : goal.returns
 returns c = growing_all c.loop-i.invariant (search rules)

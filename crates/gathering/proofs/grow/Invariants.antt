@@ -1,6 +1,4 @@
--- `gathering::grow` meets its contract. The loop's invariant: the beginnings passed are put one step further. The measure is what is left
--- of them.
-use Prim.Native.Nat.{◌-◌}
+-- `gathering::grow` meets its contract. The loop's invariant: the beginnings passed are put one step further.
 use Rattle.trellis.specs.Lists.{run}
 use Rattle.edges.specs.Inner.Edges.{edge_in}
 use Rattle.codes.specs.Inner.Codes.{grown_codes}
@@ -9,6 +7,3 @@ use Rattle.gathering.proofs.grow.Given as goal
 
 abbrev pub invariant-loop-i : goal.invariant-loop-i
 invariant-loop-i l = Growing (grown_codes (run (edge_in l.pairs l.symbols) 0 l.count)) l.old l.have l.codes l.made l.i
-
-abbrev pub decreases-loop-i : goal.decreases-loop-i
-decreases-loop-i l = l.have - l.i

@@ -1,5 +1,5 @@
 -- `gathering::grow_one` meets its contract. The loop's invariant: what is filled, and the edges of the vertex from k on, are all that is to
--- be put there. The measure is what is left of the edges.
+-- be put there.
 use mathlib.Core.Path.{sym, ap, ◌∙◌}
 use native.Mathlib.Omega.{arith}
 use Rattle.edges.specs.declared.Edge.{Edge}

@@ -1,10 +1,7 @@
--- `gathering::starts_of` meets its contract. The loop's invariant: the edges from k on are noted. The measure is k.
+-- `gathering::starts_of` meets its contract. The loop's invariant: the edges from k on are noted.
 use Rattle.edges.specs.Inner.Edges.{edge_in}
 use Rattle.gathering.proofs.Growing.{Noted}
 use Rattle.gathering.proofs.starts_of.Given as goal
 
 abbrev pub invariant-loop-k : goal.invariant-loop-k
 invariant-loop-k l = Noted (edge_in l.pairs l.symbols) l.count l.starts l.k
-
-abbrev pub decreases-loop-k : goal.decreases-loop-k
-decreases-loop-k l = l.k

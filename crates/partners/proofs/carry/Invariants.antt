@@ -1,12 +1,8 @@
 -- `partners::carry` meets its contract. The loop's invariant: each vertex that an edge passed has reached has the partner
--- that the edge gives it, and all others have none. The measure is what is left of the edges.
-use Prim.Native.Nat.{◌-◌}
+-- that the edge gives it, and all others have none.
 use Rattle.edges.specs.Inner.Edges.{edge_in}
 use Rattle.partners.proofs.Carrying.{Carried}
 use Rattle.partners.proofs.carry.Given as goal
 
 abbrev pub invariant-loop-k : goal.invariant-loop-k
 invariant-loop-k l = Carried (edge_in l.pairs l.symbols) l.count l.ends l.old l.new l.k
-
-abbrev pub decreases-loop-k : goal.decreases-loop-k
-decreases-loop-k l = l.count - l.k

@@ -6,4 +6,4 @@ use Rattle.partners.proofs.end_for.Goals as goal
 pub returns : goal.returns
 returns c =
     let a = c.args in
-    end_read a.ends.now a.matched.now a.e.from a.e.symbol c.wide.ensures.0 refl
+    end_read a.ends.now a.matched.now a.e.from a.e.symbol c.from-partner.ensures refl

@@ -1,16 +1,13 @@
--- `same_section::alike` meets its contract. The loop's invariant: the numbers passed are the same. The measure is what is left of them.
-use Rattle.partners.proofs.Tests.{agree_start, agree_not, agree_next, agree_all}
+-- `same_section::alike` meets its contract: each call of the closure answers whether the two numbers at one place are the same.
+use mathlib.Core.Path.{refl}
+use lib.Dec.{eqb}
+use lib.ListN.{get_or}
 use borrow.Author.Rules.{rules}
+use borrow.Author.Tests.{tests}
+use Rattle.edges.proofs.Ranges.{all_from_range}
 use Rattle.same_section.proofs.alike.Goals as goal
 
-pub loop-i-init : goal.loop-i-init
-loop-i-init c = agree_start
-
-pub returns-then-number : goal.returns-then-number
-returns-then-number c = agree_not c.loop-i.invariant c.loop-i-test.true c.number.ensures c.number-in-loop-i.ensures c.if-number.true
-
-pub loop-i-preserved : goal.loop-i-preserved
-loop-i-preserved c = agree_next c.loop-i.invariant c.loop-i-test.true c.number.ensures c.number-in-loop-i.ensures c.if-number.false
-
 pub returns : goal.returns
-returns c = agree_all c.loop-i.invariant (search rules)
+returns c =
+    all_from_range (λ i. eqb (get_or c.args.a.now i 0) (get_or c.args.b.now i 0)) _ _ _ c.all.ensures.ran refl
+    (λ x b q k. search (rules, tests))

@@ -1,5 +1,4 @@
 -- `same_section::same_code` meets its contract: each of its tests decides, by the laws of sections with the same code.
-use Rattle.partners.specs.Inner.Following.{BothSeen}
 use Rattle.same_section.proofs.Comparing.{followed_code}
 use Rattle.same_section.proofs.Answers.{front_differs, front_same, all_same, more_steps}
 use Rattle.same_section.proofs.same_code.Goals as goal
@@ -16,15 +15,13 @@ returns-then-at-eq1 c =
     c.if-at-eq1.true c.alike-then-at-eq1.ensures
 
 pub follow-requires : goal.follow-requires
-follow-requires c = (
-  (let known : let a = c.args in BothSeen a.a.now a.b.now a.at = let p = c.requires in
-      front_same c.args.a.now c.args.b.now p.0 p.1 p.2 c.alike.ensures c.if-not-alike.false in known),
-  more_steps ((let known : let a = c.args in BothSeen a.a.now a.b.now a.at = let p = c.requires in
-      front_same c.args.a.now c.args.b.now p.0 p.1 p.2 c.alike.ensures c.if-not-alike.false in known)).here c.if-at-eq1.false,
-)
+follow-requires c =
+    let p = c.requires in
+    let B = front_same c.args.a.now c.args.b.now p.0 p.1 p.2 c.alike.ensures c.if-not-alike.false in
+    (B, more_steps B.here c.if-at-eq1.false)
 
 pub returns : goal.returns
 returns c =
     let p = c.requires in
-    followed_code p.1 p.2 ((let known : let a = c.args in BothSeen a.a.now a.b.now a.at = let p = c.requires in
-    front_same c.args.a.now c.args.b.now p.0 p.1 p.2 c.alike.ensures c.if-not-alike.false in known)).front c.follow.ensures
+    let B = front_same c.args.a.now c.args.b.now p.0 p.1 p.2 c.alike.ensures c.if-not-alike.false in
+    followed_code p.1 p.2 B.front c.follow.ensures

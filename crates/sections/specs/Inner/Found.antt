@@ -1,20 +1,18 @@
 -- What looking for the sections leaves, over raw lists and numbers.
-use Rattle.std.specs.Prelude.{◌≡◌, Bool, true, false, List, ℕ, suc, ◌≤◌, ◌<◌, length, get_or}
+use Rattle.std.specs.Prelude.{◌≡◌, Bool, true, false, List, ℕ, suc, ◌≤◌, ◌<◌, length, get_or, Option, Some, None}
 use Rattle.trellis.specs.Bounds.{most_sections}
 use Rattle.section_file.specs.Usable.{usable}
 use Rattle.section_file.specs.Inner.View.{view_of}
 use Rattle.section_file.specs.declared.View.{View}
-use Rattle.usable.specs.declared.Part.{Part}
-use Rattle.usable.specs.declared.Part.TheVariants.{Usable, Unusable}
 use Rattle.sections.specs.Sections.{section_start, section_at, sections_bad, bad_section_of}
 
 -- the view of no section: its length is 0
 abbrev pub no_view : View
 no_view = record { q = 0; n = 0; roots = 0; goals = 0; pairs = 0; symbols = 0; edges = 0; end = 0 }
 
-abbrev pub view_in : Part → View
-view_in (Usable view) = view
-view_in Unusable = no_view
+abbrev pub view_in : Option View → View
+view_in (Some view) = view
+view_in None = no_view
 
 -- the first i sections are usable, and their views and the places where they and the next one begin are known
 pub record SectionsFound (sections starts : List ℕ) (views : List View) (i : ℕ) : Type 0 where

@@ -1,7 +1,5 @@
 -- `twins::marks` meets its contract. The loop's invariant: just the vertices passed are marked.
--- The measure is what is left of the edges.
 use mathlib.Core.Path.{refl, ap}
-use native.Mathlib.Omega.{arith}
 use Rattle.edges.specs.declared.Edge.{Edge}
 use Rattle.twins.proofs.Marking.{small_of, marking_start, marking_next, marking_all}
 use borrow.Author.Rules.{rules}
@@ -9,11 +7,6 @@ use Rattle.twins.proofs.marks.Goals as goal
 
 pub loop-k-init : goal.loop-k-init
 loop-k-init c = marking_start _ _ refl
-
-pub bounds-marks-v : goal.bounds-marks-v
-bounds-marks-v c =
-    let e = ap (λ (e : Edge). e.from) c.edge_met-e.ensures in
-    omega (arith, (small_of c.args.back c.requires).ones _ c.loop-k-test.true, c.loop-k.invariant.so_far.long)
 
 pub loop-k-preserved : goal.loop-k-preserved
 loop-k-preserved c =

@@ -1,12 +1,7 @@
 -- `twins::marks` meets its contract. The loop's invariant: just the vertices passed are marked.
--- The measure is what is left of the edges.
-use Prim.Native.Nat.{◌-◌}
 use Rattle.twins.specs.Inner.Twins.{turned_in}
 use Rattle.twins.proofs.Marking.{Marking}
 use Rattle.twins.proofs.marks.Given as goal
 
 abbrev pub invariant-loop-k : goal.invariant-loop-k
 invariant-loop-k l = Marking (λ k. (turned_in l.back l.pairs l.symbols k).from) l.count l.marks l.k
-
-abbrev pub decreases-loop-k : goal.decreases-loop-k
-decreases-loop-k l = l.count - l.k

@@ -1,6 +1,5 @@
 -- `twins::without_twins` meets its contract. The loop's invariant: no two edges passed make twins, and for each vertex and
--- symbol that they have the array has their one vertex at the other end. The measure is what is left of them.
-use Prim.Native.Nat.{◌-◌}
+-- symbol that they have the array has their one vertex at the other end.
 use Rattle.twins.specs.Inner.Twins.{turned_in}
 use Rattle.twins.proofs.Marking.{Apart}
 use Rattle.twins.proofs.without_twins.Given as goal
@@ -8,6 +7,3 @@ use Rattle.twins.proofs.without_twins.Given as goal
 abbrev pub invariant-loop-k : goal.invariant-loop-k
 invariant-loop-k l = Apart (λ k. (turned_in l.back l.pairs l.symbols k).from) (λ k. (turned_in l.back l.pairs l.symbols k).symbol) (λ k. (turned_in l.back l.pairs l.symbols k).to)
     l.count l.seen l.k
-
-abbrev pub decreases-loop-k : goal.decreases-loop-k
-decreases-loop-k l = l.count - l.k

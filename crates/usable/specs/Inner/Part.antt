@@ -1,10 +1,9 @@
 -- The part of a slice that a usable section takes up.
-use Rattle.std.specs.Prelude.{cond, List, ℕ}
+use Rattle.std.specs.Prelude.{cond, List, ℕ, Option, Some, None}
 use Rattle.section_file.specs.Usable.{usable}
 use Rattle.section_file.specs.Inner.View.{view_of}
-use Rattle.usable.specs.declared.Part.{Part}
-use Rattle.usable.specs.declared.Part.TheVariants.{Usable, Unusable}
+use Rattle.section_file.specs.declared.View.{View}
 
--- the section at the front of a list: usable, with its view, or not
-unfoldable pub part_of : List ℕ → Part
-part_of l = cond (usable l) (Usable (view_of l)) Unusable
+-- the view of the section at the front of a list, if it is usable
+unfoldable pub part_of : List ℕ → Option View
+part_of l = cond (usable l) (Some (view_of l)) None

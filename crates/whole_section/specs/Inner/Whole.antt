@@ -1,9 +1,8 @@
 -- The section that a list is: usable, with its view and no numbers left over.
-use Rattle.std.specs.Prelude.{cond, List, ℕ}
+use Rattle.std.specs.Prelude.{cond, List, ℕ, Option, Some, None}
 use Rattle.section_file.specs.Inner.View.{view_of}
 use Rattle.section_file.specs.Usable.{is_section}
-use Rattle.usable.specs.declared.Part.{Part}
-use Rattle.usable.specs.declared.Part.TheVariants.{Usable, Unusable}
+use Rattle.section_file.specs.declared.View.{View}
 
-unfoldable pub whole_part : List ℕ → Part
-whole_part s = cond (is_section s) (Usable (view_of s)) Unusable
+unfoldable pub whole_part : List ℕ → Option View
+whole_part s = cond (is_section s) (Some (view_of s)) None

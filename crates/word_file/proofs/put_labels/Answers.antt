@@ -1,4 +1,4 @@
--- `word_file::put_labels` meets its contract. The loop's invariant: the labels passed are written. The measure is what is left of them.
+-- `word_file::put_labels` meets its contract. The loop's invariant: the labels passed are written.
 use native.Mathlib.Omega.{arith}
 use lib.ListN.{length-set}
 use Rattle.word_file.proofs.Writing.{pieces_start, label_is, pieces_next, pieces_all}
@@ -14,7 +14,7 @@ bounds-file-at-in-loop-i c = simp length-set (omega arith)
 pub loop-i-preserved : goal.loop-i-preserved
 loop-i-preserved c =
     pieces_next c.loop-i.invariant c.loop-i-test.true (search rules)
-    (label_is _ c.label_of.ensures c.wide-label.ensures c.byte.ensures c.byte-in-loop-i.ensures)
+    (label_is _ c.label_of.ensures c.from-label.ensures c.byte.ensures c.byte-in-loop-i.ensures)
 
 pub returns : goal.returns
 returns c = pieces_all c.loop-i.invariant (search rules)

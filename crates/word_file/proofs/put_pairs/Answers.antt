@@ -1,4 +1,4 @@
--- `word_file::put_pairs` meets its contract. The loop's invariant: the pairs passed are written. The measure is what is left of them.
+-- `word_file::put_pairs` meets its contract. The loop's invariant: the pairs passed are written.
 use native.Mathlib.Omega.{arith}
 use lib.ListN.{length-set}
 use Rattle.word_file.proofs.Writing.{pieces_start, pair_is, pieces_next, pieces_all}
