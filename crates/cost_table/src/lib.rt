@@ -66,9 +66,7 @@ pub fn fill(
     let mut prices = [0u64; MOST_Q * MOST_SYMBOLS];
     let mut even = [0u64; MOST_WORDS];
     let mut odd = [0u64; MOST_WORDS];
-    let mut b = indices.len();
-    while b > 0 {
-        b -= 1;
+    for b in (0..indices.len()).rev() {
         let i = widened(indices[b]);
         let at = views[i];
         let start = starts[i];

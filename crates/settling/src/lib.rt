@@ -24,11 +24,9 @@ fn settle_roots(l: &[u16], behind: &[u32; GOALS], row: &mut [u32])
 {
     let roots = 4 + 2 * wide(l[1]);
     let count = wide(l[3]);
-    let mut v: usize = 0;
-    while v < count {
+    for v in 0..count {
         let s = wide(l[roots + v]);
         row[s] = settled(row[s], behind);
-        v += 1;
     }
 }
 
@@ -65,9 +63,7 @@ pub fn settle(
 {
     let mut behind = [NO_PATH; GOALS];
     copy_row(&ends, &mut behind);
-    let mut b = indices.len();
-    while b > 0 {
-        b -= 1;
+    for b in (0..indices.len()).rev() {
         let i = widened(indices[b]);
         let start = starts[i];
         let row = COSTS_A_BLOCK * b;

@@ -1,5 +1,5 @@
 -- `cost_table::fill` passes the blocks from the last to the first. The loop's invariant: what is left to pay and the notes are those of the
--- chain from block b on. The measure is b.
+-- chain from block b on.
 use borrow.Author.Rules.{rules}
 use native.Mathlib.Omega.{arith}
 use lib.ListN.{length-take, length-drop}
@@ -101,9 +101,6 @@ fill_block-requires c =
       simp (length-take, length-drop) (omega (arith, row_inside I.b_le h I.long c.requires.2)),
       I.working,
     )
-
-pub loop-b-smaller : goal.loop-b-smaller
-loop-b-smaller c = omega (arith, c.loop-b-test.true)
 
 pub loop-b-preserved : goal.loop-b-preserved
 loop-b-preserved c =

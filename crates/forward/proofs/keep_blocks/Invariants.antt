@@ -12,6 +12,3 @@ use Rattle.forward.proofs.keep_blocks.Given as goal
 abbrev pub invariant-loop-b : goal.invariant-loop-b
 invariant-loop-b l = KeptAt (frame l.sections 0 l.indices l.received l.erased l.start l.end) l.k l.b l.grown.count l.slots l.back
     × (l.grown.limit < unreached) × Workspace l.prices l.even l.odd l.rows l.items
-
-abbrev pub decreases-loop-b : goal.decreases-loop-b
-decreases-loop-b l = length l.indices - l.b

@@ -1,5 +1,5 @@
 -- `settling::settle` goes from the last block to the first. The loop's invariant: from block b on the table has its costs, before it the
--- notes are still there, and the costs behind are at hand. The measure is b.
+-- notes are still there, and the costs behind are at hand.
 use borrow.Author.Rules.{rules}
 use mathlib.Core.Path.{refl}
 use native.Mathlib.Omega.{arith}
@@ -76,9 +76,6 @@ settle_block-requires c =
       row_fits c.loop-b.invariant c.loop-b-test.true S.long S.chain S.blocks_is S.cheap
           (last_is S.blocks_is S.ends_as c.copy_row.ensures) S.noted,
     )
-
-pub loop-b-smaller : goal.loop-b-smaller
-loop-b-smaller c = omega (arith, c.loop-b-test.true)
 
 pub loop-b-preserved : goal.loop-b-preserved
 loop-b-preserved c =

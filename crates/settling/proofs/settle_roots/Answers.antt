@@ -1,5 +1,5 @@
 -- `settling::settle_roots` goes over the roots. The loop's invariant: the roots passed have their costs, and the other states what they
--- had; and the roots stand where they were looked for. The measure is how many roots are left.
+-- had; and the roots stand where they were looked for.
 use borrow.Author.Rules.{rules}
 use Rattle.settling.proofs.Settling.{counts_there, roots_read, roots_start, state_lt, still_fits, roots_more, roots_end}
 use Rattle.settling.proofs.settle_roots.Goals as goal
