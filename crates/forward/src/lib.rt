@@ -97,8 +97,7 @@ pub fn keep_blocks(
     let mut items = [0u64; MOST_PATHS];
     let limit = NONE_ABOVE;
     let mut grown = Grown { count: 1, limit };
-    let mut b: usize = 0;
-    while b < indices.len() {
+    for b in 0..indices.len() {
         let i = widened(indices[b]);
         let at = views[i];
         let first = starts[i];
@@ -123,7 +122,6 @@ pub fn keep_blocks(
             &mut rows,
             &mut items,
         );
-        b += 1;
     }
     grown.count
 }
