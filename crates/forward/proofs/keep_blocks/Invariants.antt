@@ -1,8 +1,6 @@
 -- `forward::keep_blocks` puts the first beginning into the first slot and takes the slots through block after block. The loop's invariant:
--- they are what is kept in front of block b, the limit is below the cost of no path, and the working room is there. The measure is how many
--- blocks are left.
-use Prim.Native.Nat.{◌-◌, ◌<◌}
-use lib.ListN.{length}
+-- they are what is kept in front of block b, the limit is below the cost of no path, and the working room is there.
+use Prim.Native.Nat.{◌<◌}
 use Rattle.paths.specs.Chain.{unreached}
 use Rattle.frame.specs.Frame.{frame}
 use Rattle.forward.specs.Inner.Blocks.{Workspace}
