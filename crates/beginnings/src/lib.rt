@@ -8,12 +8,11 @@ ghost use Rattle.trellis.specs.Bounds.{most_paths, most_blocks, most_words};
 ghost use Rattle.dearest.specs.Inner.Items.{code_in};
 ghost use Rattle.codes.specs.Inner.Codes.{code, code_vertex};
 ghost use Rattle.beginnings.specs.Inner.Trails.{back_long};
-ghost use Rattle.beginnings.specs.Inner.Entering.{state_from, OwnRoot, RootOf, HasRoot, EnteredOne, Enterable, AllEntered, Leavable};
+ghost use Rattle.beginnings.specs.Inner.Entering.{state_from, RootFound, HasRoot, EnteredOne, Enterable, AllEntered, Leavable};
 ghost use Rattle.beginnings.specs.Inner.Entering.{Left};
 
 use codes::{label_of, root_of, vertex_of};
 use dearest::{code_of, cost_of, item};
-use numbers::wide;
 use trellis::{MOST_BLOCKS, MOST_PATHS};
 
 // The places of the back pointers.
@@ -27,42 +26,17 @@ pub fn coded(place: usize, vertex: usize, label: u16) -> u32
     ((place * 1024 + vertex) as u32) * 65536 + (label as u32)
 }
 
-// Whether the root that has the state's own number has the state.
-fn is_own_root(s: &[u16], roots: usize, count: usize, state: usize) -> bool
+// The root of a state, or none where no root has it. Where all lower states are roots too, as with all states of a code, it has the
+// state's own number, and that root is looked at first; elsewhere the root is searched for.
+fn root_at(s: &[u16], roots: usize, count: usize, state: usize) -> Option<usize>
     requires { roots + count ≤ length s.now }
-    ensures { OwnRoot s.now roots count state result }
+    ensures { RootFound s.now roots count state result }
 {
-    if state >= count {
-        return false;
+    let states = &s[roots..roots + count];
+    if state < count && usize::from(states[state]) == state {
+        return Some(state);
     }
-    wide(s[roots + state]) == state
-}
-
-// The root of a state, found by going over the roots, or the number of roots.
-fn search_root(s: &[u16], roots: usize, count: usize, state: usize) -> usize
-    requires { roots + count ≤ length s.now }
-    ensures { RootOf s.now roots count state result }
-{
-    let mut v: usize = 0;
-    while v < count {
-        if wide(s[roots + v]) == state {
-            return v;
-        }
-        v += 1;
-    }
-    v
-}
-
-// The root of a state: where all lower states are roots too, as with all states of a code, it has the state's own number; elsewhere it is
-// searched for.
-fn root_at(s: &[u16], roots: usize, count: usize, state: usize) -> usize
-    requires { roots + count ≤ length s.now }
-    ensures { RootOf s.now roots count state result }
-{
-    if is_own_root(s, roots, count, state) {
-        return state;
-    }
-    search_root(s, roots, count, state)
+    states.iter().position(|own| usize::from(*own) == state)
 }
 
 // Slot x at place j becomes an item at the root of its state.
@@ -71,7 +45,9 @@ fn entered(s: &[u16], roots: usize, count: usize, j: usize, x: u64) -> u64
         × HasRoot s.now roots count (code_vertex (code_in x)) }
     ensures { EnteredOne s.now roots count j x result }
 {
-    let v = root_at(s, roots, count, vertex_of(code_of(x)));
+    let Some(v) = root_at(s, roots, count, vertex_of(code_of(x))) else {
+        unreachable!()
+    };
     item(cost_of(x), coded(j, v, 0))
 }
 
@@ -88,10 +64,8 @@ pub fn enter(
         × (length items.old ≡ most_paths) × Enterable s.now roots count slots.now have }
     ensures { AllEntered s.now roots count slots.now items.new have }
 {
-    let mut j: usize = 0;
-    while j < have {
+    for j in 0..have {
         items[j] = entered(s, roots, count, j, slots[j]);
-        j += 1;
     }
 }
 
@@ -110,13 +84,11 @@ pub fn leave(
     ensures { Left (state_from s.now goals) items.now b count slots.new back.old
         back.new }
 {
-    let mut j: usize = 0;
-    while j < count {
+    for j in 0..count {
         let x = items[j];
         let c = code_of(x);
-        let state = wide(s[goals + vertex_of(c)]);
+        let state = usize::from(s[goals + vertex_of(c)]);
         slots[j] = item(cost_of(x), coded(j, state, 0));
         back[MOST_PATHS * b + j] = coded(root_of(c), state, label_of(c));
-        j += 1;
     }
 }

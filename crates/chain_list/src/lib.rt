@@ -11,9 +11,9 @@ ghost use Rattle.frame.specs.Frame.{frame};
 ghost use Rattle.path_list.specs.Listing.{left, framed, listing};
 
 pub use answers::decode_list::{DecodeListRefusal, DecodedList};
-use frame::{first_bad, frame_bad};
 use list_room::list_blocks;
 use section_file::View;
+use sections::Found;
 use trellis::MOST_SECTIONS;
 
 // Fault 9, and then what follows where there is none.
@@ -38,11 +38,7 @@ fn list_frame(
         ≡ framed (frame sections.now k indices.now received.now erased.now start end) paths
         costs.old distances.old labels.old goals.old }
 {
-    if frame_bad(indices, received, erased, start, end) {
-        return Err(DecodeListRefusal::Block(indices.len()));
-    }
-    let bad = first_bad(views, k, indices, received, erased);
-    if bad < indices.len() {
+    if let Err(bad) = frame::check(views, k, indices, received, erased, start, end) {
         return Err(DecodeListRefusal::Block(bad));
     }
     list_blocks(
@@ -74,12 +70,10 @@ pub fn decode_list(
         ≡ listing (frame sections.now k indices.now received.now erased.now start end) paths
         costs.old distances.old labels.old goals.old }
 {
-    let found = sections::find(sections, k);
-    if found.bad {
-        return Err(DecodeListRefusal::Section(found.index));
-    }
-    let starts = found.starts;
-    let views = found.views;
+    let Found { starts, views } = match sections::find(sections, k) {
+        Ok(found) => found,
+        Err(index) => return Err(DecodeListRefusal::Section(index)),
+    };
     list_frame(
         sections, &starts, views, k, indices, received, erased, start, end, paths, costs,
         distances, labels, goals,

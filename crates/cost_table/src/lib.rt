@@ -9,7 +9,6 @@ ghost use Rattle.section_file.specs.Inner.View.{Seen};
 ghost use Rattle.cost_table.specs.Inner.Filled.{EndRow, Working, BlockFilled, held_blocks, Ready, Filled};
 
 use block::put_prices;
-use numbers::widened;
 use passes::{NO_PATH, pass_block};
 use section_file::View;
 use trellis::{COSTS_A_BLOCK, MOST_Q, MOST_SECTIONS, MOST_SYMBOLS, MOST_WORDS};
@@ -66,10 +65,8 @@ pub fn fill(
     let mut prices = [0u64; MOST_Q * MOST_SYMBOLS];
     let mut even = [0u64; MOST_WORDS];
     let mut odd = [0u64; MOST_WORDS];
-    let mut b = indices.len();
-    while b > 0 {
-        b -= 1;
-        let i = widened(indices[b]);
+    for b in (0..indices.len()).rev() {
+        let i = usize::from(indices[b]);
         let at = views[i];
         let start = starts[i];
         let word = received[b];

@@ -1,5 +1,6 @@
 -- The answers that name a fault, and what is passed on where there is none: the definition
 -- makes the same tests in the same order as the code.
+use Rattle.std.specs.Prelude.{Some}
 use mathlib.Core.Path.{◌≡◌, sym, ◌∙◌}
 use mathlib.Core.Bool.{Bool, true, false}
 use mathlib.Core.List.{List}
@@ -9,8 +10,8 @@ use borrow.Author.Tests.{lt-ltb, le-ltb}
 use Rattle.trellis.specs.Lists.{first}
 use Rattle.trellis.specs.Outcome.{bad_section, bad_block, short_buffer}
 use Rattle.sections.specs.Sections.{sections_bad, bad_section_of}
-use Rattle.frame.specs.Frame.{Frame, block_count, frame_bad, block_bad}
-use Rattle.frame.proofs.Checks.{FramePassed}
+use Rattle.frame.specs.Frame.{Frame, block_count, frame_bad, block_bad, frame_fault}
+use Rattle.frame.proofs.Checks.{FramePassed, fault_named}
 use Rattle.room.specs.Room.{needed_to_decode}
 use Rattle.decoding.specs.Decoding.{Decoding, left, best_of, found, fitted, framed, decoding}
 
@@ -30,6 +31,10 @@ module _ (f : Frame) (costs labels goals masks : List ℕ) where
       → left (bad_block b) costs labels goals masks ≡ framed f costs labels goals masks
   unfolding framed
   ends_block {b = b} e h p l = simp (sym e, h, sym p, lt-ltb b (block_count f) l)
+
+  pub ends_fault : {bad : ℕ} → frame_fault f ≡ Some bad → left (bad_block bad) costs labels goals masks ≡ framed f costs labels goals masks
+  unfolding framed
+  ends_fault = fault_named f (λ bad. left (bad_block bad) costs labels goals masks) (fitted f costs labels goals masks)
 
   pub ends_short : {n : ℕ} → n ≡ needed_to_decode (block_count f) (length costs) (length labels) (length goals) (length masks) → 0 < n
       → left (short_buffer n) costs labels goals masks ≡ fitted f costs labels goals masks

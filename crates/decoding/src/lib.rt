@@ -12,7 +12,6 @@ ghost use Rattle.decoding.specs.Decoding.{left, fitted};
 
 use answers::decode::{DecodeRefusal, Decoded};
 use cost_table::{ends_in, fill};
-use numbers::widened;
 use passes::NO_PATH;
 use section_file::View;
 use settling::settle;
@@ -41,8 +40,8 @@ pub fn decode_with(
         ≡ fitted (frame sections.now k indices.now received.now erased.now start end)
         costs.old labels.old goals.old masks.old }
 {
-    let from = widened(start);
-    let ends = ends_in(widened(end));
+    let from = usize::from(start);
+    let ends = ends_in(usize::from(end));
     let to_pay = fill(
         sections, starts, views, indices, received, erased, ends, costs,
     );

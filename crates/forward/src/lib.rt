@@ -21,7 +21,6 @@ use cost_table::ends_in;
 use dearest::item;
 use least_rows::{ROWS, put_rows};
 use left_behind::left_behind;
-use numbers::widened;
 use section_file::View;
 use step_limits::NONE_ABOVE;
 use steps::{Grown, keep_section};
@@ -87,8 +86,8 @@ pub fn keep_blocks(
     ensures { KeptAt (frame sections.now 0 indices.now received.now erased.now start end)
         k (length indices.now) result slots.new back.new }
 {
-    let from = widened(start);
-    let ends = ends_in(widened(end));
+    let from = usize::from(start);
+    let ends = ends_in(usize::from(end));
     slots[0] = item(costs[from] as u64, coded(0, from, 0));
     let mut prices = [0u64; MOST_Q * MOST_SYMBOLS];
     let mut even = [0u64; MOST_WORDS];
@@ -97,9 +96,8 @@ pub fn keep_blocks(
     let mut items = [0u64; MOST_PATHS];
     let limit = NONE_ABOVE;
     let mut grown = Grown { count: 1, limit };
-    let mut b: usize = 0;
-    while b < indices.len() {
-        let i = widened(indices[b]);
+    for b in 0..indices.len() {
+        let i = usize::from(indices[b]);
         let at = views[i];
         let first = starts[i];
         let word = received[b];
@@ -123,7 +121,6 @@ pub fn keep_blocks(
             &mut rows,
             &mut items,
         );
-        b += 1;
     }
     grown.count
 }

@@ -1,7 +1,8 @@
 -- The checks of the frame come out as the definition's: each test of the code is the next test of `frame_bad`. A block's test reads the
 -- view that its index names, which is that of the block's section; the blocks are tested in their order, so the first bad one is found.
-use mathlib.Core.Path.{◌≡◌, sym, ap, subst, ◌∙◌}
-use mathlib.Core.Bool.{Bool, true, false, not, ◌&&◌}
+use Rattle.std.specs.Prelude.{Option, Some, None}
+use mathlib.Core.Path.{◌≡◌, refl, sym, ap, subst, ◌∙◌}
+use mathlib.Core.Bool.{Bool, true, false, cond, not, ◌&&◌}
 use mathlib.Core.List.{List}
 use Prim.Native.Nat.{ℕ, ◌+◌, ◌^◌, ◌≤◌, ◌<◌}
 use native.Mathlib.Nat.{not-suc-le-zero}
@@ -9,13 +10,13 @@ use native.Mathlib.Decide.{ℕ_discrete}
 use native.Mathlib.Omega.{arith}
 use lib.Dec.{T, ltb, leb, eqb}
 use lib.ListN.{length, get_or}
-use borrow.Author.Tests.{lt-ltb, le-ltb, eq-eqb, ne_eqb, not-true, not-false, eqb-true, ltb-true}
+use borrow.Author.Tests.{lt-ltb, le-ltb, eq-eqb, ne_eqb, not-true, not-false, eqb-true, ltb-true, ltb-false}
 use Rattle.trellis.specs.Bounds.{most_states, most_blocks}
-use Rattle.trellis.specs.Lists.{first, within}
+use Rattle.trellis.specs.Lists.{first, found_below, within}
 use Rattle.trellis.specs.Label.{symbols_below, is_label}
 use Rattle.trellis.specs.Layout.{q_of, n_of}
 use Rattle.trellis.proofs.Bools.{holds, fails, is_true, is_false, both, neither}
-use Rattle.trellis.proofs.Lists.{first_is, first_ok}
+use Rattle.trellis.proofs.Lists.{First, first_is, first_ok}
 use Rattle.numbers.proofs.Bounds.{within_of, at_least}
 use Rattle.section_file.specs.Inner.View.{view_of}
 use Rattle.section_file.specs.declared.View.{View}
@@ -23,8 +24,8 @@ use Rattle.section_file.proofs.Usable.{usable_sound}
 use Rattle.received.specs.Received.{stray, fits_block}
 use Rattle.sections.specs.Sections.{section_at}
 use Rattle.sections.specs.Inner.Found.{SectionsFound, no_view, AllFound}
-use Rattle.frame.specs.Frame.{Frame, frame, block_count, frame_bad, block_section, block_bad}
-use Rattle.frame.specs.Inner.Checked.{Views, Framed, FrameChecked}
+use Rattle.frame.specs.Frame.{Frame, frame, block_count, frame_bad, block_section, block_bad, frame_fault}
+use Rattle.frame.specs.Inner.Checked.{Views, Framed, Checked}
 
 -- ---- the frame
 
@@ -104,6 +105,13 @@ module _ (f : Frame) (b : ℕ) {i : ℕ} (e : i ≡ get_or f.indices b 0) where
 
 -- ---- the loop over the blocks
 
+module _ (test : ℕ → Bool) {m b : ℕ} where
+  found_here : b < m → First test m b → Some b ≡ found_below m (first test m)
+  found_here h F = rw (first_is test m b F, lt-ltb b m h)
+
+  found_nowhere : m ≤ b → First test m b → None ≡ found_below m (first test m)
+  found_nowhere h F = rw (first_is test m b F, le-ltb b m h)
+
 -- no block before b is bad, whatever the sections are that have these views
 pub record InBlocks (views : List View) (k : ℕ) (indices received erased : List ℕ) (b : ℕ) : Type 0 where
   pub b_le : b ≤ length indices
@@ -115,28 +123,28 @@ blocks_start = record { b_le = omega arith; none = λ s t u v F c h. absurd (not
 
 module _ {views : List View} {k : ℕ} {indices received erased : List ℕ} {b i : ℕ} (I : InBlocks views k indices received erased b)
     (e : i ≡ get_or indices b 0) where
-  abbrev Answer : ℕ → Type 0
+  abbrev Answer : Option ℕ → Type 0
   Answer r = (sections starts : List ℕ) (start end : ℕ) → SectionsFound sections starts views k
-      → r ≡ first (block_bad (frame sections k indices received erased start end)) (length indices)
+      → r ≡ found_below (length indices) (first (block_bad (frame sections k indices received erased start end)) (length indices))
 
   bad_here : b < length indices
       → ((sections starts : List ℕ) (start end : ℕ) → SectionsFound sections starts views k
-      → block_bad (frame sections k indices received erased start end) b ≡ true) → Answer b
+      → block_bad (frame sections k indices received erased start end) b ≡ true) → Answer (Some b)
   bad_here h bad sections starts start end F =
       let f = frame sections k indices received erased start end in
-      sym (first_is (block_bad f) (length indices) b
+      found_here (block_bad f) h
       (record {
         most = I.b_le;
         hit = λ l. holds (bad sections starts start end F);
         miss = λ c l t. fails (I.none sections starts start end F c l) t;
-      }))
+      })
 
-  pub blocks_index : b < length indices → k ≤ i → Answer b
+  pub blocks_index : b < length indices → k ≤ i → Answer (Some b)
   blocks_index h l = bad_here h (λ s t u v F. block_index (frame s k indices received erased u v) b e l)
 
   module _ {fits : Bool} (l : i < k)
       (q : fits ≡ fits_block (get_or views i no_view).n (get_or received b 0) (get_or erased b 0) (get_or views i no_view).q) where
-    pub blocks_unfit : b < length indices → not fits ≡ true → Answer b
+    pub blocks_unfit : b < length indices → not fits ≡ true → Answer (Some b)
     blocks_unfit h n = bad_here h (λ s t u v F. block_fits (frame s k indices received erased u v) b e l F q ∙ n)
 
     pub blocks_more : b < length indices → not fits ≡ false → InBlocks views k indices received erased (b + 1)
@@ -151,11 +159,11 @@ module _ {views : List View} {k : ℕ} {indices received erased : List ℕ} {b i
 
 pub blocks_none : {views : List View} {k : ℕ} {indices received erased : List ℕ} {b : ℕ} → InBlocks views k indices received erased b
     → length indices ≤ b → (sections starts : List ℕ) (start end : ℕ) → SectionsFound sections starts views k
-    → b ≡ first (block_bad (frame sections k indices received erased start end)) (length indices)
+    → None ≡ found_below (length indices) (first (block_bad (frame sections k indices received erased start end)) (length indices))
 blocks_none {k = k} {indices} {received} {erased} {b} I h sections starts start end F =
     let f = frame sections k indices received erased start end in
-    sym (first_is (block_bad f) (length indices) b
-    (record { most = I.b_le; hit = λ l. absurd (omega arith); miss = λ c l t. fails (I.none sections starts start end F c l) t }))
+    found_nowhere (block_bad f) h
+    (record { most = I.b_le; hit = λ l. absurd (omega arith); miss = λ c l t. fails (I.none sections starts start end F c l) t })
 
 -- ---- no fault 9
 
@@ -164,9 +172,44 @@ pub record FramePassed (f : Frame) : Type 0 where
   pub frame_good : frame_bad f ≡ false
   pub blocks_good : block_count f ≤ first (block_bad f) (block_count f)
 
-pub frame_passed : {f : Frame} {bad : Bool} {b : ℕ} → bad ≡ frame_bad f → bad ≡ false → b ≡ first (block_bad f) (block_count f)
-    → block_count f ≤ b → FramePassed f
-frame_passed {f} e h p l = record { frame_good = sym e ∙ h; blocks_good = subst (λ x. block_count f ≤ x) p l }
+-- the number of a fault, or that there is none, as the tests make it out
+module _ (f : Frame) {bad : Bool} (e : bad ≡ frame_bad f) where
+  pub fault_of_frame : bad ≡ true → frame_fault f ≡ Some (block_count f)
+  unfolding frame_fault
+  fault_of_frame h = simp (sym e, h)
+
+  pub fault_of_block : {found : Option ℕ} → bad ≡ false → found ≡ found_below (block_count f) (first (block_bad f) (block_count f))
+      → frame_fault f ≡ found
+  unfolding frame_fault
+  fault_of_block h g = simp (sym e, h) (sym g)
+
+pub frame_passed : {f : Frame} → frame_fault f ≡ None → FramePassed f
+unfolding frame_fault
+frame_passed {f} e = go (frame_bad f) (ltb (first (block_bad f) (block_count f)) (block_count f)) refl refl e
+  where
+    go : (b c : Bool) → frame_bad f ≡ b → ltb (first (block_bad f) (block_count f)) (block_count f) ≡ c
+        → cond b (Some (block_count f)) (cond c (Some (first (block_bad f) (block_count f))) None) ≡ None → FramePassed f
+    go true c p q r = cc
+    go false true p q r = cc
+    go false false p q r = record { frame_good = p; blocks_good = ltb-false _ _ q }
+
+-- what follows the tests, by what they come to
+module _ {A : Type 0} (f : Frame) (fault : ℕ → A) (rest : A) where
+  abbrev first_block : ℕ
+  first_block = first (block_bad f) (block_count f)
+
+  abbrev by_tests : A
+  by_tests = cond (frame_bad f) (fault (block_count f)) (cond (ltb first_block (block_count f)) (fault first_block) rest)
+
+  pub fault_named : {bad : ℕ} → frame_fault f ≡ Some bad → fault bad ≡ by_tests
+  unfolding frame_fault
+  fault_named {bad} = go (frame_bad f) (ltb first_block (block_count f))
+    where
+      go : (b c : Bool) → cond b (Some (block_count f)) (cond c (Some first_block) None) ≡ Some bad
+          → fault bad ≡ cond b (fault (block_count f)) (cond c (fault first_block) rest)
+      go true c e = cc
+      go false true e = cc
+      go false false e = cc
 
 block_good : {f : Frame} → FramePassed f → (b : ℕ) → b < block_count f
     → T (ltb (get_or f.indices b 0) f.k)
@@ -194,9 +237,15 @@ received_short_lem {f} P b h =
     (block_good P b h).1 in
     ltb-true x (4 ^ n_of l) (is_true _ (both (ltb x (4 ^ n_of l)) (symbols_below (q_of l) (n_of l) x) label.0).0)
 
-pub checked : {f : Frame} {starts : List ℕ} {views : List View} → AllFound f.sections starts views f.k → FramePassed f
-    → FrameChecked f starts views
-checked A P = record { sections_found = A; framed = framed_of P.frame_good; index_below = index_good P; received_short = received_short_lem P }
+pub checked : {sections starts : List ℕ} {views : List View} {k : ℕ} {indices received erased : List ℕ} {start end : ℕ}
+    → AllFound sections starts views k → frame_fault (frame sections k indices received erased start end) ≡ None
+    → Checked sections starts views indices received erased start end
+checked {k = k} A e =
+    let P = frame_passed e in
+    record {
+      k = k;
+      checks = record { sections_found = A; framed = framed_of P.frame_good; index_below = index_good P; received_short = received_short_lem P };
+    }
 
 pub views_of : {sections starts : List ℕ} {views : List View} {k : ℕ} → AllFound sections starts views k → Views views k
 unfolding view_of

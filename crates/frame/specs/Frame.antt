@@ -1,10 +1,10 @@
 -- The frame: K sections one behind another, for each block a section index, a received label and an erasure mask, and a start and an end
 -- state. Its blocks' words and their distances, and document 01's fault 9. Everything here computes.
-use Rattle.std.specs.Prelude.{Bool, not, ◌&&◌, ◌||◌, List, ℕ, ltb, eqb, length, get_or}
+use Rattle.std.specs.Prelude.{Bool, cond, not, ◌&&◌, ◌||◌, List, ℕ, ltb, eqb, length, get_or, Option, Some}
 use Rattle.trellis.specs.Bounds.{most_states, most_blocks}
 use Rattle.trellis.specs.Word.{Word}
 use Rattle.trellis.specs.Layout.{q_of, n_of, section_words}
-use Rattle.trellis.specs.Lists.{within}
+use Rattle.trellis.specs.Lists.{first, found_below, within}
 use Rattle.trellis.specs.Comparing.{erasure_cost, distance_by, differing}
 use Rattle.received.specs.Received.{fits_block}
 use Rattle.sections.specs.Sections.{section_at}
@@ -59,3 +59,7 @@ module _ (f : Frame) where
   block_bad b =
       not (ltb (get_or f.indices b 0) f.k
       && fits_block (n_of (block_section b)) (get_or f.received b 0) (get_or f.erased b 0) (q_of (block_section b)))
+
+  -- fault 9, by the number that it returns: the number of blocks for a length or a state, else the first bad block
+  unfoldable pub frame_fault : Option ℕ
+  frame_fault = cond frame_bad (Some block_count) (found_below block_count (first block_bad block_count))

@@ -3,12 +3,12 @@
 #![tactic(auto)]
 
 ghost use Rattle.std.specs.Prelude.{◌≡◌, List, ℕ, length};
-ghost use Rattle.trellis.specs.Lists.{first};
+ghost use Rattle.trellis.specs.Lists.{first, found_below};
 ghost use Rattle.sections.specs.Inner.Found.{SectionsFound};
 ghost use Rattle.frame.specs.Frame.{frame, frame_bad, block_bad};
-ghost use Rattle.frame.specs.Inner.Checked.{Views};
+ghost use Rattle.frame.specs.Inner.Checked.{Views, Tested};
 
-use numbers::{is_within, widened};
+use numbers::is_within;
 use section_file::View;
 use trellis::{MOST_BLOCKS, MOST_SECTIONS};
 
@@ -34,30 +34,52 @@ pub fn frame_bad(indices: &[u8], received: &[u16], erased: &[u8], start: u8, end
     end >= MOST_STATES
 }
 
-// The first bad block, or the number of blocks.
+// The first bad block.
 pub fn first_bad(
     views: [View; MOST_SECTIONS],
     k: usize,
     indices: &[u8],
     received: &[u16],
     erased: &[u8],
-) -> usize
+) -> Option<usize>
     requires { Views views k × (length received.now ≡ length indices.now) × (length erased.now ≡ length indices.now) }
     ensures { (sections starts : List ℕ) (start end : ℕ) → SectionsFound sections starts views k
-        → result ≡ first (block_bad (frame sections k indices.now received.now erased.now start end))
-        (length indices.now) }
+        → result ≡ found_below (length indices.now)
+        (first (block_bad (frame sections k indices.now received.now erased.now start end)) (length indices.now)) }
 {
-    let mut b: usize = 0;
-    while b < indices.len() {
-        let i = widened(indices[b]);
+    for b in 0..indices.len() {
+        let i = usize::from(indices[b]);
         if i >= k {
-            return b;
+            return Some(b);
         }
         let at = views[i];
         if !received::fits(at.q, at.n, received[b], erased[b]) {
-            return b;
+            return Some(b);
         }
-        b += 1;
     }
-    b
+    None
+}
+
+// Fault 9: the error is the number that it returns, the number of blocks where a length or a state is out of bounds, else the first bad
+// block.
+pub fn check(
+    views: [View; MOST_SECTIONS],
+    k: usize,
+    indices: &[u8],
+    received: &[u16],
+    erased: &[u8],
+    start: u8,
+    end: u8,
+) -> Result<(), usize>
+    requires { Views views k }
+    ensures { (sections starts : List ℕ) → SectionsFound sections starts views k
+        → Tested (frame sections k indices.now received.now erased.now start end) result }
+{
+    if frame_bad(indices, received, erased, start, end) {
+        return Err(indices.len());
+    }
+    match first_bad(views, k, indices, received, erased) {
+        Some(bad) => Err(bad),
+        None => Ok(()),
+    }
 }

@@ -11,7 +11,6 @@ ghost use Rattle.decoding.specs.Decoding.{left, fitted, framed};
 
 use answers::decode::{DecodeRefusal, Decoded};
 use decoding::decode_with;
-use frame::{first_bad, frame_bad};
 use section_file::View;
 use trellis::MOST_SECTIONS;
 
@@ -35,15 +34,14 @@ fn decode_blocks(
         ≡ fitted (frame sections.now k indices.now received.now erased.now start end)
         costs.old labels.old goals.old masks.old }
 {
-    let short = room::needed_to_decode(
+    if let Some(needed) = room::needed_to_decode(
         indices.len(),
         costs.len(),
         labels.len(),
         goals.len(),
         masks.len(),
-    );
-    if short > 0 {
-        return Err(DecodeRefusal::Short(short));
+    ) {
+        return Err(DecodeRefusal::Short(needed));
     }
     decode_with(
         sections, starts, views, indices, received, erased, start, end, costs, labels, goals, masks,
@@ -71,11 +69,7 @@ pub fn decode_frame(
         ≡ framed (frame sections.now k indices.now received.now erased.now start end)
         costs.old labels.old goals.old masks.old }
 {
-    if frame_bad(indices, received, erased, start, end) {
-        return Err(DecodeRefusal::Block(indices.len()));
-    }
-    let bad = first_bad(views, k, indices, received, erased);
-    if bad < indices.len() {
+    if let Err(bad) = frame::check(views, k, indices, received, erased, start, end) {
         return Err(DecodeRefusal::Block(bad));
     }
     decode_blocks(

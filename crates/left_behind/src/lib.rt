@@ -18,15 +18,11 @@ pub fn left_behind(
     requires { (blocks ≤ most_blocks) × (b < blocks) × (costs_a_block * blocks ≤ length costs.now) × (length ends ≡ most_states) }
     ensures { LeftBehind costs.now ends blocks b result }
 {
-    let mut left = ends;
     if b + 1 >= blocks {
-        return left;
+        return ends;
     }
+    let mut left = ends;
     let first = COSTS_A_BLOCK * (b + 1);
-    let mut s: usize = 0;
-    while s < COSTS_A_BLOCK {
-        left[s] = costs[first + s];
-        s += 1;
-    }
+    left.copy_from_slice(&costs[first..first + COSTS_A_BLOCK]);
     left
 }

@@ -38,16 +38,15 @@ pub fn list_blocks(
     if !is_within(1, MOST_PATHS, paths) {
         return Err(DecodeListRefusal::Count(paths));
     }
-    let short = room::needed_to_list(
+    if let Some(needed) = room::needed_to_list(
         indices.len(),
         paths,
         costs.len(),
         distances.len(),
         labels.len(),
         goals.len(),
-    );
-    if short > 0 {
-        return Err(DecodeListRefusal::Short(short));
+    ) {
+        return Err(DecodeListRefusal::Short(needed));
     }
     list_with(
         sections, starts, views, indices, received, erased, start, end, paths, costs, distances,

@@ -1,5 +1,6 @@
 -- The answers that name a fault, and what is passed on where there is none: the definition makes the same tests in the same order as the
 -- code.
+use Rattle.std.specs.Prelude.{Some}
 use mathlib.Core.Path.{◌≡◌, sym, ◌∙◌}
 use mathlib.Core.Bool.{Bool, true, false, not}
 use mathlib.Core.List.{List}
@@ -11,8 +12,8 @@ use Rattle.trellis.specs.Lists.{first, within}
 use Rattle.trellis.specs.Outcome.{bad_section, bad_block, short_buffer, bad_path_count}
 use Rattle.numbers.proofs.Bounds.{within_of}
 use Rattle.sections.specs.Sections.{sections_bad, bad_section_of}
-use Rattle.frame.specs.Frame.{Frame, block_count, frame_bad, block_bad}
-use Rattle.frame.proofs.Checks.{FramePassed}
+use Rattle.frame.specs.Frame.{Frame, block_count, frame_bad, block_bad, frame_fault}
+use Rattle.frame.proofs.Checks.{FramePassed, fault_named}
 use Rattle.room.specs.Room.{needed_to_list}
 use Rattle.room.specs.Inner.Fitting.{Few}
 use Rattle.path_list.specs.Listing.{Listing, left, list_of, found, fitted, counted, framed, listing}
@@ -33,6 +34,10 @@ module _ (f : Frame) (paths : ℕ) (costs distances labels goals : List ℕ) whe
       → left (bad_block b) costs distances labels goals ≡ framed f paths costs distances labels goals
   unfolding framed
   ends_block {b = b} e h p l = simp (sym e, h, sym p, lt-ltb b (block_count f) l)
+
+  pub ends_fault : {bad : ℕ} → frame_fault f ≡ Some bad → left (bad_block bad) costs distances labels goals ≡ framed f paths costs distances labels goals
+  unfolding framed
+  ends_fault = fault_named f (λ bad. left (bad_block bad) costs distances labels goals) (counted f paths costs distances labels goals)
 
   pub ends_count : {w : Bool} → w ≡ within 1 most_paths paths → not w ≡ true
       → left (bad_path_count paths) costs distances labels goals ≡ counted f paths costs distances labels goals

@@ -16,7 +16,6 @@ use answers::decode_list::{DecodeListRefusal, DecodedList};
 use beginnings::BACK;
 use cost_table::{ends_in, fill};
 use forward::keep_blocks;
-use numbers::widened;
 use passes::NO_PATH;
 use readout::read_paths;
 use section_file::View;
@@ -89,12 +88,12 @@ pub fn list_with(
         ≡ fitted (frame sections.now k indices.now received.now erased.now start end) paths
         costs.old distances.old labels.old goals.old }
 {
-    let ends = ends_in(widened(end));
+    let ends = ends_in(usize::from(end));
     let to_pay = fill(
         sections, starts, views, indices, received, erased, ends, costs,
     );
     settle(sections, starts, indices, ends, costs);
-    if to_pay[widened(start)] == NO_PATH {
+    if to_pay[usize::from(start)] == NO_PATH {
         return Err(DecodeListRefusal::NoPath);
     }
     Ok(list_paths(

@@ -28,9 +28,7 @@ fn read_path(
         goals.new }
 {
     let mut j = slot;
-    let mut b = blocks;
-    while b > 0 {
-        b -= 1;
+    for b in (0..blocks).rev() {
         let c = back[MOST_PATHS * b + j];
         labels[at + b] = label_of(c);
         goals[at + b] = vertex_of(c) as u8;
@@ -61,12 +59,10 @@ pub fn read_paths(
         labels.old labels.new goals.old goals.new count }
 {
     let mut at: usize = 0;
-    let mut r: usize = 0;
-    while r < count {
+    for r in 0..count {
         let x = slots[r];
         distances[r] = distance_of(x);
         read_path(back, blocks, root_of(code_of(x)), at, labels, goals);
         at += blocks;
-        r += 1;
     }
 }

@@ -11,59 +11,50 @@ use native.Mathlib.Omega.{arith}
 use lib.Dec.{eqb, ltb}
 use lib.ListN.{length, get_or, drop, set, length-set, length-drop, replicate, length-replicate, get_or-replicate}
 use lib.Seq.{get_or-set_same, get_or-set_other}
-use borrow.Author.Tests.{lt-ltb, le-ltb, not-true, not-false, ltb-false}
-use Rattle.std.specs.Prelude.{Option, Some, None}
+use borrow.Author.Tests.{eq-eqb, ne_eqb, lt-ltb, le-ltb, not-true, not-false, ltb-false}
 use Rattle.trellis.specs.Bounds.{most_sections}
 use Rattle.trellis.specs.Lists.{first, within}
 use Rattle.trellis.specs.Layout.{roots_place, goals_place, pairs_place, symbols_place, section_length}
-use Rattle.trellis.proofs.Bools.{holds, fails, clash, is_true, is_false, neither}
+use Rattle.trellis.proofs.Bools.{holds, fails, is_true, is_false, neither}
 use Rattle.trellis.proofs.Lists.{first_is, first_ok}
-use Rattle.numbers.proofs.Bounds.{within_of}
+use Rattle.numbers.proofs.Bounds.{within_of, within_to}
 use Rattle.section_file.specs.Usable.{usable}
 use Rattle.section_file.specs.Inner.View.{view_of}
 use Rattle.section_file.specs.declared.View.{View}
 use Rattle.section_file.proofs.Usable.{usable_sound}
+use Rattle.std.specs.Prelude.{Some, None}
 use Rattle.usable.specs.Inner.Part.{part_of}
 use Rattle.sections.specs.Sections.{section_start, section_at, unusable, sections_bad, bad_section_of}
-use Rattle.sections.specs.Inner.Found.{SectionsFound, no_view, view_in, Looked}
+use Rattle.sections.specs.Inner.Found.{SectionsFound, no_view, Faulty, Good}
 
--- ---- the view that was read
-
-pub view_read : (l : List ℕ) {p : Option View} {at : View} → p ≡ part_of l → at ≡ view_in p → at ≡ cond (usable l) (view_of l) no_view
-unfolding part_of
-view_read l e h = h ∙ ap view_in e ∙ go (usable l)
-  where
-    go : (b : Bool) → view_in (cond b (Some (view_of l)) None) ≡ cond b (view_of l) no_view
-    go true = refl
-    go false = refl
+-- ---- one section
 
 pub long_enough : (l : List ℕ) → 4 ≤ section_length l
 unfolding section_length symbols_place pairs_place goals_place roots_place
 long_enough l = omega arith
 
--- a view whose end is not 0 is that of a usable section, which is there whole
-record Sized (l : List ℕ) (at : View) : Type 0 where
+-- the view of a usable section, which is there whole
+record Sized (l : List ℕ) (view : View) : Type 0 where
   is : usable l ≡ true
-  view : at ≡ view_of l
-  long : at.end ≡ section_length l
-  whole : at.end ≤ length l
+  view_is : view ≡ view_of l
+  long : view.end ≡ section_length l
+  whole : view.end ≤ length l
 
-sized : (l : List ℕ) {at : View} → at ≡ cond (usable l) (view_of l) no_view → (at.end ≡ 0 → ⊥) → Sized l at
-unfolding view_of
-sized l {at} e h = go (usable l) refl e
+sized : (l : List ℕ) {view : View} → Some view ≡ part_of l → Sized l view
+unfolding part_of view_of
+sized l {view} e = go (usable l) refl e
   where
-    go : (b : Bool) → usable l ≡ b → at ≡ cond b (view_of l) no_view → Sized l at
+    go : (b : Bool) → usable l ≡ b → Some view ≡ cond b (Some (view_of l)) None → Sized l view
     go true u k =
-        let n : at.end ≡ section_length l = ap (λ (v : View). v.end) k in
-        record { is = u; view = k; long = n; whole = let w = (usable_sound l u).whole in omega arith }
-    go false u k = absurd (h (ap (λ (v : View). v.end) k))
+        let e : view ≡ view_of l = cc in
+        let n : view.end ≡ section_length l = ap (λ (v : View). v.end) e in
+        record { is = u; view_is = e; long = n; whole = let w = (usable_sound l u).whole in omega arith }
+    go false u k = cc
 
-none_sized : (l : List ℕ) {at : View} → at ≡ cond (usable l) (view_of l) no_view → at.end ≡ 0 → usable l ≡ true → ⊥
-unfolding view_of
-none_sized l {at} e h u =
-    let z : at.end ≡ section_length l = ap (λ (v : View). v.end) (e ∙ ap (λ b. cond b (view_of l) no_view) u) in
-    let w = long_enough l in
-    omega arith
+-- where there is no view, there is no usable section
+not_usable : (l : List ℕ) → None ≡ part_of l → usable l ≡ true → ⊥
+unfolding part_of
+not_usable l e u = let f : None ≡ Some (view_of l) = e ∙ ap (λ b. cond b (Some (view_of l)) None) u in cc
 
 -- ---- the loop
 
@@ -74,14 +65,16 @@ pub record FirstUnusable (sections starts : List ℕ) (views : List View) (k r :
   pub unusable_at : r < k → usable (section_at sections r) ≡ true → ⊥
 
 pub record InSections (sections starts : List ℕ) (views : List View) (k i at : ℕ) : Type 0 where
+  pub few : k ≤ most_sections
   pub i_le : i ≤ k
   pub found : SectionsFound sections starts views i
   pub at_is : at ≡ section_start sections i
 
-pub sections_start : {sections : List ℕ} {k : ℕ} (view : View)
+pub sections_start : {sections : List ℕ} {k : ℕ} {w : Bool} (view : View) → w ≡ within 1 most_sections k → not w ≡ false
     → InSections sections (replicate (suc most_sections) 0) (replicate most_sections view) k 0 0
 unfolding section_start
-sections_start {sections} view = record {
+sections_start {sections} {k} {w} view e h = record {
+  few = within_to 1 most_sections k e h;
   i_le = omega arith;
   found = record {
     long = length-replicate {A = ℕ} (suc most_sections) 0;
@@ -97,18 +90,19 @@ sections_start {sections} view = record {
   at_is = refl;
 }
 
-module _ {sections starts : List ℕ} {views : List View} {k i at : ℕ} {view : View} (I : InSections sections starts views k i at)
-    (e : view ≡ cond (usable (drop at sections)) (view_of (drop at sections)) no_view) where
-  here : view ≡ cond (usable (section_at sections i)) (view_of (section_at sections i)) no_view
+module _ {sections starts : List ℕ} {views : List View} {k i at : ℕ} (I : InSections sections starts views k i at) where
+  pub sections_found : None ≡ part_of (drop at sections) → FirstUnusable sections starts views k i
   unfolding section_at
-  here = e ∙ ap (λ x. cond (usable (drop x sections)) (view_of (drop x sections)) no_view) I.at_is
+  sections_found e = record {
+    r_le = I.i_le;
+    found = I.found;
+    unusable_at = λ l. not_usable (section_at sections i) (e ∙ ap (λ x. part_of (drop x sections)) I.at_is);
+  }
 
-  pub sections_found : view.end ≡ 0 → FirstUnusable sections starts views k i
-  sections_found z = record { r_le = I.i_le; found = I.found; unusable_at = λ l. none_sized (section_at sections i) here z }
-
-  module _ (z : view.end ≡ 0 → ⊥) where
+  module _ {view : View} (e : Some view ≡ part_of (drop at sections)) where
     S : Sized (section_at sections i) view
-    S = sized (section_at sections i) here z
+    unfolding section_at
+    S = sized (section_at sections i) (e ∙ ap (λ x. part_of (drop x sections)) I.at_is)
 
     pub sections_fit : at + view.end ≤ length sections
     unfolding section_at
@@ -123,10 +117,10 @@ module _ {sections starts : List ℕ} {views : List View} {k i at : ℕ} {view :
     unfolding section_start section_at
     next_is = ap (λ x. x + view.end) I.at_is ∙ ap (λ x. section_start sections i + x) S.long
 
-    pub sections_more : k ≤ most_sections → i < k
-        → InSections sections (set starts (i + 1) (at + view.end)) (set views i view) k (i + 1) (at + view.end)
-    sections_more few h = rw (add-one i)
+    pub sections_more : i < k → InSections sections (set starts (i + 1) (at + view.end)) (set views i view) k (i + 1) (at + view.end)
+    sections_more h = rw (add-one i)
         (record {
+          few = I.few;
           i_le = h;
           found = record {
             long = simp length-set I.found.long;
@@ -142,7 +136,7 @@ module _ {sections starts : List ℕ} {views : List View} {k i at : ℕ} {view :
         place : (j : ℕ) → j ≤ suc i → Dec (j ≡ suc i) → get_or (set starts (suc i) (at + view.end)) j 0 ≡ section_start sections j
         place j l (yes q) =
             subst (λ x. get_or (set starts (suc i) (at + view.end)) x 0 ≡ section_start sections x) (sym q)
-            (get_or-set_same starts (suc i) (at + view.end) 0 (omega (arith, I.found.long)) ∙ next_is)
+            (get_or-set_same starts (suc i) (at + view.end) 0 (omega (arith, I.found.long, I.few)) ∙ next_is)
         place j l (no q) = get_or-set_other starts (suc i) j (at + view.end) 0 q ∙ I.found.at j (omega arith)
 
         before : (j : ℕ) → j < suc i → Dec (j ≡ i) → usable (section_at sections j) ≡ true
@@ -152,7 +146,7 @@ module _ {sections starts : List ℕ} {views : List View} {k i at : ℕ} {view :
         seen : (j : ℕ) → j < suc i → Dec (j ≡ i) → get_or (set views i view) j no_view ≡ view_of (section_at sections j)
         seen j l (yes q) =
             subst (λ x. get_or (set views i view) x no_view ≡ view_of (section_at sections x)) (sym q)
-            (get_or-set_same views i view no_view (omega (arith, I.found.views_long)) ∙ S.view)
+            (get_or-set_same views i view no_view (omega (arith, I.found.views_long, I.few)) ∙ S.view_is)
         seen j l (no q) = get_or-set_other views i j view no_view q ∙ I.found.view j (omega arith)
 
 -- ---- fault 8
@@ -166,50 +160,40 @@ first_unusable {sections} {k = k} {r} F = first_is (unusable sections) k r (reco
   miss = λ j h t. fails (ap not (F.found.usable_before j h)) t;
 })
 
-pub looked_many : {sections starts : List ℕ} {views : List View} {k : ℕ} {w : Bool} → w ≡ within 1 most_sections k → not w ≡ true
-    → Looked sections k true k starts views
+pub many : {sections : List ℕ} {k : ℕ} {w : Bool} → w ≡ within 1 most_sections k → not w ≡ true → Faulty sections k k
 unfolding sections_bad bad_section_of
-looked_many {w = w} e h = record {
-  bad_is = simp (sym e, not-true w h);
-  index_is = simp (sym e, not-true w h);
-  found = λ f. absurd (clash f);
-}
+many {w = w} e h = record { bad = simp (sym e, not-true w h); index_is = simp (sym e, not-true w h) }
 
-module _ {sections starts : List ℕ} {views : List View} {k r : ℕ} {w : Bool} (e : w ≡ within 1 most_sections k) (h : not w ≡ false)
-    (F : FirstUnusable sections starts views k r) where
-  index_is_lem : bad_section_of sections k ≡ r
+module _ {sections starts : List ℕ} {views : List View} {k : ℕ} {w : Bool} (e : w ≡ within 1 most_sections k) (h : not w ≡ false) where
+  index_is_lem : {r : ℕ} → FirstUnusable sections starts views k r → bad_section_of sections k ≡ r
   unfolding bad_section_of
-  index_is_lem = simp (sym e, not-false w h, first_unusable F)
+  index_is_lem F = simp (sym e, not-false w h, first_unusable F)
 
-  pub looked_short : r < k → Looked sections k true r starts views
+  pub short : {r : ℕ} → FirstUnusable sections starts views k r → r < k → Faulty sections k r
   unfolding sections_bad
-  looked_short l = record {
-    bad_is = simp (sym e, not-false w h, first_unusable F, lt-ltb r k l);
-    index_is = index_is_lem;
-    found = λ f. absurd (clash f);
-  }
+  short {r} F l = record { bad = simp (sym e, not-false w h, first_unusable F, lt-ltb r k l); index_is = index_is_lem F }
 
--- numbers are left over, or not
-pub looked_all : {sections starts : List ℕ} {views : List View} {k i at : ℕ} {w : Bool} → w ≡ within 1 most_sections k → not w ≡ false
-    → InSections sections starts views k i at → k ≤ i → Looked sections k (not (eqb at (length sections))) i starts views
-unfolding sections_bad
-looked_all {sections} {starts} {views} {k} {i} {at} {w} e h I l = record {
-  bad_is = simp (sym e, not-false w h, first_unusable F, le-ltb i k l) (ap (λ x. not (eqb x (length sections))) (sym at_is));
-  index_is = index_is_lem e h F;
-  found = λ f. record { some = b.0; few = b.1; found = subst (SectionsFound sections starts views) i_is I.found };
-}
-  where
-    F : FirstUnusable sections starts views k i
-    F = record { r_le = I.i_le; found = I.found; unusable_at = λ m. absurd (omega arith) }
+  module _ {i at : ℕ} (I : InSections sections starts views k i at) (l : k ≤ i) where
+    all_found : FirstUnusable sections starts views k k
+    all_found =
+        let e : i ≡ k = omega (arith, I.i_le) in
+        record { r_le = omega arith; found = subst (SectionsFound sections starts views) e I.found; unusable_at = λ m. absurd (omega arith) }
 
-    i_is : i ≡ k
-    i_is = omega (arith, I.i_le)
+    -- what is left over decides
+    left_over : sections_bad sections k ≡ not (eqb at (length sections))
+    unfolding sections_bad
+    left_over =
+        simp (sym e, not-false w h, first_unusable all_found, le-ltb k k (omega arith))
+        (ap (λ x. not (eqb x (length sections))) (sym (I.at_is ∙ ap (section_start sections) (omega (arith, I.i_le)))))
 
-    at_is : at ≡ section_start sections k
-    at_is = I.at_is ∙ ap (section_start sections) i_is
+    pub left : (at ≡ length sections → ⊥) → Faulty sections k k
+    left n = record { bad = left_over ∙ ap not (ne_eqb at (length sections) n); index_is = index_is_lem all_found }
 
-    b : (1 ≤ k) × (k ≤ most_sections)
-    b = within_of 1 most_sections k (sym e ∙ not-false w h)
+    pub all : at ≡ length sections → Good sections k (record { starts = starts; views = views })
+    all s = record {
+      good = left_over ∙ ap not (eq-eqb at (length sections) s);
+      all = record { some = (within_of 1 most_sections k (sym e ∙ not-false w h)).0; few = I.few; found = all_found.found };
+    }
 
 -- where there is none, all sections are usable
 pub sections_usable : (sections : List ℕ) (k : ℕ) → sections_bad sections k ≡ false → (i : ℕ) → i < k → usable (section_at sections i) ≡ true

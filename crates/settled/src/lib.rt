@@ -7,7 +7,6 @@ ghost use Rattle.paths.specs.Chain.{unreached};
 ghost use Rattle.paths.specs.Inner.Ranked.{label_unit};
 ghost use Rattle.settled.specs.Inner.Cost.{settled_cost};
 
-use numbers::widened;
 use paths::{DISTANCE_UNIT, LABEL_UNIT, NOTE_CYCLE};
 use ranks::goal_of;
 
@@ -19,7 +18,7 @@ pub fn settled(note: u32, behind: &[u32; GOALS]) -> u32
     requires { (length behind.now ≡ label_unit) × (settled_cost behind.now note ≤ unreached) }
     ensures { result ≡ settled_cost behind.now note }
 {
-    let goal = widened(goal_of(note));
+    let goal = usize::from(goal_of(note));
     let cost = behind[goal];
     cost + (note / (DISTANCE_UNIT as u32) + NOTE_CYCLE - cost % NOTE_CYCLE) % NOTE_CYCLE
 }

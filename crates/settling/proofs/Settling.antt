@@ -4,16 +4,16 @@
 -- settled root by root; roots ascend, so that no state is settled twice.
 use mathlib.Core.Path.{◌≡◌, refl, sym, ap, subst, ◌∙◌}
 use mathlib.Core.Logic.{inl, inr}
-use mathlib.Core.List.{List}
+use mathlib.Core.List.{List, ◌++◌}
 use Prim.Native.Nat.{ℕ, suc, ◌+◌, ◌-◌, ◌*◌, ◌/◌, ◌%◌, ◌≤◌, ◌<◌}
 use native.Mathlib.Nat.{not-suc-le-zero}
 use native.Mathlib.Decide.{dec_lt}
 use native.Mathlib.Omega.{arith}
 use lib.ListN.{length, get_or, take, drop, set, length-set, length-take, length-drop, replicate, length-replicate, get_or-replicate}
-use lib.Seq.{get_or-set_other, get_or-take, get_or-drop}
+use lib.Seq.{get_or-append_right, get_or-take, get_or-drop}
 use Rattle.trellis.specs.Bounds.{most_states, costs_a_block}
 use Rattle.trellis.specs.Layout.{vertex_count_of, roots_place, goals_place, root_state}
-use Rattle.trellis.proofs.Buffers.{put_more}
+use Rattle.trellis.proofs.Buffers.{over_front, over_length}
 use Rattle.paths.specs.Chain.{unreached}
 use Rattle.paths.specs.Inner.Ranked.{label_unit, distance_unit, note_cycle, no_goal, note_goal, note_word}
 use Rattle.paths.proofs.Chain.{least_le}
@@ -133,20 +133,17 @@ roots_end {l} {behind} {old} {row} {v = v} R I h k =
 
 -- ---- copied
 
-pub copy_start : {row place : List ℕ} → length place ≡ label_unit → RowCopied row place place 0
-copy_start h = record { long = h; at = λ u l. absurd (not-suc-le-zero l); kept = λ u l. refl }
-
-pub copy_more : {row old place : List ℕ} {s : ℕ} → RowCopied row old place s → s < most_states
-    → RowCopied row old (set place s (get_or row s 0)) (s + 1)
-copy_more {row} {old} {place} {s} I h = record {
-  long = simp length-set I.long;
-  at = put_more (λ u x. x ≡ get_or row u 0) place s (get_or row s 0) (omega (arith, I.long)) refl I.at;
-  kept = λ u l. get_or-set_other place s u (get_or row s 0) 0 (λ e. absurd (omega arith)) ∙ I.kept u (omega arith);
-}
-
-pub copy_end : {row old place : List ℕ} {s : ℕ} → RowCopied row old place s → most_states ≤ s → s ≤ most_states
-    → RowCopied row old place most_states
-copy_end {row} {old} {place} {s} I h k = let e : s ≡ most_states = omega arith in subst (RowCopied row old place) e I
+pub row_copied : {row old new : List ℕ} → length row ≡ most_states → length old ≡ label_unit → new ≡ row
+    → RowCopied row old (new ++ drop most_states old) most_states
+row_copied {row} {old} h l e =
+    subst (λ x. RowCopied row old (x ++ drop most_states old) most_states) (sym e)
+    (subst (λ n. RowCopied row old (row ++ drop n old) n) h
+    (record { long = over_length row old (omega arith) ∙ l; at = over_front row old; kept = behind }))
+  where
+    behind : (u : ℕ) → length row ≤ u → get_or (row ++ drop (length row) old) u 0 ≡ get_or old u 0
+    behind u k =
+        get_or-append_right row (drop (length row) old) u 0 k ∙ get_or-drop (length row) old (u - length row) 0
+        ∙ ap (λ i. get_or old i 0) (omega arith)
 
 -- the mark behind the states stays
 behind_copied : {row old place : List ℕ} → CostsBehind old → RowCopied row old place most_states → CostsBehind place

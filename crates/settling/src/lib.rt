@@ -10,7 +10,6 @@ ghost use Rattle.paths.specs.Inner.Ranked.{label_unit};
 ghost use Rattle.section_file.specs.Inner.Sound.{Sound};
 ghost use Rattle.settling.specs.Inner.Settled.{RowFits, RootsSettled, RowCopied, BlockSettled, Settling, Settled};
 
-use numbers::{wide, widened};
 use passes::NO_PATH;
 use settled::{GOALS, settled};
 use trellis::{COSTS_A_BLOCK, MOST_SECTIONS};
@@ -22,13 +21,11 @@ fn settle_roots(l: &[u16], behind: &[u32; GOALS], row: &mut [u32])
     ensures { RootsSettled l.now behind.now row.old row.new
         (vertex_count_of l.now 0) }
 {
-    let roots = 4 + 2 * wide(l[1]);
-    let count = wide(l[3]);
-    let mut v: usize = 0;
-    while v < count {
-        let s = wide(l[roots + v]);
+    let roots = 4 + 2 * usize::from(l[1]);
+    let count = usize::from(l[3]);
+    for v in 0..count {
+        let s = usize::from(l[roots + v]);
         row[s] = settled(row[s], behind);
-        v += 1;
     }
 }
 
@@ -36,11 +33,7 @@ fn copy_row(row: &[u32], place: &mut [u32; GOALS])
     requires { (length row.now ≡ most_states) × (length place.old ≡ label_unit) }
     ensures { RowCopied row.now place.old place.new most_states }
 {
-    let mut s: usize = 0;
-    while s < COSTS_A_BLOCK {
-        place[s] = row[s];
-        s += 1;
-    }
+    place[..COSTS_A_BLOCK].copy_from_slice(row);
 }
 
 // One block: `behind` has the costs behind it, and then before it.
@@ -65,10 +58,8 @@ pub fn settle(
 {
     let mut behind = [NO_PATH; GOALS];
     copy_row(&ends, &mut behind);
-    let mut b = indices.len();
-    while b > 0 {
-        b -= 1;
-        let i = widened(indices[b]);
+    for b in (0..indices.len()).rev() {
+        let i = usize::from(indices[b]);
         let start = starts[i];
         let row = COSTS_A_BLOCK * b;
         let next = row + COSTS_A_BLOCK;

@@ -1,4 +1,4 @@
--- `beginnings::enter` goes over the slots. The loop's invariant: those passed have entered. The measure is how many are left.
+-- `beginnings::enter` goes over the slots. The loop's invariant: those passed have entered.
 use borrow.Author.Rules.{rules}
 use Rattle.beginnings.proofs.Entrance.{entered_start, entered_more, entered_all}
 use Rattle.beginnings.proofs.enter.Goals as goal

@@ -1,10 +1,7 @@
--- `beginnings::enter` goes over the slots. The loop's invariant: those passed have entered. The measure is how many are left.
-use Prim.Native.Nat.{◌-◌, ◌≤◌}
+-- `beginnings::enter` goes over the slots. The loop's invariant: those passed have entered.
+use Prim.Native.Nat.{◌≤◌}
 use Rattle.beginnings.specs.Inner.Entering.{AllEntered}
 use Rattle.beginnings.proofs.enter.Given as goal
 
 abbrev pub invariant-loop-j : goal.invariant-loop-j
 invariant-loop-j l = (l.j ≤ l.have) × AllEntered l.s l.roots l.count l.slots l.items l.j
-
-abbrev pub decreases-loop-j : goal.decreases-loop-j
-decreases-loop-j l = l.have - l.j

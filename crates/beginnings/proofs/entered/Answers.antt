@@ -6,10 +6,10 @@ use Rattle.beginnings.proofs.entered.Goals as goal
 
 pub coded-requires : goal.coded-requires
 coded-requires c =
-    let h = root_here c.args.x c.code_of.ensures c.vertex_of.ensures c.root_at-v.ensures c.requires.3 in
+    let h = root_here c.args.x c.code_of.ensures c.vertex_of.ensures c.in-Some.ensures in
     (search rules, omega (arith, h, c.requires.1))
 
 pub returns : goal.returns
 returns c =
-    entered_one c.args.x c.code_of.ensures c.vertex_of.ensures c.root_at-v.ensures c.requires.3
+    entered_one c.args.x c.code_of.ensures c.vertex_of.ensures c.in-Some.ensures
     c.cost_of.ensures.0 c.coded.ensures c.item.ensures

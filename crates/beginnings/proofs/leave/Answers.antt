@@ -1,9 +1,8 @@
 -- `beginnings::leave` goes over the items. The loop's invariant: those passed have left, each with its back pointer, and no other back
--- pointer has changed. The measure is how many are left.
+-- pointer has changed.
 use borrow.Author.Rules.{rules}
 use native.Mathlib.Omega.{arith}
-use lib.ListN.{length, get_or}
-use Prim.Native.Nat.{◌+◌, ◌<◌}
+use lib.ListN.{get_or}
 use Rattle.beginnings.proofs.Leaving.{from_small, goal_inside, goal_small, left_slot_lem, left_code_lem, left_start, left_more, left_all}
 use Rattle.beginnings.proofs.leave.Goals as goal
 
@@ -12,31 +11,22 @@ loop-j-init c = (search rules, left_start (search rules) (search rules))
 
 pub overflow_add-goals : goal.overflow_add-goals
 overflow_add-goals c =
-    let i = (let known : c.args.goals + c.vertex_of.result
-    < length c.args.s.now = let j = c.loop-j.j in
-    goal_inside c.args.goals (get_or c.args.items.now j 0) c.code_of-c.ensures c.vertex_of.ensures
-    (c.requires.5.inside j c.loop-j-test.true) in known) in search rules
+    omega (arith, goal_inside c.args.goals _ c.code_of-c.ensures c.vertex_of.ensures (c.requires.5.inside c.loop-j.j c.loop-j-test.true))
 
 pub offset_bounds-s-goals : goal.offset_bounds-s-goals
 offset_bounds-s-goals c =
-    let i = (let known : c.args.goals + c.vertex_of.result
-    < length c.args.s.now = let j = c.loop-j.j in
-    goal_inside c.args.goals (get_or c.args.items.now j 0) c.code_of-c.ensures c.vertex_of.ensures
-    (c.requires.5.inside j c.loop-j-test.true) in known) in search rules
+    omega (arith, goal_inside c.args.goals _ c.code_of-c.ensures c.vertex_of.ensures (c.requires.5.inside c.loop-j.j c.loop-j-test.true))
 
 pub bounds-s-goals : goal.bounds-s-goals
 bounds-s-goals c =
-    let i = (let known : c.args.goals + c.vertex_of.result
-    < length c.args.s.now = let j = c.loop-j.j in
-    goal_inside c.args.goals (get_or c.args.items.now j 0) c.code_of-c.ensures c.vertex_of.ensures
-    (c.requires.5.inside j c.loop-j-test.true) in known) in search rules
+    omega (arith, goal_inside c.args.goals _ c.code_of-c.ensures c.vertex_of.ensures (c.requires.5.inside c.loop-j.j c.loop-j-test.true))
 
 pub coded-requires : goal.coded-requires
 coded-requires c =
     let j = c.loop-j.j in
     let g
     = goal_small c.args.s.now c.args.goals (get_or c.args.items.now j 0) c.code_of-c.ensures
-    c.vertex_of.ensures c.wide-state.ensures.0 (c.requires.5.small j c.loop-j-test.true) in
+    c.vertex_of.ensures c.from-state.ensures (c.requires.5.small j c.loop-j-test.true) in
     (search rules, omega (arith, g))
 
 pub coded-requires-in-loop-j : goal.coded-requires-in-loop-j
@@ -47,7 +37,7 @@ coded-requires-in-loop-j c =
     let f = from_small x c.code_of-c.ensures c.root_of.ensures (c.requires.5.of j h) in
     let g
     = goal_small c.args.s.now c.args.goals x c.code_of-c.ensures c.vertex_of.ensures
-    c.wide-state.ensures.0 (c.requires.5.small j h) in
+    c.from-state.ensures (c.requires.5.small j h) in
     (f, omega (arith, g))
 
 pub loop-j-preserved : goal.loop-j-preserved
@@ -58,9 +48,9 @@ loop-j-preserved c =
     let x = get_or c.args.items.now j 0 in (
       search rules,
       left_more c.loop-j.invariant.1 (search rules) (search rules)
-          (left_slot_lem s goals x c.code_of-c.ensures c.vertex_of.ensures c.wide-state.ensures.0 j
+          (left_slot_lem s goals x c.code_of-c.ensures c.vertex_of.ensures c.from-state.ensures j
           c.cost_of.ensures.0 c.coded.ensures c.item.ensures)
-          (left_code_lem s goals x c.code_of-c.ensures c.vertex_of.ensures c.wide-state.ensures.0
+          (left_code_lem s goals x c.code_of-c.ensures c.vertex_of.ensures c.from-state.ensures
           c.root_of.ensures c.label_of.ensures c.coded-in-loop-j.ensures),
     )
 

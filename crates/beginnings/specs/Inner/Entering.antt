@@ -1,6 +1,6 @@
 -- Slots on their way into a section and out of it, over raw lists and numbers. `s` has the section at its front, and the states of its
 -- roots or goals from a place on.
-use Rattle.std.specs.Prelude.{◌≡◌, Bool, true, List, ℕ, ◌+◌, ◌*◌, ◌<◌, length, get_or}
+use Rattle.std.specs.Prelude.{◌≡◌, MatchOption, Option, List, ℕ, ◌+◌, ◌*◌, ◌<◌, length, get_or}
 use Rattle.trellis.specs.Bounds.{most_paths, most_states}
 use Rattle.dearest.specs.Inner.Items.{cost_in, code_in, item_of}
 use Rattle.codes.specs.Inner.Codes.{code, code_root, code_vertex, code_label}
@@ -16,15 +16,14 @@ pub record HasRoot (s : List ℕ) (roots count state : ℕ) : Type 0 where
   pub below : root < count
   pub is : state_from s roots root ≡ state
 
--- where some root has this state, r is such a root
+-- r is a root that has this state
 pub record RootOf (s : List ℕ) (roots count state r : ℕ) : Type 0 where
-  pub below : HasRoot s roots count state → r < count
-  pub is : HasRoot s roots count state → state_from s roots r ≡ state
+  pub below : r < count
+  pub is : state_from s roots r ≡ state
 
--- where it is said that the root of the state's own number has the state, it has it
-pub record OwnRoot (s : List ℕ) (roots count state : ℕ) (said : Bool) : Type 0 where
-  pub below : said ≡ true → state < count
-  pub is : said ≡ true → state_from s roots state ≡ state
+-- a root that has this state was found, or no root has it
+abbrev pub RootFound : List ℕ → ℕ → ℕ → ℕ → Option ℕ → Type 0
+RootFound s roots count state found = MatchOption found (HasRoot s roots count state → ⊥) (RootOf s roots count state)
 
 -- slot j becomes this item
 pub record EnteredOne (s : List ℕ) (roots count j x item : ℕ) : Type 0 where

@@ -1,19 +1,13 @@
 -- `chain::decode` names a fault of the sections, or goes on with the frame.
-use mathlib.Core.Path.{◌∙◌}
 use Rattle.frame.specs.Frame.{frame}
 use Rattle.decoding.proofs.Faults.{ends_section, past_sections}
 use Rattle.chain.proofs.decode.Goals as goal
 
-pub returns-then-found : goal.returns-then-found
-returns-then-found c =
-    let L = c.find-found.ensures in
-    ends_section ((frame c.args.sections.now c.args.k c.args.indices.now c.args.received.now c.args.erased.now c.args.start
-    c.args.end)) _ _ _ _ (L.bad_is ∙ c.if-found.true) L.index_is
+pub returns-in-Err : goal.returns-in-Err
+returns-in-Err c = let F = c.in-Err.ensures in ends_section (frame _ _ _ _ _ _ _) _ _ _ _ F.bad F.index_is
 
 pub decode_frame-requires : goal.decode_frame-requires
-decode_frame-requires c = c.find-found.ensures.found c.if-found.false
+decode_frame-requires c = c.in-Ok.ensures.all
 
 pub returns : goal.returns
-returns c =
-    past_sections ((frame c.args.sections.now c.args.k c.args.indices.now c.args.received.now c.args.erased.now c.args.start
-    c.args.end)) _ _ _ _ (c.find-found.ensures.bad_is ∙ c.if-found.false) c.decode_frame.ensures
+returns c = past_sections (frame _ _ _ _ _ _ _) _ _ _ _ c.in-Ok.ensures.good c.decode_frame.ensures

@@ -8,34 +8,34 @@ fill-to_pay-requires c = (ready c.requires.0.checks, c.ends_in-ends.ensures.long
 
 pub settle-requires : goal.settle-requires
 settle-requires c =
-    with_notes c.requires.0 c.widened-from.ensures.0 c.widened.ensures.0 c.ends_in-ends.ensures c.requires.1
+    with_notes c.requires.0 c.from-from.ensures c.from.ensures c.ends_in-ends.ensures c.requires.1
     c.fill-to_pay.ensures
 
 pub returns-then-distance : goal.returns-then-distance
 returns-then-distance c =
-    with_none c.requires.0 c.widened-from.ensures.0 c.widened.ensures.0 c.ends_in-ends.ensures c.requires.1
+    with_none c.requires.0 c.from-from.ensures c.from.ensures c.ends_in-ends.ensures c.requires.1
     c.fill-to_pay.ensures
     c.if-distance.true c.settle.ensures
 
 pub follow-requires : goal.follow-requires
 follow-requires c =
-    with_way c.requires.0 c.widened-from.ensures.0 c.widened.ensures.0 c.ends_in-ends.ensures c.requires.1
+    with_way c.requires.0 c.from-from.ensures c.from.ensures c.ends_in-ends.ensures c.requires.1
     c.fill-to_pay.ensures
     c.if-distance.false
 
 pub put_masks-requires : goal.put_masks-requires
 put_masks-requires c =
-    with_labels c.requires.0 c.widened-from.ensures.0 c.widened.ensures.0 c.ends_in-ends.ensures c.requires.1
+    with_labels c.requires.0 c.from-from.ensures c.from.ensures c.ends_in-ends.ensures c.requires.1
     c.fill-to_pay.ensures
     c.if-distance.false c.follow.ensures
 
 pub settle-requires-2 : goal.settle-requires-2
 settle-requires-2 c =
-    with_notes c.requires.0 c.widened-from.ensures.0 c.widened.ensures.0 c.ends_in-ends.ensures c.requires.1
+    with_notes c.requires.0 c.from-from.ensures c.from.ensures c.ends_in-ends.ensures c.requires.1
     c.fill-to_pay.ensures
 
 pub returns : goal.returns
 returns c =
-    with_path c.requires.0 c.widened-from.ensures.0 c.widened.ensures.0 c.ends_in-ends.ensures c.requires.1
+    with_path c.requires.0 c.from-from.ensures c.from.ensures c.ends_in-ends.ensures c.requires.1
     c.fill-to_pay.ensures
     c.if-distance.false c.follow.ensures c.put_masks.ensures c.settle-2.ensures

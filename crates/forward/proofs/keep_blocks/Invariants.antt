@@ -1,8 +1,6 @@
 -- `forward::keep_blocks` puts the first beginning into the first slot and takes the slots through block after block. The loop's invariant:
--- they are what is kept in front of block b, the limit is below the cost of no path, and the working room is there. The measure is how many
--- blocks are left.
-use Prim.Native.Nat.{◌-◌, ◌<◌}
-use lib.ListN.{length}
+-- they are what is kept in front of block b, the limit is below the cost of no path, and the working room is there.
+use Prim.Native.Nat.{◌<◌}
 use Rattle.paths.specs.Chain.{unreached}
 use Rattle.frame.specs.Frame.{frame}
 use Rattle.forward.specs.Inner.Blocks.{Workspace}
@@ -12,6 +10,3 @@ use Rattle.forward.proofs.keep_blocks.Given as goal
 abbrev pub invariant-loop-b : goal.invariant-loop-b
 invariant-loop-b l = KeptAt (frame l.sections 0 l.indices l.received l.erased l.start l.end) l.k l.b l.grown.count l.slots l.back
     × (l.grown.limit < unreached) × Workspace l.prices l.even l.odd l.rows l.items
-
-abbrev pub decreases-loop-b : goal.decreases-loop-b
-decreases-loop-b l = length l.indices - l.b

@@ -1,16 +1,20 @@
 -- What the checks of the sections and of the frame leave where they are passed.
-use Rattle.std.specs.Prelude.{◌≡◌, List, ℕ, ◌^◌, ◌≤◌, ◌<◌, length, get_or}
+use Rattle.std.specs.Prelude.{◌≡◌, Some, None, Result, MatchResult, List, ℕ, ◌^◌, ◌≤◌, ◌<◌, length, get_or}
 use Rattle.trellis.specs.Bounds.{most_states, most_symbols, most_sections, most_blocks}
 use Rattle.trellis.specs.Layout.{n_of}
 use Rattle.section_file.specs.declared.View.{View}
 use Rattle.sections.specs.Inner.Found.{no_view, AllFound}
-use Rattle.frame.specs.Frame.{Frame, frame, block_count, block_section}
+use Rattle.frame.specs.Frame.{Frame, frame, block_count, block_section, frame_fault}
 
 -- views of k sections at most, each of few symbols
 pub record Views (views : List View) (k : ℕ) : Type 0 where
   pub few : k ≤ most_sections
   pub long : length views ≡ most_sections
   pub short : (j : ℕ) → j < k → (get_or views j no_view).n ≤ most_symbols
+
+-- whether there is a fault 9, and the number that it returns
+abbrev pub Tested : {A : Type 0} → Frame → Result A ℕ → Type 0
+Tested f tested = MatchResult tested (λ fine. frame_fault f ≡ None) (λ bad. frame_fault f ≡ Some bad)
 
 -- a frame that is not bad
 pub record Framed (f : Frame) : Type 0 where

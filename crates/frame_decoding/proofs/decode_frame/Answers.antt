@@ -1,45 +1,19 @@
 -- `frame_decoding::decode_frame` names a fault of the frame or the first bad block, or goes on with the blocks.
-use borrow.Author.Rules.{rules}
-use mathlib.Core.Path.{sym, ◌∙◌}
 use Rattle.frame.specs.Frame.{frame}
-use Rattle.frame.proofs.Checks.{FramePassed, views_of, framed_of, frame_passed, checked}
-use Rattle.decoding.proofs.Faults.{ends_frame, ends_block, past_frame}
+use Rattle.frame.proofs.Checks.{views_of, frame_passed, checked}
+use Rattle.decoding.proofs.Faults.{ends_fault, past_frame}
 use Rattle.frame_decoding.proofs.decode_frame.Goals as goal
 
-pub returns-then-frame_bad : goal.returns-then-frame_bad
-returns-then-frame_bad c =
-    ends_frame ((frame c.args.sections.now c.args.k c.args.indices.now c.args.received.now c.args.erased.now c.args.start
-    c.args.end)) _ _ _ _ (c.frame_bad.ensures _ _) c.if-frame_bad.true
+pub check-requires : goal.check-requires
+check-requires c = views_of c.requires
 
-pub first_bad-bad-requires : goal.first_bad-bad-requires
-first_bad-bad-requires c =
-    let G = framed_of {f = (frame c.args.sections.now c.args.k c.args.indices.now c.args.received.now c.args.erased.now c.args.start
-    c.args.end)} (sym (c.frame_bad.ensures c.args.sections.now c.args.k) ∙ c.if-frame_bad.false) in
-    (views_of c.requires, G.received_long, G.erased_long)
-
-pub returns-then-bad-indices : goal.returns-then-bad-indices
-returns-then-bad-indices c =
-    let f = (frame c.args.sections.now c.args.k c.args.indices.now c.args.received.now c.args.erased.now c.args.start
-    c.args.end) in
-    ends_block f _ _ _ _ (c.frame_bad.ensures _ _) c.if-frame_bad.false
-    (c.first_bad-bad.ensures f.sections c.args.starts.now f.start f.end c.requires.found) c.if-bad-indices.true
+pub returns-in-Err : goal.returns-in-Err
+returns-in-Err c = ends_fault (frame _ _ _ _ _ _ _) _ _ _ _ (c.in-Err.ensures _ c.args.starts.now c.requires.found)
 
 pub decode_blocks-requires : goal.decode_blocks-requires
-decode_blocks-requires c =
-    record {
-      k = c.args.k;
-      checks = checked c.requires ((let known : FramePassed ((frame c.args.sections.now c.args.k c.args.indices.now c.args.received.now c.args.erased.now c.args.start
-          c.args.end)) = let f = (frame c.args.sections.now c.args.k c.args.indices.now c.args.received.now c.args.erased.now c.args.start
-          c.args.end) in
-          frame_passed {f = f} (c.frame_bad.ensures f.sections f.k) c.if-frame_bad.false
-          (c.first_bad-bad.ensures f.sections c.args.starts.now f.start f.end c.requires.found) (search rules) in known));
-    }
+decode_blocks-requires c = checked c.requires (c.in_default.ensures c.args.sections.now c.args.starts.now c.requires.found)
 
 pub returns : goal.returns
 returns c =
-    past_frame ((frame c.args.sections.now c.args.k c.args.indices.now c.args.received.now c.args.erased.now c.args.start
-    c.args.end)) _ _ _ _ ((let known : FramePassed ((frame c.args.sections.now c.args.k c.args.indices.now c.args.received.now c.args.erased.now c.args.start
-    c.args.end)) = let f = (frame c.args.sections.now c.args.k c.args.indices.now c.args.received.now c.args.erased.now c.args.start
-    c.args.end) in
-    frame_passed {f = f} (c.frame_bad.ensures f.sections f.k) c.if-frame_bad.false
-    (c.first_bad-bad.ensures f.sections c.args.starts.now f.start f.end c.requires.found) (search rules) in known)) (c.decode_blocks.ensures c.args.k)
+    past_frame (frame _ _ _ _ _ _ _) _ _ _ _ (frame_passed (c.in_default.ensures c.args.sections.now c.args.starts.now c.requires.found))
+    (c.decode_blocks.ensures c.args.k)

@@ -12,26 +12,26 @@ fill-to_pay-requires c =
 pub settle-requires : goal.settle-requires
 settle-requires c =
     let pre = c.requires in
-    with_notes pre.0 c.widened.ensures.0 c.ends_in-ends.ensures pre.1 pre.2 c.fill-to_pay.ensures
+    with_notes pre.0 c.from.ensures c.ends_in-ends.ensures pre.1 pre.2 c.fill-to_pay.ensures
 
-pub bounds-to_pay-widened : goal.bounds-to_pay-widened
-bounds-to_pay-widened c = let below = c.requires.0.checks.framed.start_below in search rules
+pub bounds-to_pay-from : goal.bounds-to_pay-from
+bounds-to_pay-from c = let below = c.requires.0.checks.framed.start_below in search rules
 
-pub returns-then-to_pay-widened : goal.returns-then-to_pay-widened
-returns-then-to_pay-widened c =
+pub returns-then-to_pay-from : goal.returns-then-to_pay-from
+returns-then-to_pay-from c =
     let pre = c.requires in
-    with_none pre.0 c.widened.ensures.0 c.ends_in-ends.ensures pre.1 pre.2 c.fill-to_pay.ensures
-    c.widened-2.ensures.0 c.settle.ensures c.if-to_pay-widened.true
+    with_none pre.0 c.from.ensures c.ends_in-ends.ensures pre.1 pre.2 c.fill-to_pay.ensures
+    c.from-2.ensures c.settle.ensures c.if-to_pay-from.true
 
 pub list_paths-requires : goal.list_paths-requires
 list_paths-requires c =
     let pre = c.requires in
-    let T = with_table pre.0 c.widened.ensures.0 c.ends_in-ends.ensures pre.1 pre.2 c.fill-to_pay.ensures
-    c.widened-2.ensures.0 c.settle.ensures c.if-to_pay-widened.false in
+    let T = with_table pre.0 c.from.ensures c.ends_in-ends.ensures pre.1 pre.2 c.fill-to_pay.ensures
+    c.from-2.ensures c.settle.ensures c.if-to_pay-from.false in
     (pre.0, T, pre.1, pre.2.for_distances, pre.2.for_labels, pre.2.for_goals)
 
 pub returns : goal.returns
 returns c =
     let pre = c.requires in
-    with_paths pre.0 c.widened.ensures.0 c.ends_in-ends.ensures pre.1 pre.2 c.fill-to_pay.ensures
-    c.widened-2.ensures.0 c.settle.ensures c.if-to_pay-widened.false c.list_paths.ensures
+    with_paths pre.0 c.from.ensures c.ends_in-ends.ensures pre.1 pre.2 c.fill-to_pay.ensures
+    c.from-2.ensures c.settle.ensures c.if-to_pay-from.false c.list_paths.ensures

@@ -4,6 +4,3 @@ use Rattle.readout.proofs.read_path.Given as goal
 
 abbrev pub invariant-loop-b : goal.invariant-loop-b
 invariant-loop-b l = Backward l.back l.blocks l.slot l.at l.initial.labels l.labels l.initial.goals l.goals l.j l.b
-
-abbrev pub decreases-loop-b : goal.decreases-loop-b
-decreases-loop-b l = l.b

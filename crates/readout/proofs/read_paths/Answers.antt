@@ -7,17 +7,14 @@ use Rattle.codes.specs.Inner.Codes.{code_root}
 use Rattle.readout.proofs.Paths.{paths_start, paths_room, paths_near, paths_more, paths_all}
 use Rattle.readout.proofs.read_paths.Goals as goal
 
--- src/lib.rt:65:5
 pub loop-r-init : goal.loop-r-init
 loop-r-init c = paths_start
 
--- src/lib.rt:67:9
 pub bounds-distances-r : goal.bounds-distances-r
 bounds-distances-r c =
     let p = c.requires in
     omega (arith, c.loop-r.invariant.so_far.long_distances, p.2, c.loop-r-test.true)
 
--- src/lib.rt:68:9
 pub read_path-requires : goal.read_path-requires
 read_path-requires c =
     let p = c.requires in
@@ -31,19 +28,16 @@ read_path-requires c =
       p.6,
     )
 
--- src/lib.rt:69:9
 pub overflow_add-at : goal.overflow_add-at
 overflow_add-at c =
     let p = c.requires in
     omega (arith, paths_near c.loop-r.invariant c.loop-r-test.true p.0 p.1, p.1)
 
--- src/lib.rt:65:5
 pub loop-r-preserved : goal.loop-r-preserved
 loop-r-preserved c =
     let p = c.requires in
     paths_more c.loop-r.invariant c.loop-r-test.true p.2 refl c.distance_of.ensures
     c.code_of.ensures c.root_of.ensures c.read_path.ensures
 
--- src/lib.rt:49:1
 pub returns : goal.returns
 returns c = paths_all c.loop-r.invariant (search rules)

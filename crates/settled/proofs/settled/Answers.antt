@@ -6,8 +6,8 @@ use Rattle.settled.proofs.settled.Goals as goal
 
 pub overflow_add-result-2 : goal.overflow_add-result-2
 overflow_add-result-2 c =
-    let e = settled_fits _ _ c.requires.1 (c.widened-goal.ensures.0 ∙ c.goal_of.ensures) in
+    let e = settled_fits _ _ c.requires.1 (c.from-goal.ensures ∙ c.goal_of.ensures) in
     search (rules, e)
 
 pub returns : goal.returns
-returns c = settled_by _ _ (c.widened-goal.ensures.0 ∙ c.goal_of.ensures)
+returns c = settled_by _ _ (c.from-goal.ensures ∙ c.goal_of.ensures)
