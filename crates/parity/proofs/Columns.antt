@@ -2,7 +2,7 @@
 -- one column from the second to the first. A row added: the columns before m are cleared at bit p, those from m on are as they were.
 use mathlib.Core.Path.{◌≡◌, refl, sym, ap, ap₂, ◌∙◌}
 use mathlib.Core.List.{List, map}
-use Prim.Native.Nat.{ℕ, zero, suc, ◌+◌, ◌/◌, ◌%◌, ◌^◌, ◌≤◌, ◌<◌}
+use Prim.Native.Nat.{ℕ, zero, suc, ◌+◌, ◌/◌, ◌%◌, ◌≤◌, ◌<◌}
 use native.Mathlib.Omega.{arith}
 use native.Mathlib.Numerals.{add-one}
 use native.Mathlib.Decide.{ℕ_discrete}
@@ -29,9 +29,9 @@ picked_all (suc b) r d = refl
 low_bit : (x : ℕ) → bit_and x 1 ≡ x % 2
 low_bit x = and_mask x 1
 
-pub column_by : (p z y : ℕ) {r : ℕ} → r ≡ chosen (bit_and (y / 2 ^ p) 1) z → bit_xor y r ≡ cleared p z y
-unfolding cleared bit_at
-column_by p z y e = ap (λ k. y ⊕ k) (e ∙ ap (λ k. chosen k z) (low_bit (y / 2 ^ p)))
+pub column_by : (p z y : ℕ) {b r : ℕ} → b ≡ bit_at p y → r ≡ chosen b z → bit_xor y r ≡ cleared p z y
+unfolding cleared
+column_by p z y a e = ap (λ k. y ⊕ k) (e ∙ ap (λ k. chosen k z) a)
 
 -- ---- a syndrome
 

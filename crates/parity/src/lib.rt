@@ -5,7 +5,7 @@
 
 ghost use Rattle.std.specs.Prelude.{◌≡◌, ◌%◌, ◌^◌, ◌≤◌, ◌<◌, length, get_or, MatchResult};
 ghost use Rattle.rows.specs.Sums.{chosen, sum_of, first_dependent};
-ghost use Rattle.rows.specs.Inner.Reduced.{cleared, add_row, Narrow, Spans};
+ghost use Rattle.rows.specs.Inner.Reduced.{bit_at, cleared, add_row, Narrow, Spans};
 ghost use Rattle.parity.specs.Inner.Steps.{Top, TakenUp, Checked};
 
 // As many bits as any row has.
@@ -22,6 +22,14 @@ pub fn low_bits(x: u16, bits: usize) -> u16
     ensures { result ≡ x % 2 ^ bits }
 {
     x & ((1 << bits) - 1)
+}
+
+// Bit `cut` of a row.
+pub fn bit_at(x: u16, cut: usize) -> u16
+    requires { cut < 16 }
+    ensures { result ≡ bit_at cut x }
+{
+    (x >> cut) & 1
 }
 
 // r where the bit is set, else 0.
@@ -57,7 +65,7 @@ fn column_cleared(p: usize, z: u16, y: u16) -> u16
     requires { p < 16 }
     ensures { result ≡ cleared p z y }
 {
-    y ^ picked((y >> p) & 1, z)
+    y ^ picked(bit_at(y, p), z)
 }
 
 // z added to the columns that have bit p.

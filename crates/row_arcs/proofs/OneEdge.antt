@@ -1,19 +1,11 @@
 -- One edge as a number, by shifts. Nothing is lost where the number fits in 16 bits: (2 * from + symbol) * 2 ^ dim is below 2 ^ 16, and so
 -- is 2 * from + symbol, since 2 ^ dim is at least 1.
 use mathlib.Core.Path.{◌≡◌, ap, ◌∙◌}
-use Prim.Native.Nat.{ℕ, ◌+◌, ◌*◌, ◌/◌, ◌%◌, ◌^◌, ◌≤◌, ◌<◌}
+use Prim.Native.Nat.{ℕ, ◌+◌, ◌*◌, ◌%◌, ◌^◌, ◌≤◌, ◌<◌}
 use native.Mathlib.Omega.{arith}
 use native.Mathlib.Nat.{mod-eq_of_lt, mul_comm, mul-le-mul_left, mul-one}
 use lib.Pow.{pow_pos}
-use lib.Bits.{bit_and, and_mask}
-use Rattle.rows.specs.Inner.Reduced.{bit_at}
 use Rattle.rows.specs.Inner.Edges.{edge_number}
-
-pub bit_is : (x cut : ℕ) → bit_and (x / 2 ^ cut) 1 ≡ bit_at cut x
-unfolding bit_at
-bit_is x cut = and_mask (x / 2 ^ cut) 1
-
--- ---- put together
 
 module _ (dim from symbol to : ℕ) (small : edge_number dim from symbol to < 2 ^ 16) where
   whole : (2 * from + symbol) * 2 ^ dim + to ≡ edge_number dim from symbol to

@@ -6,12 +6,11 @@
 ghost use Rattle.std.specs.Prelude.{◌≡◌, ◌+◌, ◌*◌, ◌^◌, ◌≤◌, ◌<◌, length};
 ghost use Rattle.trellis.specs.Inner.Write.{Wrote};
 ghost use Rattle.rows.specs.Sums.{sums};
-ghost use Rattle.rows.specs.Inner.Reduced.{bit_at};
 ghost use Rattle.rows.specs.Inner.Edges.{edge_number};
 ghost use Rattle.parity.specs.Inner.Front.{Front};
 ghost use Rattle.row_arcs.specs.Inner.Arcs.{arcs_of, StepAsked, EdgesAsked, AllEdges};
 
-use parity::ROW_BITS;
+use parity::{ROW_BITS, bit_at};
 use row_sums::put_sums;
 use takers::Edges;
 use trellis::MOST_SYMBOLS;
@@ -22,14 +21,6 @@ fn edge_number(from: u16, symbol: u16, to: u16, dim: usize) -> u16
     ensures { result ≡ edge_number dim from symbol to }
 {
     ((2 * from + symbol) << dim) + to
-}
-
-// Bit `cut` of a row.
-pub fn bit_at(x: u16, cut: usize) -> u16
-    requires { cut < 16 }
-    ensures { result ≡ bit_at cut x }
-{
-    (x >> cut) & 1
 }
 
 // The edges that the rows take at a step whose two rows of the map begin at `row`; the symbol is bit `cut`.

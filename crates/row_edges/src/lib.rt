@@ -2,7 +2,7 @@
 
 #![tactic(auto)]
 
-ghost use Rattle.std.specs.Prelude.{◌+◌, ◌<◌};
+ghost use Rattle.std.specs.Prelude.{◌+◌};
 ghost use Rattle.trellis.specs.Layout.{joined_up};
 ghost use Rattle.trellis.specs.Inner.Write.{Wrote};
 ghost use Rattle.row_pieces.specs.Inner.Pieces.{step_pairs, step_symbols, PiecesAsked};

@@ -6,8 +6,7 @@ ghost use Rattle.std.specs.Prelude.{◌≡◌, ◌+◌, ◌*◌, ◌/◌, ◌^�
 ghost use Rattle.trellis.specs.Inner.Write.{Wrote};
 ghost use Rattle.row_pieces.specs.Inner.Pieces.{pairs_from, symbols_from};
 
-use parity::low_bits;
-use row_arcs::bit_at;
+use parity::{bit_at, low_bits};
 
 // Where an edge comes from; where it leads is its last bits.
 fn from_of(edge: u16, dim: usize) -> u16

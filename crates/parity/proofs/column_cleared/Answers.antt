@@ -3,4 +3,4 @@ use Rattle.parity.proofs.Columns.{column_by}
 use Rattle.parity.proofs.column_cleared.Goals as goal
 
 pub returns : goal.returns
-returns c = column_by _ _ _ c.picked.ensures
+returns c = column_by _ _ _ c.bit_at.ensures c.picked.ensures
