@@ -1,25 +1,24 @@
 -- The mask's bits are its base-2 digits, read by a shift and `&`; the digits of a label that fits a block are 0 where they are erased.
 use mathlib.Core.Path.{◌≡◌, sym, ap, subst, ◌∙◌}
 use mathlib.Core.Bool.{Bool, true, false}
-use Prim.Native.Nat.{ℕ, suc, ◌+◌, ◌-◌, ◌*◌, ◌/◌, ◌%◌, ◌^◌, ◌≤◌, ◌<◌}
-use native.Mathlib.Nat.{not-suc-le-zero, div-eq_of_lt, div-lt_iff_lt-mul, pow-le-pow_right, lt_of_lt_of_le}
-use native.Mathlib.Decide.{ℕ_discrete, dec_lt}
+use Prim.Native.Nat.{ℕ, suc, ◌-◌, ◌*◌, ◌/◌, ◌%◌, ◌^◌, ◌≤◌, ◌<◌}
+use native.Mathlib.Nat.{zero-add, div-eq_of_lt, div-lt_iff_lt-mul, pow-le-pow_right, lt_of_lt_of_le}
+use native.Mathlib.Decide.{dec_lt}
 use native.Mathlib.Omega.{arith}
 use lib.Bits.{bit_and, and_mask}
 use lib.Pow.{pow_pos}
-use lib.Dec.{T, ltb, eqb, lit<}
+use lib.Dec.{ltb, eqb, lit<}
 use borrow.Author.Tests.{lt-ltb, le-ltb, eq-eqb, ne_eqb}
+use lib.ListN.{length}
+use Rattle.std.proofs.Common.{MatchBool}
+use Rattle.std.specs.List.{AllWithin, HoldsAt, range_with_len}
+use Rattle.std.proofs.lemmas.List.FromFn.{get_or-range_with_len, length-range_with_len}
 use Rattle.trellis.specs.Lists.{one_if, first}
 use Rattle.trellis.specs.Comparing.{marked_at}
 use Rattle.trellis.proofs.Bools.{holds, fails}
-use Rattle.trellis.proofs.Lists.{First, first_is}
+use Rattle.trellis.proofs.Lists.{First, first_ok, first_is}
 use Rattle.trellis.proofs.Comparing.{bit_is}
 use Rattle.received.specs.Received.{stray}
-
--- no symbol before t is erased and not 0
-pub record InStray (n received erased t : ℕ) : Type 0 where
-  pub t_le : t ≤ n
-  pub none : (u : ℕ) → u < t → T (stray n received erased u) → ⊥
 
 pub bit_at : (n t mask : ℕ) → bit_and (mask / 2 ^ (n - 1 - t)) 1 ≡ one_if (marked_at n t mask)
 unfolding marked_at
@@ -44,28 +43,30 @@ mask_all mask n a b = sym (lt-ltb mask (2 ^ n) (lt_of_lt_of_le a (pow-le-pow_rig
 
 -- ---- no stray symbol
 
-pub stray_start : (n received erased : ℕ) → InStray n received erased 0
-stray_start n received erased = record { t_le = omega arith; none = λ u h. absurd (not-suc-le-zero h) }
-
-pub stray_found : {n received erased t : ℕ} {b : Bool} → InStray n received erased t → t < n → b ≡ stray n received erased t → b ≡ true
-    → false ≡ eqb (first (stray n received erased) n) n
-stray_found {n} {received} {erased} {t} I h e q =
-    let F : First (stray n received erased) n t = record { most = omega arith; hit = λ k. holds (sym e ∙ q); miss = I.none } in
-    sym (ne_eqb (first (stray n received erased) n) n (λ k. absurd (omega (arith, first_is (stray n received erased) n t F))))
-
-pub stray_more : {n received erased t : ℕ} {b : Bool} → InStray n received erased t → t < n → b ≡ stray n received erased t → b ≡ false
-    → InStray n received erased (t + 1)
-stray_more {n} {received} {erased} {t} I h e q = record { t_le = omega arith; none = none }
+-- all symbols passed the test, or one of them is stray
+pub clear_is : (n received erased : ℕ) (r : Bool)
+    → MatchBool r (AllWithin (λ t. stray n received erased t ≡ false) (range_with_len 0 n) 0 (length (range_with_len 0 n)))
+    ((k : ℕ) × (k < length (range_with_len 0 n)) × HoldsAt (λ t. stray n received erased t ≡ true) (range_with_len 0 n) k)
+    → r ≡ eqb (first (stray n received erased) n) n
+clear_is n received erased true A = sym (eq-eqb (first (stray n received erased) n) n (first_is (stray n received erased) n n F))
   where
-    none : (u : ℕ) → u < t + 1 → T (stray n received erased u) → ⊥
-    none u l = go (ℕ_discrete u t)
-      where
-        go : Dec (u ≡ t) → T (stray n received erased u) → ⊥
-        go (yes k) s = fails (sym e ∙ q) (subst (λ w. T (stray n received erased w)) k s)
-        go (no k) s = I.none u (omega arith) s
+    at : (j : ℕ) → j < n → stray n received erased j ≡ false
+    at j h =
+        subst (λ t. stray n received erased t ≡ false) (get_or-range_with_len 0 n j 0 h ∙ zero-add j)
+        (A j 0 (omega arith) (omega (arith, length-range_with_len 0 n)))
 
-pub stray_none : {n received erased t : ℕ} → InStray n received erased t → n ≤ t → true ≡ eqb (first (stray n received erased) n) n
-stray_none {n} {received} {erased} {t} I h =
-    let F : First (stray n received erased) n n =
-    record { most = omega arith; hit = λ k. absurd (omega arith); miss = λ j k. I.none j (omega (arith, I.t_le)) } in
-    sym (eq-eqb (first (stray n received erased) n) n (first_is (stray n received erased) n n F))
+    F : First (stray n received erased) n n
+    F = record { most = omega arith; hit = λ h. absurd (omega arith); miss = λ j h. fails (at j h) }
+clear_is n received erased false A = sym (ne_eqb (first (stray n received erased) n) n other)
+  where
+    k : ℕ
+    k = A.0
+
+    inside : k < n
+    inside = omega (arith, A.1, length-range_with_len 0 n)
+
+    found : stray n received erased k ≡ true
+    found = subst (λ t. stray n received erased t ≡ true) (get_or-range_with_len 0 n k 0 inside ∙ zero-add k) (A.2 0)
+
+    other : first (stray n received erased) n ≡ n → ⊥
+    other e = (first_ok (stray n received erased) n).miss k (omega (arith, inside, e)) (holds found)

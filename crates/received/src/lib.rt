@@ -36,12 +36,7 @@ fn is_clear(received: u16, erased: u8, n: usize) -> bool
     requires { n ≤ most_symbols }
     ensures { result ≡ eqb (first (stray n received erased) n) n }
 {
-    for t in 0..n {
-        if is_stray(received, erased, n, t) {
-            return false;
-        }
-    }
-    true
+    (0..n).all(|t| !is_stray(received, erased, n, t))
 }
 
 // Whether a received label and mask fit a section of n symbols below q.

@@ -1,16 +1,16 @@
--- `received::is_clear` tests the symbols in their order. The loop's invariant: none of those passed is erased and other than 0.
+-- `received::is_clear` asks that no symbol is stray: either none is, or the first that is stands below n.
+use mathlib.Core.Path.{◌≡◌, refl}
+use mathlib.Core.Bool.{true, false}
 use borrow.Author.Rules.{rules}
-use Rattle.received.proofs.Fitting.{stray_start, stray_found, stray_more, stray_none}
+use Rattle.std.proofs.Common.{tests, arith}
+use Rattle.std.proofs.lemmas.Iterator.{cases_from_all, YieldsList-from_range}
+use Rattle.received.specs.Received.{stray}
+use Rattle.received.proofs.Fitting.{clear_is}
 use Rattle.received.proofs.is_clear.Goals as goal
 
-pub loop-t-init : goal.loop-t-init
-loop-t-init c = stray_start _ _ _
-
-pub returns-then-is_stray : goal.returns-then-is_stray
-returns-then-is_stray c = stray_found c.loop-t.invariant c.loop-t-test.true c.is_stray.ensures c.if-is_stray.true
-
-pub loop-t-preserved : goal.loop-t-preserved
-loop-t-preserved c = stray_more c.loop-t.invariant c.loop-t-test.true c.is_stray.ensures c.if-is_stray.false
-
 pub returns : goal.returns
-returns c = stray_none c.loop-t.invariant (search rules)
+returns c =
+    let a = c.args in
+    clear_is a.n a.received a.erased c.all.result
+    (cases_from_all _ _ c.all.result (λ t. stray a.n a.received a.erased t ≡ false) (λ t. stray a.n a.received a.erased t ≡ true)
+    c.all.ensures.ran (YieldsList-from_range 0 a.n a.n refl (omega arith)) (λ x q k. search (rules, tests)) (λ x q k. search (rules, tests)))
