@@ -1,6 +1,6 @@
 -- Numbering in one pass. A word that is first of its vertex gets the count so far; any other reads back the number of its first word, which
 -- stands before it and is its own first word. So each gets how many first words come before its own.
-use mathlib.Core.Path.{◌≡◌, refl, sym, ap, ap₂, subst, ◌∙◌}
+use mathlib.Core.Path.{◌≡◌, refl, sym, ap, ap₂, ◌∙◌}
 use mathlib.Core.List.{List}
 use Prim.Native.Nat.{ℕ, ◌+◌, ◌≤◌, ◌<◌}
 use native.Mathlib.Omega.{arith}
@@ -12,7 +12,7 @@ use lib.Dec.{eqb}
 use Rattle.trellis.specs.Lists.{one_if}
 use Rattle.runs.specs.Inner.Runs.{below, number_of}
 use Rattle.runs.proofs.Counting.{below_le}
-use Rattle.depth_runs.specs.Inner.Rows.{at, RowAt, first_word_in, ToNumber, VerticesNumbered}
+use Rattle.depth_runs.specs.Inner.Rows.{at, RowAt, first_word_in, ToNumber}
 use Rattle.depth_runs.proofs.Places.{at_set, upto_next}
 
 pub record InNumbers (place W : ℕ) (first_word : ℕ → ℕ) (old new : List ℕ) (i count : ℕ) : Type 0 where
@@ -76,12 +76,3 @@ module _ {place W : ℕ} {first_word : ℕ → ℕ} {old new : List ℕ} {i coun
           → at (set (set new (place + i) count) (place + i) (at (set new (place + i) count) (place + own))) j ≡ at new j
       other j q = at_set (set new (place + i) count) (place + i) j (at (set new (place + i) count) (place + own)) q
           ∙ at_set new (place + i) j count q
-
-  pub numbers_end : W ≤ i → VerticesNumbered place W first_word old new count
-  numbers_end h =
-      let e : i ≡ W = omega (arith, c.i_le) in
-      record {
-        row = subst (λ k. RowAt place k (number_of first_word) old new) e c.row;
-        counted = c.counted
-            ∙ ap (below (λ j. eqb (first_word j) j)) e;
-      }

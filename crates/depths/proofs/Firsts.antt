@@ -64,9 +64,6 @@ module _ {labels : List ℕ} {n t : ℕ} {old row seen : List ℕ} {i : ℕ} (c 
   unfolding row_key
   firsts_key {a} {s} {b} p q r = ap₂ (λ x y. x * 4 + y) (p ∙ c.rest i (omega arith)) (r ∙ q)
 
-  pub firsts_small : {a : ℕ} → a ≡ at row i → i < length labels → a < most_words
-  firsts_small {a} p h = omega (arith, p ∙ c.rest i (omega arith), c.small.lt i h)
-
   pub firsts_lt : {a s b : ℕ} → a ≡ at row i → s ≡ symbol n t (at labels i) → b ≡ s → i < length labels → a * 4 + b < 4096
   firsts_lt {a} {s} {b} p q r h = let e = firsts_key {a = a} {s = s} {b = b} p q r in
       omega (arith, key_lt labels n t old (length labels) i c.small h)
@@ -113,9 +110,6 @@ module _ {labels : List ℕ} {n t : ℕ} {old row seen : List ℕ} {i : ℕ} (c 
       own y (no q) (inr o) =
           inr (subst (λ z. HasKey keys (i + 1) y z) (sym (at_set seen x y first q))
           (record { earlier = omega (arith, o.earlier); has = o.has }))
-
-  pub firsts_end : length labels ≤ i → Row (length labels) (first_like keys) row
-  firsts_end h = let e : i ≡ length labels = omega (arith, c.i_le) in subst (λ k. Row k (first_like keys) row) e c.done
 
 pub firsts_none : (labels : List ℕ) (n t : ℕ) (old : List ℕ) → length labels ≤ most_words → Small (length labels) old
     → InFirsts labels n t old old (replicate 4096 most_words) 0

@@ -1,15 +1,13 @@
 -- The goals as a row. They are bytes, so they fit; and at depth n an ending is a goal, so they tell the endings there apart.
-use mathlib.Core.Path.{◌≡◌, sym, subst, ◌∙◌}
+use mathlib.Core.Path.{sym, ◌∙◌}
 use mathlib.Core.List.{List}
-use Prim.Native.Nat.{ℕ, ◌+◌, ◌≤◌, ◌<◌}
+use Prim.Native.Nat.{ℕ, ◌≤◌, ◌<◌}
 use native.Mathlib.Omega.{arith}
-use lib.ListN.{length, set}
-use Rattle.trellis.specs.Bounds.{most_words}
+use lib.ListN.{length}
 use Rattle.trellis.specs.Word.{Word, word_at}
 use Rattle.runs.specs.Inner.Cuts.{ending_at}
 use Rattle.runs.proofs.Keys.{tells_goals, tells_row}
 use Rattle.depth_runs.specs.Inner.Rows.{at, Row, Bytes}
-use Rattle.depth_runs.proofs.Places.{upto_next, row_none, row_more}
 use Rattle.depths.specs.Inner.Words.{words, Held}
 use Rattle.depths.specs.Inner.Merge.{EndingRow}
 use Rattle.depths.proofs.Words.{held_length, word_goal}
@@ -18,23 +16,6 @@ pub record InBytes (bytes new : List ℕ) (i : ℕ) : Type 0 where
   pub i_le : i ≤ length bytes
   pub row : Row i (at bytes) new
   pub byte : (j : ℕ) → j < i → at bytes j < 256
-
-pub bytes_none : (bytes row : List ℕ) → length row ≡ most_words → InBytes bytes row 0
-bytes_none bytes row h = record { i_le = omega arith; row = row_none (at bytes) row h; byte = λ j k. absurd (omega arith) }
-
-pub bytes_more : {bytes row : List ℕ} {i x : ℕ} → InBytes bytes row i → (x ≡ at bytes i) × (x < 256) → length bytes ≤ most_words
-    → i < length bytes
-    → InBytes bytes (set row i x) (i + 1)
-bytes_more {bytes} {row} {i} {x} c e m h = record {
-  i_le = omega arith;
-  row = row_more x c.row (omega arith) e.0;
-  byte = upto_next (λ j. at bytes j < 256) i c.byte (omega (arith, e.0, e.1));
-}
-
-pub bytes_end : {bytes row : List ℕ} {i : ℕ} → InBytes bytes row i → length bytes ≤ i → Bytes bytes row
-bytes_end {bytes} {row} {i} c h =
-    let e : i ≡ length bytes = omega (arith, c.i_le) in
-    record { row = subst (λ k. Row k (at bytes) row) e c.row; byte = λ j k. c.byte j (omega arith) }
 
 pub goal_row : {n : ℕ} {roots labels goals row : List ℕ} → Held n roots labels goals → Bytes goals row
     → EndingRow n (words roots labels goals) n row

@@ -1,6 +1,6 @@
 -- The starts of runs. Words with one beginning stand together, so the start of i's run is that of the run before, where both words begin
 -- alike, and else i; the pass keeps the start of the last word's run. On the words of a table this is the first word with i's beginning.
-use mathlib.Core.Path.{◌≡◌, refl, sym, ap, ap₂, subst, ◌∙◌}
+use mathlib.Core.Path.{◌≡◌, refl, sym, ap, ap₂, ◌∙◌}
 use mathlib.Core.Bool.{Bool, cond, ◌&&◌}
 use mathlib.Core.List.{List}
 use Prim.Native.Nat.{ℕ, zero, suc, ◌+◌, ◌-◌, ◌≤◌, ◌<◌}
@@ -17,7 +17,7 @@ use Rattle.runs.specs.Inner.Cuts.{beginning_at}
 use Rattle.runs.proofs.FirstLike.{like_le, like_is, like_eq}
 use Rattle.runs.proofs.Cuts.{cut, begins_eq}
 use Rattle.depth_runs.specs.Inner.Rows.{at, Row, begin_alike, joins, start_by, run_start}
-use Rattle.depth_runs.proofs.Places.{row_none, row_more}
+use Rattle.depth_runs.proofs.Places.{row_more}
 use Rattle.depths.specs.Inner.Words.{words, Held}
 use Rattle.depths.proofs.Words.{held_length, word_root, word_label}
 
@@ -34,9 +34,6 @@ unfolding start_by run_start
 start_now joined zero start h = refl
 start_now joined (suc i) start h = simp (ne_eqb (suc i) 0 (λ e. omega arith), h i refl)
 
-pub starts_none : (roots labels : List ℕ) (n t : ℕ) (starts : List ℕ) → length starts ≡ most_words → InStarts roots labels n t starts 0 0
-starts_none roots labels n t starts h = record { i_le = omega arith; row = row_none _ starts h; last = λ j e. absurd (omega arith) }
-
 pub starts_more : {roots labels : List ℕ} {n t : ℕ} {starts : List ℕ} {i start now : ℕ} → InStarts roots labels n t starts i start
     → now ≡ start_by (joins roots labels n t) i start → i < length roots → i < most_words
     → InStarts roots labels n t (set starts i now) (i + 1) now
@@ -47,12 +44,6 @@ starts_more {roots} {labels} {n} {t} {starts} {i} {start} {now} c e h k =
       row = row_more now c.row k is;
       last = λ j q. let r : i ≡ j = omega arith in is ∙ ap (run_start (joins roots labels n t)) r;
     }
-
-pub starts_end : {roots labels : List ℕ} {n t : ℕ} {starts : List ℕ} {i start : ℕ} → InStarts roots labels n t starts i start
-    → length roots ≤ i → Row (length roots) (run_start (joins roots labels n t)) starts
-starts_end {roots} {labels} {n} {t} {starts} {i} c h =
-    let e : i ≡ length roots = omega (arith, c.i_le) in
-    subst (λ k. Row k (run_start (joins roots labels n t)) starts) e c.row
 
 -- ---- runs from neighbours
 

@@ -2,8 +2,7 @@
 use mathlib.Core.Path.{sym, subst, ◌∙◌}
 use native.Mathlib.Omega.{arith}
 use Rattle.lacking.specs.Inner.Search.{FirstWith}
-use Rattle.lacking.specs.Inner.Rows.{refutes_in}
-use Rattle.lacking.proofs.Passing.{tries_none, tries_lt, tries_asked, tries_more, tries_hit, tries_end}
+use Rattle.lacking.proofs.Passing.{tries_none, tries_lt, tries_asked, tries_hit, tries_end}
 use Rattle.witness.proofs.first_from.Goals as goal
 
 pub loop-k-init : goal.loop-k-init
@@ -22,11 +21,6 @@ overflow_add-j c = omega (arith, tries_lt c.loop-k.invariant (sym c.to_try.ensur
 
 pub loop-k-smaller : goal.loop-k-smaller
 loop-k-smaller c = omega (arith, tries_lt c.loop-k.invariant (sym c.to_try.ensures ∙ c.loop-k-test.true), c.requires.rows.few)
-
-pub loop-k-preserved : goal.loop-k-preserved
-loop-k-preserved c = tries_more c.loop-k.invariant
-    (subst (FirstWith (refutes_in c.args.starts.now c.args.firsts.now c.args.w) c.args.w c.args.i c.loop-k.j) c.in_default.is
-    c.first_lacking.ensures)
 
 pub returns : goal.returns
 returns c = tries_end c.loop-k.invariant (sym c.to_try.ensures ∙ c.loop-k-test.false)
