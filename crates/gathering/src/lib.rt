@@ -34,6 +34,7 @@ fn starts_of(pairs: &[u16], symbols: &[u16], count: usize) -> [u16; MOST_WORDS]
 
 // Puts the beginning c, one step further along each edge that left its vertex, behind the first `made` numbers. Answers how many there are
 // then, or nothing where they are more than the array has room for.
+#[tactic(auto, using(edges::proofs::Reading::edge_small))]
 fn grow_one(
     pairs: &[u16],
     symbols: &[u16],

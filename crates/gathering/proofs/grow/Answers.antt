@@ -1,14 +1,10 @@
 -- `gathering::grow` meets its contract. The loop's invariant: the beginnings passed are put one step further.
-use native.Mathlib.Omega.{arith}
 use Rattle.gathering.proofs.Growing.{begins_of, growing_start, growing_next, growing_over, growing_all}
 use borrow.Author.Rules.{rules}
 use Rattle.gathering.proofs.grow.Goals as goal
 
 pub loop-i-init : goal.loop-i-init
 loop-i-init c = growing_start (search rules)
-
-pub bounds-starts-vertex_of : goal.bounds-starts-vertex_of
-bounds-starts-vertex_of c = omega (arith, c.vertex_of.ensures)
 
 pub grow_one-requires : goal.grow_one-requires
 grow_one-requires c = (

@@ -1,7 +1,6 @@
 -- `gathering::grow_one` meets its contract. The loop's invariant: what is filled, and the edges of the vertex from k on, are all that is to
 -- be put there.
 use mathlib.Core.Path.{sym, ap, ◌∙◌}
-use native.Mathlib.Omega.{arith}
 use Rattle.edges.specs.declared.Edge.{Edge}
 use Rattle.gathering.proofs.Growing.{putting_start, putting_next, putting_over, putting_done, putting_stops}
 use Rattle.codes.proofs.Codes.{further_at}
@@ -21,13 +20,6 @@ pub returns-then-filled-ge-MOST_WORDS : goal.returns-then-filled-ge-MOST_WORDS
 returns-then-filled-ge-MOST_WORDS c =
     putting_over c.loop-k.invariant c.loop-k-test.true
     (sym (ap (λ (x : Edge). x.from) c.edge_at-e.ensures) ∙ c.if-e-vertex.false ∙ c.vertex_of-vertex.ensures) c.if-filled-ge-MOST_WORDS.true
-
-pub further-requires : goal.further-requires
-further-requires c =
-    let s = c.requires.0.small in (
-      omega (arith, s.symbol_small _ c.loop-k-test.true, ap (λ (x : Edge). x.symbol) c.edge_at-e.ensures),
-      omega (arith, s.to_small _ c.loop-k-test.true, ap (λ (x : Edge). x.to) c.edge_at-e.ensures),
-    )
 
 pub loop-k-preserved : goal.loop-k-preserved
 loop-k-preserved c =

@@ -12,9 +12,6 @@ use Rattle.usable.proofs.steps_right.Goals as goal
 pub loop-t-init : goal.loop-t-init
 loop-t-init c = steps_start _ _
 
-pub step_right-requires : goal.step_right-requires
-step_right-requires c = (c.requires, c.loop-t-test.true, c.loop-t.invariant.before_is)
-
 pub returns-then-not-step_right : goal.returns-then-not-step_right
 returns-then-not-step_right c = passed_fails c.loop-t.invariant.passed c.loop-t-test.true c.step_right.ensures (ap not c.if-not-step_right.true)
 

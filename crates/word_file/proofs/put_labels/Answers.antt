@@ -1,15 +1,10 @@
 -- `word_file::put_labels` meets its contract. The loop's invariant: the labels passed are written.
-use native.Mathlib.Omega.{arith}
-use lib.ListN.{length-set}
 use Rattle.word_file.proofs.Writing.{pieces_start, label_is, pieces_next, pieces_all}
 use borrow.Author.Rules.{rules}
 use Rattle.word_file.proofs.put_labels.Goals as goal
 
 pub loop-i-init : goal.loop-i-init
 loop-i-init c = pieces_start
-
-pub bounds-file-at-in-loop-i : goal.bounds-file-at-in-loop-i
-bounds-file-at-in-loop-i c = simp length-set (omega arith)
 
 pub loop-i-preserved : goal.loop-i-preserved
 loop-i-preserved c =
