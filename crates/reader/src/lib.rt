@@ -3,8 +3,9 @@
 
 #![tactic(auto)]
 
-ghost use Rattle.std.specs.Prelude.{◌≡◌};
-ghost use Rattle.fields.specs.Fields.{file_word};
+ghost use Rattle.std.specs.Prelude.{◌≡◌, ◌-◌};
+ghost use Rattle.std.specs.Iterator.{at_most};
+ghost use Rattle.fields.specs.Fields.{file_word, word_count};
 ghost use Rattle.fields.specs.Inner.Answer.{held_word, found_at};
 ghost use Rattle.fields.specs.Inner.ReadOn.{place_after};
 
@@ -35,24 +36,31 @@ impl<'a> Reader<'a> {
     }
 
     // The index of the word that comes next.
-    pub fn position(self) -> u16
-        ensures { result ≡ self.entry.at }
+    pub fn position(&self) -> u16
+        ensures { result ≡ self.now.at }
     {
         self.at
     }
 
     // The word that comes next, without moving on. Past the end it reads bytes that are not there as 0, so that it needs no condition.
-    pub fn word_here(self) -> Word
-        ensures { result ≡ held_word (file_word self.entry.file.now self.entry.at) }
+    pub fn word_here(&self) -> Word
+        ensures { result ≡ held_word (file_word self.now.file.now self.now.at) }
     {
         word_of(self.file, self.at)
     }
+}
 
-    // The word that comes next, or the end. The reader moves on by one word, and at the end it stays.
-    pub fn next(&mut self) -> Option<Word>
-        ensures { (result ≡ found_at self.old.file.now self.old.at) × (self.new.file ≡ self.old.file)
-            × (self.new.at ≡ place_after self.old.file.now self.old.at) }
-    {
+// The words from here on. The reader moves on by one word at a time, and at the end it stays.
+impl<'a> Iterator for Reader<'a> {
+    type Item = Word;
+
+    ghost next_gives = { λ before found after. (found ≡ found_at before.file.now before.at) × (after.file ≡ before.file)
+        × (after.at ≡ place_after before.file.now before.at) };
+
+    ghost remaining = { λ reader. at_most (word_count reader.file.now - reader.at) };
+
+    // The word that comes next, or the end.
+    fn next(&mut self) -> Option<Word> {
         let found = found_at(self.file, self.at);
         self.at = place_after(self.file, self.at);
         found
