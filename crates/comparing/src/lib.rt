@@ -28,7 +28,7 @@ fn differences(x: u16, y: u16) -> u8
 }
 
 // Two labels compared: the mask of the symbols that differ and are not erased, the first symbol highest, and their number.
-#[derive(Clone, Copy)]
+#[derive(Clone, Copy, PartialEq, Eq)]
 pub struct Comparison {
     pub mask: u8,
     pub distance: u32,
@@ -41,7 +41,7 @@ pub fn compare(x: u16, y: u16, erased: u8) -> Comparison
 {
     let mask = differences(x, y) & !erased;
     Comparison {
-        mask: mask,
+        mask,
         distance: u8::count_ones(mask),
     }
 }

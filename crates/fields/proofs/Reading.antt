@@ -4,19 +4,16 @@ use mathlib.Core.Path.{◌≡◌, sym, ◌∙◌}
 use mathlib.Core.Bool.{Bool, true, false, not}
 use mathlib.Core.List.{List}
 use Prim.Native.Nat.{ℕ, ◌+◌, ◌*◌, ◌≤◌, ◌<◌}
-use lib.ListN.{length, get_or-eq_default}
+use lib.ListN.{length}
 use lib.Dec.{eqb}
 use borrow.Author.Tests.{lt-ltb, le-ltb}
+use Rattle.std.specs.Prelude.{Some, None}
 use Rattle.fields.specs.Fields.{byte_at, two_bytes, word_count, file_word, length_bad}
 use Rattle.fields.specs.Inner.Answer.{held_word, found_at}
 use Rattle.fields.specs.Inner.ReadOn.{place_after}
 use Rattle.fields.specs.declared.Word.{Word}
-use Rattle.fields.specs.declared.Found.TheVariants.{Word as Here, Nothing}
 
 module _ (file : List ℕ) where
-  pub past_end : {at : ℕ} → length file ≤ at → 0 ≡ byte_at file at
-  past_end h = sym (get_or-eq_default file 0 h)
-
   pub count_is_lem : {low high w : ℕ} → low ≡ byte_at file 3 → high ≡ byte_at file 4 → w ≡ two_bytes low high → w ≡ word_count file
   unfolding word_count
   count_is_lem a b e = e ∙ simp (a, b)
@@ -40,16 +37,16 @@ module _ (file : List ℕ) where
   held_is i a b d = simp (a, b, d)
 
   -- the ways out of `word_at`
-  pub nothing_length : (i : ℕ) {b : Bool} → b ≡ length_bad file → b ≡ true → Nothing ≡ found_at file i
+  pub nothing_length : (i : ℕ) {b : Bool} → b ≡ length_bad file → b ≡ true → None ≡ found_at file i
   unfolding found_at
   nothing_length i a e = simp (sym a, e)
 
-  pub nothing_past : {i w : ℕ} {b : Bool} → b ≡ length_bad file → b ≡ false → w ≡ word_count file → w ≤ i → Nothing ≡ found_at file i
+  pub nothing_past : {i w : ℕ} {b : Bool} → b ≡ length_bad file → b ≡ false → w ≡ word_count file → w ≤ i → None ≡ found_at file i
   unfolding found_at
   nothing_past a e x h = simp (sym a, e, sym x, le-ltb _ _ h)
 
   pub here : {i w : ℕ} {b : Bool} {k : Word} → b ≡ length_bad file → b ≡ false → w ≡ word_count file → i < w → k ≡ held_word (file_word file i)
-      → Here k ≡ found_at file i
+      → Some k ≡ found_at file i
   unfolding found_at
   here a e x h f = simp (sym a, e, sym x, lt-ltb _ _ h, f)
 

@@ -6,33 +6,26 @@
 ghost use Rattle.std.specs.Prelude.{◌≡◌};
 ghost use Rattle.fields.specs.Fields.{byte_at, two_bytes, word_count, length_bad};
 
-// A word as the file has it.
-#[derive(Clone, Copy)]
+// A word as the file has it. Words are compared by root, then label, then goal.
+#[derive(Clone, Copy, PartialEq, Eq, PartialOrd, Ord)]
 pub struct Word {
     pub root: u8,
     pub label: u16,
     pub goal: u8,
 }
 
-// What a reader finds: a word, or nothing past the last one.
-#[derive(Clone, Copy)]
-pub enum Found {
-    Word(Word),
-    Nothing,
-}
-
 // A byte past the end reads as 0, so that reading a word needs no condition.
 pub fn byte_at(file: &[u8], at: usize) -> u8
     ensures { result ≡ byte_at file.now at }
 {
-    if at < file.len() { file[at] } else { 0 }
+    file.get(at).copied().unwrap_or(0)
 }
 
 // The number in two bytes, low byte first.
 pub fn two_bytes(low: u8, high: u8) -> u16
     ensures { result ≡ two_bytes low high }
 {
-    (low as u16) + 256 * (high as u16)
+    u16::from_le_bytes([low, high])
 }
 
 // W as the file states it.
@@ -46,8 +39,5 @@ pub fn word_count(file: &[u8]) -> u16
 pub fn length_bad(file: &[u8]) -> bool
     ensures { result ≡ length_bad file.now }
 {
-    if file.len() < 5 {
-        return true;
-    }
-    file.len() != 5 + 4 * (word_count(file) as usize)
+    file.len() < 5 || file.len() != 5 + 4 * usize::from(word_count(file))
 }

@@ -7,7 +7,7 @@ ghost use Rattle.fields.specs.Fields.{file_word};
 ghost use Rattle.fields.specs.Inner.Answer.{held_word, found_at};
 ghost use Rattle.fields.specs.Inner.ReadOn.{place_after};
 
-use fields::{Found, Word, byte_at, length_bad, two_bytes, word_count};
+use fields::{Word, byte_at, length_bad, two_bytes, word_count};
 
 // The fields of a word. An index of 16 bits keeps every place far below the largest usize.
 fn root_at(file: &[u8], i: u16) -> u8
@@ -43,23 +43,23 @@ pub fn word_of(file: &[u8], i: u16) -> Word
 }
 
 // The word at an index, for readers: there is none where the file's length is not what its word count asks for.
-pub fn word_at(file: &[u8], i: usize) -> Found
+pub fn word_at(file: &[u8], i: usize) -> Option<Word>
     ensures { result ≡ found_at file.now i }
 {
     if length_bad(file) {
-        return Found::Nothing;
+        return None;
     }
     if i >= word_count(file) as usize {
-        return Found::Nothing;
+        return None;
     }
-    Found::Word(word_of(file, i as u16))
+    Some(word_of(file, i as u16))
 }
 
 // The word at an index of 16 bits, which a reader holds.
-pub fn found_at(file: &[u8], i: u16) -> Found
+pub fn found_at(file: &[u8], i: u16) -> Option<Word>
     ensures { result ≡ found_at file.now i }
 {
-    word_at(file, i as usize)
+    word_at(file, usize::from(i))
 }
 
 // Where a reader stands that has read on from word i: behind the word, or still there if there is none.

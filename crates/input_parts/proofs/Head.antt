@@ -9,13 +9,14 @@ use lib.ListN.{length}
 use lib.Dec.{ltb}
 use borrow.Author.Tests.{lt-ltb, le-ltb, ltb-false}
 use Rattle.trellis.specs.Bounds.{most_sections, most_blocks}
-use Rattle.trellis.specs.Lists.{within}
+use Rattle.std.specs.Prelude.{Option, Some, None}
+use Rattle.trellis.specs.Lists.{found_below, within}
 use Rattle.trellis.specs.Outcome.{Outcome, outcome, bad_section, bad_block}
 use Rattle.trellis.proofs.Bools.{neither}
 use Rattle.numbers.proofs.Bounds.{within_to}
 use Rattle.outcomes.specs.Inner.Holds.{Holds}
 use Rattle.table.specs.File.{table_file}
-use Rattle.table.proofs.Search.{Clear, clear_found, clear_all}
+use Rattle.table.proofs.Search.{Clear, clear_found, clear_all, found_is, none_below}
 use Rattle.input_parts.specs.Input.{input_sections, input_blocks, input_index, table_at, table_start, table_outcome, lengths_bad, index_bad}
 use Rattle.input_parts.specs.Input.{first_index, first_refused, input_outcome}
 use Rattle.input_parts.specs.Inner.Read.{head_outcome, left_over, HeadRead, HeadPassed, Told, Read}
@@ -60,12 +61,12 @@ module _ (input : List ℕ) (b : ℕ) {sections s : ℕ} (k_is : sections ≡ in
   unfolding index_bad
   index_low h = ap not (lt-ltb (input_index input b) (input_sections input) (omega (arith, k_is, s_is)))
 
-module _ (input : List ℕ) {b : ℕ} (C : Clear (index_bad input) (input_blocks input) b) where
-  pub index_found : b < input_blocks input → index_bad input b ≡ true → b ≡ first_index input
+module _ (input : List ℕ) {b : ℕ} (C : Clear (index_bad input) b) where
+  pub index_found : b < input_blocks input → index_bad input b ≡ true → Some b ≡ found_below (input_blocks input) (first_index input)
   unfolding first_index
   index_found h e = clear_found C h e
 
-  pub index_none : input_blocks input ≤ b → b ≡ first_index input
+  pub index_none : input_blocks input ≤ b → None ≡ found_below (input_blocks input) (first_index input)
   unfolding first_index
   index_none h = clear_all C h
 
@@ -116,24 +117,25 @@ module _ (input : List ℕ) where
           (ap (λ a. heads a (lengths_bad input) (ltb (first_index input) B)) (sym same_sections ∙ w_true)
           ∙ ap (λ b. heads true b (ltb (first_index input) B)) (sym bad_is ∙ e) ∙ ap bad_block (sym R.blocks_are)) h
 
-      module _ (bad_false : bad ≡ false) {first : ℕ} (first_is : first ≡ first_index input) where
+      module _ (bad_false : bad ≡ false) {found : Option ℕ} (found_lem : found ≡ found_below B (first_index input)) where
         by_index : head_outcome input ≡ heads true false (ltb (first_index input) B)
         unfolding head_outcome
         by_index =
             ap (λ a. heads a (lengths_bad input) (ltb (first_index input) B)) (sym same_sections ∙ w_true)
             ∙ ap (λ b. heads true b (ltb (first_index input) B)) (sym bad_is ∙ bad_false)
 
-        pub head_index : {number count : ℕ} {values : List ℕ} → first < blocks → Holds (bad_block first) number count values
+        pub head_index : {first number count : ℕ} {values : List ℕ} → found ≡ Some first → Holds (bad_block first) number count values
             → Told (head_outcome input) number count values
-        head_index l h =
-            told_one 9 first (omega arith) (omega (arith, R.blocks_to))
-            (by_index ∙ ap (heads true false) (lt-ltb (first_index input) B (omega (arith, first_is, R.blocks_are)))
-            ∙ ap bad_block (sym first_is)) h
+        head_index {first} e h =
+            let f = found_is (sym e ∙ found_lem) in
+            told_one 9 first (omega arith) (omega (arith, R.blocks_to, R.blocks_are, f.1))
+            (by_index ∙ ap (heads true false) (lt-ltb (first_index input) B (omega (arith, f.0, f.1)))
+            ∙ ap bad_block (sym f.0)) h
 
-        pub head_fine : {number count : ℕ} {values : List ℕ} → blocks ≤ first → Holds (outcome 0 []) number count values
+        pub head_fine : {number count : ℕ} {values : List ℕ} → found ≡ None → Holds (outcome 0 []) number count values
             → Told (head_outcome input) number count values
-        head_fine l h =
-            told_none (by_index ∙ ap (heads true false) (le-ltb (first_index input) B (omega (arith, first_is, R.blocks_are)))) h
+        head_fine e h =
+            told_none (by_index ∙ ap (heads true false) (le-ltb (first_index input) B (none_below (sym e ∙ found_lem)))) h
 
   pub blocks_few : lengths_bad input ≡ false → B ≤ most_blocks
   unfolding lengths_bad

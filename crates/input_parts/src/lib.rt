@@ -4,6 +4,7 @@
 
 ghost use Rattle.std.specs.Prelude.{◌≡◌, ◌≤◌, length};
 ghost use Rattle.trellis.specs.Bounds.{most_sections};
+ghost use Rattle.trellis.specs.Lists.{found_below};
 ghost use Rattle.input_parts.specs.Input.{input_sections, input_blocks, input_index, any_table, table_part, lengths_bad, first_index};
 ghost use Rattle.input_parts.specs.Inner.Read.{head_outcome, left_over, HeadRead, Told};
 
@@ -45,19 +46,17 @@ fn lengths_bad(input: &[u8], blocks: usize) -> bool
     input.len() < 3 + blocks
 }
 
-// The first block whose section is not below K, or B.
-fn first_index(input: &[u8], sections: usize, blocks: usize) -> usize
+// The first block whose section is not below K.
+fn first_index(input: &[u8], sections: usize, blocks: usize) -> Option<usize>
     requires { (sections ≡ input_sections input.now) × (blocks ≡ input_blocks input.now) × (blocks ≤ 65535) }
-    ensures { result ≡ first_index input.now }
+    ensures { result ≡ found_below (input_blocks input.now) (first_index input.now) }
 {
-    let mut b: usize = 0;
-    while b < blocks {
+    for b in 0..blocks {
         if section_index(input, b) >= sections {
-            return b;
+            return Some(b);
         }
-        b += 1;
     }
-    b
+    None
 }
 
 // K, B and the indices: the first fault, or number 0.
@@ -71,8 +70,7 @@ pub fn check_head(input: &[u8], sections: usize, blocks: usize) -> Returned
     if lengths_bad(input, blocks) {
         return one_value(9, blocks);
     }
-    let bad = first_index(input, sections, blocks);
-    if bad < blocks {
+    if let Some(bad) = first_index(input, sections, blocks) {
         return one_value(9, bad);
     }
     no_value(0)

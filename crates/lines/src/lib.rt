@@ -9,7 +9,7 @@ ghost use Rattle.trellis.specs.Layout.{n_of, joined_up};
 ghost use Rattle.text.specs.Inner.Put.{Put};
 ghost use Rattle.lines.specs.Text.{entering, depth_line, sums, sizes_of};
 
-use numbers::{number, wide};
+use numbers::number;
 pub use section_costs::{additions_of, selections_of};
 use text::put_line;
 
@@ -20,7 +20,7 @@ fn edges_entering(sizes: &[u16], n: usize, t: usize) -> usize
     if t == 0 {
         return 0;
     }
-    wide(number(sizes, 3 + n + t))
+    usize::from(number(sizes, 3 + n + t))
 }
 
 fn put_depths(sizes: &[u16], n: usize, text: &mut [u8], at: usize) -> usize
@@ -28,11 +28,13 @@ fn put_depths(sizes: &[u16], n: usize, text: &mut [u8], at: usize) -> usize
     ensures { Put text.old at (joined_up (depth_line sizes.now) (suc n)) text.new result }
 {
     let mut end = at;
-    let mut t: usize = 0;
-    while t <= n {
-        let numbers = [t, wide(number(sizes, 3 + t)), edges_entering(sizes, n, t)];
+    for t in 0..=n {
+        let numbers = [
+            t,
+            usize::from(number(sizes, 3 + t)),
+            edges_entering(sizes, n, t),
+        ];
         end = put_line(text, end, b"depth", &numbers);
-        t += 1;
     }
     end
 }
@@ -50,8 +52,13 @@ fn put_sums(sizes: &[u16], text: &mut [u8], at: usize) -> usize
 pub fn put_sizes(sizes: &[u16], words: usize, text: &mut [u8]) -> usize
     ensures { Put text.old 0 (sizes_of words sizes.now) text.new result }
 {
-    let n = wide(number(sizes, 1));
-    let numbers = [wide(number(sizes, 0)), n, wide(number(sizes, 2)), words];
+    let n = usize::from(number(sizes, 1));
+    let numbers = [
+        usize::from(number(sizes, 0)),
+        n,
+        usize::from(number(sizes, 2)),
+        words,
+    ];
     let sized = put_line(text, 0, b"section", &numbers);
     let end = put_depths(sizes, n, text, sized);
     put_sums(sizes, text, end)

@@ -29,7 +29,7 @@ pub use listing::listing;
 pub use merge::merge;
 pub use merge_rows::merge_rows;
 pub use read_back::read_back;
-pub use records::{BlockRecord, Counted, Sums, count as count_records};
+pub use records::{BlockRecord, Sums, TooMany, count as count_records};
 pub use same_section::same_section;
 pub use sheet::block_sheet;
 

@@ -1,3 +1,3 @@
--- Laws of bounds, of reading numbers past the end and of summing them.
+-- Laws of bounds, and of summing numbers.
 pub mod Bounds
 pub mod Sums

@@ -1,15 +1,10 @@
 -- A sum taken number by number is the sum of the numbers passed, and small, as each of them has 16 bits.
-use mathlib.Core.Path.{◌≡◌, refl, sym, ap, ◌∙◌}
-use mathlib.Core.List.{List}
+use mathlib.Core.Path.{◌≡◌, refl, ap, ◌∙◌}
 use Prim.Native.Nat.{ℕ, suc, ◌+◌, ◌*◌, ◌≤◌, ◌<◌}
 use native.Mathlib.Omega.{arith}
 use native.Mathlib.Nat.{zero-add}
-use lib.ListN.{length, get_or, get_or-eq_default}
 use Rattle.trellis.specs.Lists.{sum}
 use Rattle.trellis.proofs.Lists.{sum_last}
-
-pub past_end : (l : List ℕ) (i : ℕ) → length l ≤ i → 0 ≡ get_or l i 0
-past_end l i h = sym (get_or-eq_default l 0 h)
 
 pub record Summed (f : ℕ → ℕ) (count total t : ℕ) : Type 0 where
   pub inside : t ≤ count

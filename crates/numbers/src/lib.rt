@@ -10,26 +10,26 @@ ghost use Rattle.trellis.specs.Lists.{sum, within};
 pub fn wide(x: u16) -> usize
     ensures { (result ≡ x) × (result < 65536) }
 {
-    x as usize
+    usize::from(x)
 }
 
 pub fn widened(x: u8) -> usize
     ensures { (result ≡ x) × (result < 256) }
 {
-    x as usize
+    usize::from(x)
 }
 
 pub fn is_within(low: usize, high: usize, x: usize) -> bool
     ensures { result ≡ within low high x }
 {
-    if x < low { false } else { x <= high }
+    (low..=high).contains(&x)
 }
 
 // The number at place i.
 pub fn number(l: &[u16], i: usize) -> u16
     ensures { result ≡ get_or l.now i 0 }
 {
-    if i < l.len() { l[i] } else { 0 }
+    l.get(i).copied().unwrap_or(0)
 }
 
 // The sum of `count` numbers from place `at` on.
@@ -38,10 +38,8 @@ pub fn total(l: &[u16], at: usize, count: usize) -> usize
     ensures { (result ≡ sum (λ t. get_or l.now (at + t) 0) 0 count) × (result ≤ 65535 * count) }
 {
     let mut sum: usize = 0;
-    let mut t: usize = 0;
-    while t < count {
+    for t in 0..count {
         sum += wide(number(l, at + t));
-        t += 1;
     }
     sum
 }

@@ -26,13 +26,11 @@ pub fn is_label(label: u16, q: u16, n: usize) -> bool
     ensures { result ≡ is_label q n label }
 {
     let mut rest = label;
-    let mut left = held(n);
-    while left > 0 {
+    for _ in 0..held(n) {
         if (rest & 3) >= q {
             return false;
         }
-        rest = rest >> 2;
-        left -= 1;
+        rest >>= 2;
     }
     rest == 0
 }

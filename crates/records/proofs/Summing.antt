@@ -17,8 +17,7 @@ use Rattle.records.specs.Records.{sum_over, additions_sum, selections_sum, count
 use Rattle.records.specs.Inner.Blank.{blank}
 use Rattle.records.specs.declared.BlockRecord.{BlockRecord}
 use Rattle.records.specs.declared.Sums.{Sums}
-use Rattle.records.specs.declared.Counted.{Counted}
-use Rattle.records.specs.declared.Counted.TheVariants.{Totals, TooMany}
+use Rattle.std.specs.Prelude.{Ok, Err}
 
 sum_append : (cost : BlockRecord → ℕ) (xs ys : List BlockRecord) → sum_over cost (xs ++ ys) ≡ sum_over cost xs + sum_over cost ys
 unfolding sum_over
@@ -78,17 +77,6 @@ summed_next {records} {i} {sums} {r} {block} s l e h a =
       selections_few = omega arith;
     }
 
--- so adding a record stays below 2^64, as long as the list is as short as a frame's blocks are few
-pub summed_fits : {records : List BlockRecord} {i : ℕ} {sums : Sums} {block : BlockRecord} → Summed records i sums
-    → length records ≤ most_blocks → i < length records → Held block
-    → (sums.additions + block.additions < 2 ^ 64) × (sums.selections + block.selections < 2 ^ 64)
-summed_fits {records} {i} {sums} {block} s few l h =
-    let s₀ : sums.additions ≤ i * 2 ^ 32 = s.additions_few in
-    let s₁ : sums.selections ≤ i * 2 ^ 32 = s.selections_few in
-    let h₀ : block.additions < 2 ^ 32 = h.additions_fit in
-    let h₁ : block.selections < 2 ^ 32 = h.selections_fit in
-    (omega arith, omega arith)
-
 pub summed_all : {records : List BlockRecord} {i : ℕ} {sums : Sums} → Summed records i sums → length records ≤ i → SumsOf records sums
 summed_all {records} {i} {sums} s over =
     let e = take_all i records over in
@@ -101,11 +89,11 @@ unfolding counting
 counting_by records e =
     sym (ap (λ (b : Bool). cond b (bad_block (length records)) (outcome 0 (additions_sum records ∷ selections_sum records ∷ []))) e)
 
-pub counted_few : (records : List BlockRecord) {sums : Sums} {r : Counted} → length records ≤ most_blocks → SumsOf records sums
-    → r ≡ Totals sums → counted_outcome r ≡ counting records
-counted_few records few are is =
-    ap counted_outcome is ∙ (λ k. outcome 0 (are.0 k ∷ are.1 k ∷ [])) ∙ counting_by records (le-ltb most_blocks (length records) few)
+pub counted_few : (records : List BlockRecord) {sums : Sums} → length records ≤ most_blocks → SumsOf records sums
+    → counted_outcome (Ok sums) ≡ counting records
+counted_few records few are =
+    (λ k. outcome 0 (are.0 k ∷ are.1 k ∷ [])) ∙ counting_by records (le-ltb most_blocks (length records) few)
 
-pub counted_many : (records : List BlockRecord) {r : Counted} → most_blocks < length records → r ≡ TooMany (length records)
-    → counted_outcome r ≡ counting records
-counted_many records many is = ap counted_outcome is ∙ counting_by records (lt-ltb most_blocks (length records) many)
+pub counted_many : (records : List BlockRecord) → most_blocks < length records
+    → counted_outcome (Err (record { count = length records })) ≡ counting records
+counted_many records many = counting_by records (lt-ltb most_blocks (length records) many)

@@ -8,7 +8,6 @@ ghost use Rattle.outcomes.specs.Inner.Holds.{Holds};
 ghost use Rattle.text.specs.Inner.Put.{Put};
 ghost use Rattle.lines.specs.Text.{refusal_line};
 
-use numbers::number;
 use outcomes::Returned;
 use text::put_line;
 

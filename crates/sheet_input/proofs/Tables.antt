@@ -14,7 +14,7 @@ use Rattle.trellis.specs.Bounds.{most_sections}
 use Rattle.trellis.proofs.Lists.{rest_of}
 use Rattle.trellis.proofs.Buffers.{put_more}
 use Rattle.table.specs.File.{table_file}
-use Rattle.table.proofs.Search.{Clear, clear_start, clear_next, clear_found, clear_all}
+use Rattle.table.proofs.Search.{Clear, clear_start, clear_next, clear_first, clear_none}
 use Rattle.input_parts.specs.Input.{input_sections, table_length, table_part, table_start, table_at, table_outcome, section_in, table_refused}
 use Rattle.input_parts.specs.Input.{first_refused}
 use Rattle.input_parts.specs.Inner.Read.{additions_of, selections_of, left_over, table_in, HeadPassed, Told, TableMeasured, SectionCosts, Read}
@@ -23,7 +23,8 @@ use Rattle.input_parts.proofs.Parts.{part_full}
 use Rattle.sheet_input.proofs.Right.{table_passes}
 
 pub record InTables (input added selected : List ℕ) (at j : ℕ) : Type 0 where
-  pub clear : Clear (table_refused input) (input_sections input) j
+  pub within : j ≤ input_sections input
+  pub clear : Clear (table_refused input) j
   pub at_is : at ≡ table_start input j
   pub inside : at ≤ length input
   pub costs : SectionCosts input j added selected
@@ -32,7 +33,8 @@ pub tables_start : {input added selected : List ℕ} {start sections : ℕ} → 
     → length added ≡ most_sections → length selected ≡ most_sections → InTables input added selected start 0
 unfolding table_start
 tables_start {input} H a s = record {
-  clear = clear_start;
+  within = omega arith;
+  clear = clear_start (table_refused input);
   at_is = H.start_is;
   inside = omega (arith, H.start_is, blocks_inside input (head_right input H.fine));
   costs = record {
@@ -78,7 +80,7 @@ module _ {input added selected : List ℕ} {at j : ℕ} (I : InTables input adde
     unfolding table_refused first_refused
     tables_refused h =
         let bad : table_refused input j ≡ true = ap not (ne_eqb _ 0 (λ e. h (told_here.holds.number_is ∙ e))) in
-        let first : j ≡ first_refused input = clear_found I.clear j_below bad in
+        let first : j ≡ first_refused input = sym (clear_first I.clear j_below bad) in
         record {
           outcome_is =
               told_by
@@ -103,7 +105,8 @@ module _ {input added selected : List ℕ} {at j : ℕ} (I : InTables input adde
           let one : suc j ≡ j + 1 = omega arith in
           let jn : j < most_sections = omega (arith, sections_few H) in
           record {
-            clear = clear_next I.clear j_below (ap not (eq-eqb _ 0 (sym told_here.holds.number_is ∙ none)));
+            within = omega (arith, j_below);
+            clear = clear_next I.clear (ap not (eq-eqb _ 0 (sym told_here.holds.number_is ∙ none)));
             at_is = ap (λ k. k + part) I.at_is ∙ ap (λ k. table_start input j + k) full ∙ ap (table_start input) one;
             inside =
                 omega (arith, I.inside, part_is, length-take (table_length rest) rest, length-take (length input - at) (drop at input));
@@ -125,14 +128,14 @@ pub tables_all : {input added selected : List ℕ} {at j : ℕ} → InTables inp
 unfolding first_refused
 tables_all {input} {added} {selected} {at} {j} I {sections} H l {number} {count} {values} h =
     let K = input_sections input in
-    let all : j ≡ first_refused input = clear_all I.clear (omega (arith, H.sections_are)) in
-    let j_is : j ≡ K = omega (arith, H.sections_are, I.clear.within) in
+    let all : first_refused input ≡ K = clear_none I.clear (omega (arith, H.sections_are)) in
+    let j_is : j ≡ K = omega (arith, H.sections_are, I.within) in
     record {
       outcome_is =
           told_by
           (input_behind input (head_right input H.fine)
           ∙ ap (λ b. cond b (table_outcome (table_in input (first_refused input))) (left_over (table_start input K) (length input) K))
-          (le-ltb (first_refused input) K (omega (arith, all, j_is)))
+          (le-ltb (first_refused input) K (omega (arith, all)))
           ∙ ap (λ k. left_over k (length input) K) (ap (table_start input) (sym j_is) ∙ sym I.at_is)
           ∙ ap (left_over at (length input)) (sym H.sections_are))
           h;

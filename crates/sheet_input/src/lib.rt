@@ -82,8 +82,7 @@ fn measure_tables(input: &[u8], start: usize, sections: usize) -> Input
     let mut additions = [0u32; MOST_SECTIONS];
     let mut selections = [0u32; MOST_SECTIONS];
     let mut at = start;
-    let mut j: usize = 0;
-    while j < sections {
+    for j in 0..sections {
         let rest = &input[at..];
         let length = part_length(rest);
         let table = measure(&rest[..length]);
@@ -98,7 +97,6 @@ fn measure_tables(input: &[u8], start: usize, sections: usize) -> Input
         additions[j] = table.additions;
         selections[j] = table.selections;
         at += length;
-        j += 1;
     }
     let refusal = left_over(at, input.len(), sections);
     Input {

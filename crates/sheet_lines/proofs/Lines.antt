@@ -1,22 +1,21 @@
 -- The lines put one behind another are the sheet's: a line for each record in turn, and the sums that counting the same records gives.
 use mathlib.Core.Path.{◌≡◌, refl, sym, ap, subst, ◌∙◌}
 use mathlib.Core.List.{List, [], ◌∷◌, flat_map}
-use Prim.Native.Nat.{ℕ, ◌+◌, ◌<◌, ◌≤◌}
+use Prim.Native.Nat.{ℕ, ◌≤◌}
 use native.Mathlib.Omega.{arith}
-use lib.ListN.{length, get_or, take}
-use lib.Seq.{length-take-le, get_or-take}
+use lib.ListN.{length, take}
+use lib.Seq.{length-take-le}
 use borrow.Author.Tests.{le-ltb}
+use Rattle.std.specs.Prelude.{Result, Ok, Err}
 use Rattle.trellis.specs.Bounds.{most_blocks}
 use Rattle.trellis.specs.Outcome.{Outcome}
 use Rattle.text.specs.Line.{line}
 use Rattle.text.specs.Inner.Put.{Put}
-use Rattle.text.proofs.Putting.{Pieces, pieces_next, pieces_all, put_then}
+use Rattle.text.proofs.Putting.{put_then}
 use Rattle.records.specs.Records.{additions_sum, selections_sum, counted_outcome, counting}
 use Rattle.records.specs.declared.BlockRecord.{BlockRecord}
 use Rattle.records.specs.declared.Sums.{Sums}
-use Rattle.records.specs.declared.Counted.{Counted}
-use Rattle.records.specs.declared.Counted.TheVariants.{Totals, TooMany}
-use Rattle.records.specs.Inner.Blank.{blank}
+use Rattle.records.specs.declared.TooMany.{TooMany}
 use Rattle.sheet_records.specs.Sheet.{block_word, total_word, block_line, total_line, sheet_lines}
 use Rattle.sheet_records.specs.Inner.Made.{Holding}
 
@@ -27,20 +26,9 @@ pub block_put : (r : BlockRecord) {old new : List ℕ} {at end : ℕ}
 unfolding block_line
 block_put r p = p
 
-pub block_next : (items : List BlockRecord) {blocks : ℕ} → blocks ≤ length items → {old now new : List ℕ} {at end far b : ℕ}
-    → Pieces block_line old at (take blocks items) now end b → b < blocks → Put now end (block_line (get_or items b blank)) new far
-    → Pieces block_line old at (take blocks items) new far (b + 1)
-block_next items {blocks} few {old} {now} {new} {at} {end} {far} {b} P h p =
-    pieces_next blank P (omega (arith, length-take-le blocks items few))
-    (subst (λ r. Put now end (block_line r) new far) (sym (get_or-take blocks items b blank h)) p)
-
-pub blocks_all : (items : List BlockRecord) {blocks : ℕ} → blocks ≤ length items → {old now : List ℕ} {at end b : ℕ}
-    → Pieces block_line old at (take blocks items) now end b → blocks ≤ b → Put old at (flat_map block_line (take blocks items)) now end
-blocks_all items {blocks} few P h = pieces_all P (omega (arith, length-take-le blocks items few))
-
 -- ---- the sums
 
-module _ (all : List BlockRecord) {blocks : ℕ} (inside : blocks ≤ length all) (few : blocks ≤ most_blocks) (r : Counted)
+module _ (all : List BlockRecord) {blocks : ℕ} (inside : blocks ≤ length all) (few : blocks ≤ most_blocks) (r : Result Sums TooMany)
     (e : counted_outcome r ≡ counting (take blocks all)) where
   abbrev items : List BlockRecord
   items = take blocks all
@@ -49,7 +37,7 @@ module _ (all : List BlockRecord) {blocks : ℕ} (inside : blocks ≤ length all
   unfolding counting
   counts = e ∙ simp (le-ltb most_blocks (length items) (omega (arith, length-take-le blocks all inside))) refl
 
-  pub total_put : {sums : Sums} → r ≡ Totals sums → {old new : List ℕ} {at end : ℕ}
+  pub total_put : {sums : Sums} → r ≡ Ok sums → {old new : List ℕ} {at end : ℕ}
       → Put old at (line total_word (sums.additions ∷ sums.selections ∷ [])) new end → Put old at (total_line items) new end
   unfolding total_line
   total_put {sums} t {old} {new} {at} {end} p =
@@ -57,7 +45,7 @@ module _ (all : List BlockRecord) {blocks : ℕ} (inside : blocks ≤ length all
       ap (λ (o : Outcome). o.values) (ap counted_outcome (sym t) ∙ counts) in
       subst (λ l. Put old at (line total_word l) new end) v p
 
-  pub not_many : {count : ℕ} → r ≡ TooMany count → ⊥
+  pub not_many : {many : TooMany} → r ≡ Err many → ⊥
   not_many t = omega (arith, ap (λ (o : Outcome). o.number) (ap counted_outcome (sym t) ∙ counts))
 
 -- ---- both

@@ -8,7 +8,7 @@ ghost use Rattle.trellis.specs.Bounds.{most_blocks};
 ghost use Rattle.text.specs.Inner.Put.{Put};
 ghost use Rattle.sheet_records.specs.Sheet.{block_line, total_line};
 
-use records::{BlockRecord, Counted, count_first};
+use records::{BlockRecord, count_first};
 use text::put_line;
 use trellis::MOST_BLOCKS;
 
@@ -30,10 +30,8 @@ pub fn put_blocks(text: &mut [u8], items: [BlockRecord; MOST_BLOCKS], blocks: us
     ensures { Put text.old 0 (flat_map block_line (take blocks items)) text.new result }
 {
     let mut end: usize = 0;
-    let mut b: usize = 0;
-    while b < blocks {
-        end = put_block(text, end, items[b]);
-        b += 1;
+    for block in &items[..blocks] {
+        end = put_block(text, end, *block);
     }
     end
 }
@@ -49,11 +47,11 @@ pub fn put_total(
     ensures { Put text.old at (total_line (take blocks items)) text.new result }
 {
     match count_first(items, blocks) {
-        Counted::Totals(sums) => {
+        Ok(sums) => {
             let numbers = [sums.additions as usize, sums.selections as usize];
             put_line(text, at, b"total", &numbers)
         }
         // There are no more records than a frame can have blocks.
-        Counted::TooMany(count) => at,
+        Err(_) => at,
     }
 }

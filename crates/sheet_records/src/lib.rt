@@ -30,8 +30,7 @@ pub fn make_records(
         additions: 0,
         selections: 0,
     }; MOST_BLOCKS];
-    let mut b: usize = 0;
-    while b < blocks {
+    for b in 0..blocks {
         let section = section_index(input, b);
         items[b] = BlockRecord {
             index: b as u32,
@@ -39,7 +38,6 @@ pub fn make_records(
             additions: additions[section],
             selections: selections[section],
         };
-        b += 1;
     }
     Records { items }
 }

@@ -2,15 +2,16 @@
 -- is promised. Check 2 looks at four sizes, each with its bounds; check 3 goes word by word; check 4 goes word by word with the word
 -- before in hand; `check` tries them one after the other.
 use mathlib.Core.Path.{◌≡◌, refl, sym, ◌∙◌}
-use mathlib.Core.Bool.{Bool, true, false, not}
-use mathlib.Core.List.{List}
+use mathlib.Core.Bool.{Bool, true, false, cond, not}
+use mathlib.Core.List.{List, [], ◌∷◌}
 use Prim.Native.Nat.{ℕ, zero, suc, ◌+◌, ◌-◌, ◌≤◌, ◌<◌}
 use native.Mathlib.Omega.{arith}
 use lib.ListN.{length}
 use borrow.Author.Tests.{lt-ltb, le-ltb}
+use Rattle.std.specs.Prelude.{Some, None}
+use Rattle.std.specs.List.{position_or_len}
+use Rattle.trellis.specs.Lists.{first, found_below}
 use Rattle.trellis.specs.Bounds.{most_states, most_words, least_q, most_q}
-use Rattle.trellis.specs.Label.{is_label}
-use Rattle.trellis.specs.Word as trellis
 use Rattle.trellis.proofs.Lists.{length_run}
 use Rattle.fields.specs.Fields.{byte_at, word_count, file_word, file_words, length_bad}
 use Rattle.fields.specs.Inner.Answer.{held_word, meant_word}
@@ -41,21 +42,20 @@ module _ (file : List ℕ) where
   unfolding size_outside
   count_outside a e = e ∙ simp a
 
+-- the first of the four tests that is true
+first_of : (a b c d : Bool) → position_or_len (λ t. t) (a ∷ b ∷ c ∷ d ∷ []) ≡ cond a 0 (suc (cond b 0 (suc (cond c 0 (suc (cond d 0 1))))))
+first_of true b c d = refl
+first_of false true c d = refl
+first_of false false true d = refl
+first_of false false false true = refl
+first_of false false false false = refl
+
+pub sizes_first : (file : List ℕ) {a b c d : Bool} → a ≡ size_outside file 0 → b ≡ size_outside file 1 → c ≡ size_outside file 2
+    → d ≡ size_outside file 3 → position_or_len (λ t. t) (a ∷ b ∷ c ∷ d ∷ []) ≡ first_size file
+unfolding first
+sizes_first file {a} {b} {c} {d} p q r s = first_of a b c d ∙ rw (p, q, r, s) refl
+
 -- ---- check 3
-
-module _ (q n S : ℕ) (w : trellis.Word) where
-  pub bad_root : S ≤ w.root → true ≡ word_outside q n S w
-  unfolding word_outside
-  bad_root h = simp (le-ltb _ _ h)
-
-  module _ (h : w.root < S) where
-    pub bad_goal : S ≤ w.goal → true ≡ word_outside q n S w
-    unfolding word_outside
-    bad_goal k = simp (lt-ltb _ _ h, le-ltb _ _ k)
-
-    pub by_label : {b : Bool} → w.goal < S → b ≡ is_label q n w.label → not b ≡ word_outside q n S w
-    unfolding word_outside
-    by_label k e = simp (lt-ltb _ _ h, lt-ltb _ _ k, e)
 
 pub word_bad_is : (file : List ℕ) (i : ℕ) {q n S : ℕ} {w : Word} {b : Bool} → q ≡ byte_at file 0 → n ≡ byte_at file 1 → S ≡ byte_at file 2
     → w ≡ held_word (file_word file i) → b ≡ word_outside q n S (meant_word w) → b ≡ word_bad file i
@@ -66,12 +66,9 @@ word_bad_is file i d e f g h = h ∙ simp (d, e, f, g)
 
 -- no word up to i is bad, and w is the word before i
 pub record Ascending (file : List ℕ) (w : Word) (i : ℕ) : Type 0 where
-  pub clear : Clear (order_bad file) (word_count file) i
+  pub clear : Clear (order_bad file) i
   pub some : 0 < i
   pub last : w ≡ held_word (file_word file (i - 1))
-
-pub no_words : (file : List ℕ) {m : ℕ} → m ≡ word_count file → m ≡ 0 → 0 ≡ first_not_above file
-no_words file d e = clear_all clear_start (omega arith)
 
 order_bad_is : (file : List ℕ) (i : ℕ) {v w : Word} {b : Bool} → 0 < i → v ≡ held_word (file_word file (i - 1))
     → w ≡ held_word (file_word file i)
@@ -81,23 +78,23 @@ order_bad_is file zero h d e f = absurd (omega arith)
 order_bad_is file (suc i) h d e f = let q : suc i - 1 ≡ i = omega arith in simp (f, d, e, q)
 
 module _ {file : List ℕ} where
-  pub ascending_start : {w : Word} → 0 < word_count file → w ≡ held_word (file_word file 0) → Ascending file w 1
+  pub ascending_start : {w : Word} → w ≡ held_word (file_word file 0) → Ascending file w 1
   unfolding order_bad
-  ascending_start h e = record { clear = clear_next clear_start h refl; some = omega arith; last = e }
+  ascending_start e = record { clear = clear_next (clear_start (order_bad file)) refl; some = omega arith; last = e }
 
-  pub ascending_next : {v w : Word} {i : ℕ} {b : Bool} → Ascending file v i → i < word_count file → w ≡ held_word (file_word file i)
+  pub ascending_next : {v w : Word} {i : ℕ} {b : Bool} → Ascending file v i → w ≡ held_word (file_word file i)
       → b ≡ is_before (meant_word v) (meant_word w) → not b ≡ false → Ascending file w (i + 1)
-  ascending_next {v} {w} {i} r h e f t = record {
-    clear = clear_next r.clear h (sym (order_bad_is file i r.some r.last e f) ∙ t);
+  ascending_next {v} {w} {i} r e f t = record {
+    clear = clear_next r.clear (sym (order_bad_is file i r.some r.last e f) ∙ t);
     some = omega arith;
     last = let q : i + 1 - 1 ≡ i = omega arith in rw q e;
   }
 
   pub ascending_found : {v w : Word} {i : ℕ} {b : Bool} → Ascending file v i → i < word_count file → w ≡ held_word (file_word file i)
-      → b ≡ is_before (meant_word v) (meant_word w) → not b ≡ true → i ≡ first_not_above file
+      → b ≡ is_before (meant_word v) (meant_word w) → not b ≡ true → Some i ≡ found_below (word_count file) (first_not_above file)
   ascending_found {v} {w} {i} r h e f t = clear_found r.clear h (sym (order_bad_is file i r.some r.last e f) ∙ t)
 
-  pub ascending_all : {v : Word} {i : ℕ} → Ascending file v i → word_count file ≤ i → i ≡ first_not_above file
+  pub ascending_all : {v : Word} {i : ℕ} → Ascending file v i → word_count file ≤ i → None ≡ found_below (word_count file) (first_not_above file)
   ascending_all r h = clear_all r.clear h
 
 -- ---- the ways out of `check`

@@ -4,14 +4,14 @@
 #![tactic(auto)]
 
 ghost use Rattle.std.specs.Prelude.{◌≡◌};
-ghost use Rattle.fields.specs.Fields.{byte_at};
+ghost use Rattle.trellis.specs.Lists.{found_below};
+ghost use Rattle.fields.specs.Fields.{byte_at, word_count};
 ghost use Rattle.fields.specs.Inner.Answer.{meant_word};
 ghost use Rattle.table.specs.File.{outside, word_outside, is_before, first_size, first_bad, first_not_above, table_file, file_outcome};
 ghost use Rattle.table.specs.Inner.Answer.{checked_outcome};
 
 use answers::merge::MergeRefusal;
 use fields::{Word, byte_at, length_bad, word_count};
-use label::precedes;
 use packed::is_label;
 use reader::word_through;
 
@@ -38,101 +38,68 @@ pub struct Sizes {
 fn is_outside(x: u16, low: u16, high: u16) -> bool
     ensures { result ≡ outside x low high }
 {
-    if x < low { true } else { high < x }
+    x < low || high < x
 }
 
 fn byte_outside(file: &[u8], at: usize, low: u16, high: u16) -> bool
     ensures { result ≡ outside (byte_at file.now at) low high }
 {
-    is_outside(byte_at(file, at) as u16, low, high)
+    is_outside(u16::from(byte_at(file, at)), low, high)
 }
 
-// Check 2: the first place of q, n, S, W that is outside its bounds, or 4.
-fn first_size(file: &[u8]) -> usize
-    ensures { result ≡ first_size file.now }
+// Check 2: the first place of q, n, S, W that is outside its bounds.
+fn first_size(file: &[u8]) -> Option<usize>
+    ensures { result ≡ found_below 4 (first_size file.now) }
 {
-    if byte_outside(file, 0, LEAST_Q, MOST_Q) {
-        return 0;
-    }
-    if byte_outside(file, 1, 1, MOST_SYMBOLS) {
-        return 1;
-    }
-    if byte_outside(file, 2, 1, MOST_STATES) {
-        return 2;
-    }
-    if is_outside(word_count(file), 1, MOST_WORDS) {
-        return 3;
-    }
-    4
+    let outside = [
+        byte_outside(file, 0, LEAST_Q, MOST_Q),
+        byte_outside(file, 1, 1, MOST_SYMBOLS),
+        byte_outside(file, 2, 1, MOST_STATES),
+        is_outside(word_count(file), 1, MOST_WORDS),
+    ];
+    outside.iter().position(|is_outside| *is_outside)
 }
 
 fn word_outside(w: Word, q: u8, n: u8, states: u8) -> bool
     ensures { result ≡ word_outside q n states (meant_word w) }
 {
-    if w.root >= states {
-        return true;
-    }
-    if w.goal >= states {
-        return true;
-    }
-    !is_label(w.label, q as u16, n as usize)
+    w.root >= states || w.goal >= states || !is_label(w.label, u16::from(q), usize::from(n))
 }
 
-// Check 3: the first word with a state, a label or a symbol that is too large, or the word count.
-fn first_bad(file: &[u8]) -> u16
-    ensures { result ≡ first_bad file.now }
+// Check 3: the first word with a state, a label or a symbol that is too large.
+fn first_bad(file: &[u8]) -> Option<usize>
+    ensures { result ≡ found_below (word_count file.now) (first_bad file.now) }
 {
     let q = byte_at(file, 0);
     let n = byte_at(file, 1);
     let states = byte_at(file, 2);
-    let count = word_count(file);
-    let mut i: u16 = 0;
-    while i < count {
+    for i in 0..word_count(file) {
         if word_outside(word_through(file, i), q, n, states) {
-            return i;
+            return Some(usize::from(i));
         }
-        i += 1;
     }
-    i
+    None
 }
 
 fn is_before(v: Word, w: Word) -> bool
     ensures { result ≡ is_before (meant_word v) (meant_word w) }
 {
-    if v.root < w.root {
-        return true;
-    }
-    if v.root != w.root {
-        return false;
-    }
-    if precedes(v.label, w.label) {
-        return true;
-    }
-    if v.label != w.label {
-        return false;
-    }
-    v.goal < w.goal
+    v < w
 }
 
-// Check 4: the first word that is not above the word before it, or the word count. Each word is read once, and kept for the next turn.
-fn first_not_above(file: &[u8]) -> u16
-    ensures { result ≡ first_not_above file.now }
+// Check 4: the first word that is not above the word before it. Each word is read once, and kept for the next turn.
+fn first_not_above(file: &[u8]) -> Option<usize>
+    ensures { result ≡ found_below (word_count file.now) (first_not_above file.now) }
 {
-    let count = word_count(file);
-    if count == 0 {
-        return 0;
-    }
     let mut earlier = word_through(file, 0);
-    let mut i: u16 = 1;
-    while i < count {
+    for i in 1..word_count(file) {
         let here = word_through(file, i);
         if !is_before(earlier, here) {
-            return i;
+            return Some(usize::from(i));
         }
         earlier = here;
-        i += 1;
     }
-    i
+    None
 }
 
 // Checks 1 to 4, each over the whole file before the next begins. It is not inlined: clang, where these checks stand in front of large arrays
@@ -144,23 +111,19 @@ pub fn check(file: &[u8]) -> Result<Sizes, MergeRefusal>
     if length_bad(file) {
         return Err(MergeRefusal::Length(file.len()));
     }
-    let place = first_size(file);
-    if place < 4 {
+    if let Some(place) = first_size(file) {
         return Err(MergeRefusal::Size(place));
     }
-    let words = word_count(file);
-    let bad = first_bad(file);
-    if bad < words {
-        return Err(MergeRefusal::Word(bad as usize));
+    if let Some(index) = first_bad(file) {
+        return Err(MergeRefusal::Word(index));
     }
-    let low = first_not_above(file);
-    if low < words {
-        return Err(MergeRefusal::Order(low as usize));
+    if let Some(index) = first_not_above(file) {
+        return Err(MergeRefusal::Order(index));
     }
     Ok(Sizes {
         q: byte_at(file, 0),
         n: byte_at(file, 1),
         states: byte_at(file, 2),
-        words,
+        words: word_count(file),
     })
 }

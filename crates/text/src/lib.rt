@@ -22,10 +22,8 @@ pub fn put_bytes(text: &mut [u8], at: usize, bytes: &[u8]) -> usize
     ensures { Put text.old at bytes.now text.new result }
 {
     let mut end = at;
-    let mut i: usize = 0;
-    while i < bytes.len() {
-        end = put_byte(text, end, bytes[i]);
-        i += 1;
+    for byte in bytes {
+        end = put_byte(text, end, *byte);
     }
     end
 }
@@ -33,7 +31,7 @@ pub fn put_bytes(text: &mut [u8], at: usize, bytes: &[u8]) -> usize
 fn last_digit(x: usize) -> u8
     ensures { result ≡ digit (x % 10) }
 {
-    48 + (x % 10) as u8
+    b'0' + (x % 10) as u8
 }
 
 // Spells a number at the end of twenty bytes and says where it begins: the last digit is found first.
@@ -43,6 +41,7 @@ fn spell(x: usize, out: &mut [u8; 20]) -> usize
     *out = [0u8; 20];
     let mut rest = x;
     let mut at: usize = 19;
+    // A `while`, since how many digits there are shows only as they are found.
     while rest >= 10 {
         out[at] = last_digit(rest);
         rest /= 10;
@@ -57,7 +56,7 @@ fn put_number(text: &mut [u8], at: usize, x: usize) -> usize
 {
     let mut out = [0u8; 20];
     let first = spell(x, &mut out);
-    let end = put_byte(text, at, 32);
+    let end = put_byte(text, at, b' ');
     put_bytes(text, end, &out[first..])
 }
 
@@ -66,10 +65,8 @@ pub fn put_line(text: &mut [u8], at: usize, word: &[u8], numbers: &[usize]) -> u
     ensures { Put text.old at (line word.now numbers.now) text.new result }
 {
     let mut end = put_bytes(text, at, word);
-    let mut i: usize = 0;
-    while i < numbers.len() {
-        end = put_number(text, end, numbers[i]);
-        i += 1;
+    for number in numbers {
+        end = put_number(text, end, *number);
     }
-    put_byte(text, end, 10)
+    put_byte(text, end, b'\n')
 }

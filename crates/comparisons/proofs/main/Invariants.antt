@@ -1,9 +1,6 @@
--- `comparisons::main` makes the comparisons, each of which adds at most 8 to the sum and 1 to the other count.
-use Prim.Native.Nat.{◌≤◌, ◌-◌, ◌*◌}
+-- `comparisons::main` goes through eight masks.
+use Prim.Native.Nat.{◌≤◌, ◌*◌}
 use Rattle.comparisons.proofs.main.Given as goal
 
-abbrev pub invariant-loop-i : goal.invariant-loop-i
-invariant-loop-i l = (l.sum ≤ 8 * l.i) × (l.otherwise ≤ l.i) × (l.i ≤ 524288)
-
-abbrev pub decreases-loop-i : goal.decreases-loop-i
-decreases-loop-i l = 524288 - l.i
+abbrev pub invariant-loop-erased : goal.invariant-loop-erased
+invariant-loop-erased l = (l.sum ≤ 524288 * l.erased-index) × (l.otherwise ≤ 65536 * l.erased-index)

@@ -1,8 +1,7 @@
 -- Reading on from word to word: where a reader stands behind a word, and what it must find from word 0 to the end.
-use Rattle.std.specs.Prelude.{◌≡◌, cond, List, ℕ, zero, suc, ◌+◌, ◌≤◌, ◌<◌, ltb}
+use Rattle.std.specs.Prelude.{◌≡◌, cond, List, ℕ, zero, suc, ◌+◌, ◌≤◌, ◌<◌, ltb, Some, None}
 use Rattle.fields.specs.Fields.{word_count, file_word, length_bad}
 use Rattle.fields.specs.Inner.Answer.{held_word, found_at}
-use Rattle.fields.specs.declared.Found.TheVariants.{Word as Here, Nothing}
 
 -- the place behind the word at i, or i itself where `found_at` finds none
 unfoldable pub place_after : List ℕ → ℕ → ℕ
@@ -15,5 +14,5 @@ place_of file (suc k) = place_after file (place_of file k)
 
 -- every word is found once, in the file's order, and then the end
 pub record ReadsAll (file : List ℕ) : Type 0 where
-  pub in_order : (k : ℕ) → k < word_count file → found_at file (place_of file k) ≡ Here (held_word (file_word file k))
-  pub at_end : (k : ℕ) → word_count file ≤ k → found_at file (place_of file k) ≡ Nothing
+  pub in_order : (k : ℕ) → k < word_count file → found_at file (place_of file k) ≡ Some (held_word (file_word file k))
+  pub at_end : (k : ℕ) → word_count file ≤ k → found_at file (place_of file k) ≡ None

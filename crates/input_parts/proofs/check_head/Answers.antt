@@ -10,12 +10,12 @@ returns-then-lengths_bad c =
     head_lengths c.args.input.now c.requires c.is_within.ensures c.if-not-is_within.false c.lengths_bad.ensures
     c.if-lengths_bad.true c.one_value-then-lengths_bad.ensures
 
-pub returns-then-bad-blocks : goal.returns-then-bad-blocks
-returns-then-bad-blocks c =
+pub returns-in-Some : goal.returns-in-Some
+returns-in-Some c =
     head_index c.args.input.now c.requires c.is_within.ensures c.if-not-is_within.false c.lengths_bad.ensures
-    c.if-lengths_bad.false c.first_index-bad.ensures c.if-bad-blocks.true c.one_value-then-bad-blocks.ensures
+    c.if-lengths_bad.false c.first_index.ensures c.in-Some.is c.one_value-in-Some.ensures
 
 pub returns : goal.returns
 returns c =
     head_fine c.args.input.now c.requires c.is_within.ensures c.if-not-is_within.false c.lengths_bad.ensures
-    c.if-lengths_bad.false c.first_index-bad.ensures c.if-bad-blocks.false c.no_value.ensures
+    c.if-lengths_bad.false c.first_index.ensures c.in_default.is c.no_value.ensures

@@ -8,4 +8,4 @@ returns-then-t-eq0 c = entering_none c.args.sizes.now c.args.t c.if-t-eq0.true
 pub returns : goal.returns
 returns c =
     entering_some c.args.sizes.now c.args.n c.args.t _ _ c.requires.0 c.if-t-eq0.false
-    c.number.ensures c.wide.ensures.0
+    c.number.ensures c.from.ensures

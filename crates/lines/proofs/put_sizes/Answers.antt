@@ -4,6 +4,6 @@ use Rattle.lines.proofs.put_sizes.Goals as goal
 
 pub returns : goal.returns
 returns c =
-    sizes_put c.args.sizes.now c.args.words c.number-2.ensures c.wide.ensures.0
-    c.number.ensures c.wide-n.ensures.0
-    c.number-3.ensures c.wide-2.ensures.0 c.put_line-sized.ensures c.put_depths-end.ensures c.put_sums.ensures
+    sizes_put c.args.sizes.now c.args.words c.number-2.ensures c.from.ensures
+    c.number.ensures c.from-n.ensures
+    c.number-3.ensures c.from-2.ensures c.put_line-sized.ensures c.put_depths-end.ensures c.put_sums.ensures

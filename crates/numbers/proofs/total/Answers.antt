@@ -1,4 +1,4 @@
--- `numbers::total` meets its contract. The loop's invariant: the sum is that of the numbers passed. The measure is what is left of them.
+-- `numbers::total` meets its contract. The loop's invariant: the sum is that of the numbers passed.
 use Rattle.numbers.proofs.Sums.{summed_start, summed_next, summed_all}
 use borrow.Author.Rules.{rules}
 use Rattle.numbers.proofs.total.Goals as goal

@@ -4,7 +4,7 @@ use Rattle.records.proofs.Summing.{counted_few, counted_many}
 use Rattle.records.proofs.count.Goals as goal
 
 pub returns-then-records-gt-MOST_BLOCKS : goal.returns-then-records-gt-MOST_BLOCKS
-returns-then-records-gt-MOST_BLOCKS c = counted_many c.args.records.now (omega arith) c.too_many.ensures
+returns-then-records-gt-MOST_BLOCKS c = counted_many c.args.records.now (omega arith)
 
 pub returns : goal.returns
-returns c = counted_few c.args.records.now (omega arith) c.sum.ensures c.totals.ensures
+returns c = counted_few c.args.records.now (omega arith) c.sum.ensures

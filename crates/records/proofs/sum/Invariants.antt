@@ -1,10 +1,6 @@
--- After i turns the sums are those over the first i records.
-use Rattle.std.proofs.Common.{length, ◌-◌}
+-- After as many turns as records the sums are those over the records passed.
 use Rattle.records.proofs.Summing.{Summed}
 use Rattle.records.proofs.sum.Given as goal
 
-abbrev pub invariant-loop-i : goal.invariant-loop-i
-invariant-loop-i l = Summed l.records l.i l.sums
-
-abbrev pub decreases-loop-i : goal.decreases-loop-i
-decreases-loop-i l = length l.records - l.i
+abbrev pub invariant-loop-block : goal.invariant-loop-block
+invariant-loop-block l = Summed l.records l.block-index l.sums

@@ -5,6 +5,6 @@ use Rattle.section_costs.proofs.additions_of.Goals as goal
 
 pub returns : goal.returns
 returns c = (
-  edges_sum c.args.sizes.now c.number.ensures c.wide-n.ensures.0 c.total.ensures.0,
-  omega (arith, c.total.ensures.1, c.wide-n.ensures.1),
+  edges_sum c.args.sizes.now c.number.ensures c.from-n.ensures c.total.ensures.0,
+  omega (arith, c.total.ensures.1, c.from-n.ensures),
 )

@@ -5,7 +5,7 @@ use Rattle.section_costs.proofs.selections_of.Goals as goal
 
 pub returns : goal.returns
 returns c = (
-  selected c.args.sizes.now c.number.ensures c.wide-n.ensures.0 c.additions_of.ensures.0 c.total-vertices.ensures.0
-      c.number-2.ensures c.wide-roots.ensures.0 c.less.ensures,
-  omega (arith, c.less.ensures, c.additions_of.ensures.1, c.wide-roots.ensures.1, c.wide-roots.ensures.0),
+  selected c.args.sizes.now c.number.ensures c.from-n.ensures c.additions_of.ensures.0 c.total-vertices.ensures.0
+      c.number-2.ensures c.from-roots.ensures c.saturating_sub.ensures,
+  omega (arith, c.saturating_sub.ensures, c.additions_of.ensures.1, c.from-roots.ensures, c.from-roots.ensures),
 )

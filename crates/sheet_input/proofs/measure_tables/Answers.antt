@@ -1,4 +1,4 @@
--- `sheet_input::measure_tables` goes from table to table. The loop's invariant is `InTables`; the measure is how many tables are left.
+-- `sheet_input::measure_tables` goes from table to table. The loop's invariant is `InTables`.
 use mathlib.Core.List.{List}
 use Prim.Native.Nat.{ℕ, ◌-◌}
 use lib.ListN.{length, take, drop}

@@ -1,10 +1,6 @@
--- `sheet_input::measure_tables` goes from table to table. The loop's invariant is `InTables`; the measure is how many tables are left.
-use Prim.Native.Nat.{◌-◌}
+-- `sheet_input::measure_tables` goes from table to table. The loop's invariant is `InTables`.
 use Rattle.sheet_input.proofs.Tables.{InTables}
 use Rattle.sheet_input.proofs.measure_tables.Given as goal
 
 abbrev pub invariant-loop-j : goal.invariant-loop-j
 invariant-loop-j l = InTables l.input l.additions l.selections l.at l.j
-
-abbrev pub decreases-loop-j : goal.decreases-loop-j
-decreases-loop-j l = l.sections - l.j

@@ -2,8 +2,8 @@
 use Rattle.sheet_lines.proofs.Lines.{total_put, not_many}
 use Rattle.sheet_lines.proofs.put_total.Goals as goal
 
-pub returns-in-Totals : goal.returns-in-Totals
-returns-in-Totals c = total_put c.args.items c.requires.0 c.requires.1 _ c.count_first.ensures c.in-Totals.is c.put_line.ensures
+pub returns-in-Ok : goal.returns-in-Ok
+returns-in-Ok c = total_put c.args.items c.requires.0 c.requires.1 _ c.count_first.ensures c.in-Ok.is c.put_line.ensures
 
-pub returns-in-TooMany : goal.returns-in-TooMany
-returns-in-TooMany c = absurd (not_many c.args.items c.requires.0 c.requires.1 _ c.count_first.ensures c.in-TooMany.is)
+pub returns-in-Err : goal.returns-in-Err
+returns-in-Err c = absurd (not_many c.args.items c.requires.0 c.requires.1 _ c.count_first.ensures c.in-Err.is)

@@ -1,5 +1,4 @@
--- `sheet_records::make_records` fills the array from the front. The loop's invariant is `InRecords`; the measure is how many blocks are
--- left.
+-- `sheet_records::make_records` fills the array from the front. The loop's invariant is `InRecords`.
 use Rattle.sheet_records.proofs.Making.{records_start, section_below, records_next, records_all}
 use borrow.Author.Rules.{rules}
 use Rattle.sheet_records.proofs.make_records.Goals as goal

@@ -1,13 +1,8 @@
 -- `table::first_bad` meets its contract. The loop's invariant: no word passed is bad. A word that is bad is then the first, and where the
 -- loop ends there is none.
-use Prim.Native.Nat.{◌-◌}
-use Rattle.fields.specs.Fields.{word_count}
 use Rattle.table.specs.File.{word_bad}
 use Rattle.table.proofs.Search.{Clear}
 use Rattle.table.proofs.first_bad.Given as goal
 
 abbrev pub invariant-loop-i : goal.invariant-loop-i
-invariant-loop-i l = Clear (word_bad l.file) (word_count l.file) l.i
-
-abbrev pub decreases-loop-i : goal.decreases-loop-i
-decreases-loop-i l = l.count - l.i
+invariant-loop-i l = Clear (word_bad l.file) l.i

@@ -1,11 +1,7 @@
 -- `table::first_not_above` meets its contract. The loop's invariant: every word passed is above the one before it, and the word kept is the
--- last one passed. Word 0 has none before it, so the loop starts behind it, and a file of no words is settled before.
-use Prim.Native.Nat.{◌-◌}
+-- last one passed. Word 0 has none before it, so the loop starts behind it.
 use Rattle.table.proofs.Checks.{Ascending}
 use Rattle.table.proofs.first_not_above.Given as goal
 
 abbrev pub invariant-loop-i : goal.invariant-loop-i
 invariant-loop-i l = Ascending l.file l.earlier l.i
-
-abbrev pub decreases-loop-i : goal.decreases-loop-i
-decreases-loop-i l = l.count - l.i

@@ -1,12 +1,12 @@
 -- `table::is_outside` meets its contract: the code makes the two comparisons of the definition.
-use borrow.Author.Tests.{lt-ltb, le-ltb}
+use Rattle.std.proofs.Common.{rules, tests}
 use Rattle.table.specs.File.{outside}
 use Rattle.table.proofs.is_outside.Goals as goal
 
 pub returns-then-x-low : goal.returns-then-x-low
 unfolding outside
-returns-then-x-low c = simp (lt-ltb _ _ c.if-x-low.true)
+returns-then-x-low c = search (rules, tests)
 
 pub returns-else-x-low : goal.returns-else-x-low
 unfolding outside
-returns-else-x-low c = simp (le-ltb _ _ c.if-x-low.false)
+returns-else-x-low c = search (rules, tests)
