@@ -1,7 +1,6 @@
 // The marked cases of decoding, 7 and 8, with their masks, and a tie over two blocks, over sections that merging leaves. And the bounds on
 // blocks and on the states of a section and of a frame's ends.
-use answers::Answer;
-use crate::print::{put_buffer, put_bytes, put_costs, put_outcome};
+use crate::print::{put_numbers, put_outcome};
 use std::io;
 use trellis::COSTS_A_BLOCK;
 
@@ -32,11 +31,11 @@ fn run_case(
         &mut goals,
         &mut masks,
     );
-    put_outcome(rt, b"answer", answer.returned())?;
-    put_buffer(rt, b"labels", &labels)?;
-    put_bytes(rt, b"goals", &goals)?;
-    put_bytes(rt, b"masks", &masks)?;
-    put_costs(rt, b"costs", &costs)
+    put_outcome(rt, b"answer", answer)?;
+    put_numbers(rt, b"labels", &labels)?;
+    put_numbers(rt, b"goals", &goals)?;
+    put_numbers(rt, b"masks", &masks)?;
+    put_numbers(rt, b"costs", &costs)
 }
 
 // The section of case 3, labels 00 and 11, which has 22 numbers.
@@ -110,7 +109,7 @@ fn run_bound(
         &mut goals,
         &mut masks,
     );
-    put_outcome(rt, b"answer", answer.returned())
+    put_outcome(rt, b"answer", answer)
 }
 
 // Case 3 in every block, received 01, none erased.
@@ -128,7 +127,7 @@ fn run_states(rt: &impl Print, name: &[u8], section: &[u16], start: u8, end: u8)
     let mut masks = [0u8; 1];
     rt.write_all(name)?;
     let read = read_back::read_back(section, &mut file);
-    put_outcome(rt, b"read back", read.returned())?;
+    put_outcome(rt, b"read back", read)?;
     let answer = chain::decode(
         section,
         1,
@@ -142,7 +141,7 @@ fn run_states(rt: &impl Print, name: &[u8], section: &[u16], start: u8, end: u8)
         &mut goals,
         &mut masks,
     );
-    put_outcome(rt, b"answer", answer.returned())
+    put_outcome(rt, b"answer", answer)
 }
 
 // One word, from the last state to itself.

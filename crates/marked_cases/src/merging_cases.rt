@@ -1,8 +1,7 @@
 // The marked cases of merging, 1 to 6 and 9, and the round trip: what merging leaves is read back. And the bounds on words, states, n, q.
 ghost use Rattle.std.specs.Prelude.{◌+◌, ◌*◌, ◌≤◌, length};
 
-use answers::Answer;
-use crate::print::{put_buffer, put_bytes, put_outcome};
+use crate::print::{put_numbers, put_outcome};
 use std::io;
 
 fn run_case(
@@ -14,9 +13,9 @@ fn run_case(
 ) -> io::Result<()> {
     rt.write_all(name)?;
     let answer = merge::merge(file, map, section);
-    put_outcome(rt, b"answer", answer.returned())?;
-    put_buffer(rt, b"map", map)?;
-    put_buffer(rt, b"section", section)
+    put_outcome(rt, b"answer", answer)?;
+    put_numbers(rt, b"map", map)?;
+    put_numbers(rt, b"section", section)
 }
 
 // Merges into a section buffer that the section is to fill, and reads it back.
@@ -29,8 +28,8 @@ fn read_again(
 ) -> io::Result<()> {
     merge::merge(file, map, section);
     let answer = read_back::read_back(section, again);
-    put_outcome(rt, b"read back", answer.returned())?;
-    put_bytes(rt, b"file", again)
+    put_outcome(rt, b"read back", answer)?;
+    put_numbers(rt, b"file", again)
 }
 
 // The labels 00, 01, 10, 11.
@@ -117,7 +116,7 @@ fn run_bound(rt: &impl Print, name: &[u8], file: &[u8]) -> io::Result<()> {
     let mut section = [0u16; 128];
     rt.write_all(name)?;
     let answer = merge::merge(file, &mut map, &mut section);
-    put_outcome(rt, b"answer", answer.returned())
+    put_outcome(rt, b"answer", answer)
 }
 
 fn low(x: usize) -> u8 {

@@ -1,7 +1,6 @@
 // Case 9 from its generator rows: the file that is written is case 9's. And the bounds on state bits, symbols and rows, dependent rows and
 // wide ones.
-use answers::Answer;
-use crate::print::{put_buffer, put_bytes, put_outcome};
+use crate::print::{put_numbers, put_outcome};
 use std::io;
 
 // The section of rate 2/3: 10 111 00, 01 001 00, 00 101 10, 00 110 01.
@@ -12,10 +11,10 @@ pub fn run_case(rt: &impl Print) -> io::Result<()> {
     let mut section = [9u16; 115];
     rt.write_all(b"case 9, from rows\n")?;
     let answer = merge_rows::merge_rows(2, 3, &rows, &mut file, &mut map, &mut section);
-    put_outcome(rt, b"answer", answer.returned())?;
-    put_bytes(rt, b"file", &file)?;
-    put_buffer(rt, b"map", &map)?;
-    put_buffer(rt, b"section", &section)
+    put_outcome(rt, b"answer", answer)?;
+    put_numbers(rt, b"file", &file)?;
+    put_numbers(rt, b"map", &map)?;
+    put_numbers(rt, b"section", &section)
 }
 
 fn run_bound(rt: &impl Print, name: &[u8], bits: usize, n: usize, rows: &[u16]) -> io::Result<()> {
@@ -24,7 +23,7 @@ fn run_bound(rt: &impl Print, name: &[u8], bits: usize, n: usize, rows: &[u16]) 
     let mut section = [0u16; 1024];
     rt.write_all(name)?;
     let answer = merge_rows::merge_rows(bits, n, rows, &mut file, &mut map, &mut section);
-    put_outcome(rt, b"answer", answer.returned())
+    put_outcome(rt, b"answer", answer)
 }
 
 // As many rows as there can be, each with one bit, and one row more.

@@ -26,7 +26,7 @@ fn find(seen: &[u16], x: u16) -> Option<usize>
 }
 
 // The vertex of the new row: that of the word found, or the next one.
-fn added(map: &[u16], place: usize, found: Option<usize>, dim: usize) -> u16
+pub fn added(map: &[u16], place: usize, found: Option<usize>, dim: usize) -> u16
     requires { IfSome found (λ o. place + o < length map.now) × (dim < 16) }
     ensures { MatchOption found (result ≡ 2 ^ dim) (λ o. result ≡ get_or map.now (place + o) 0) }
 {
@@ -37,7 +37,7 @@ fn added(map: &[u16], place: usize, found: Option<usize>, dim: usize) -> u16
 }
 
 // The dimension then.
-fn counted(dim: usize, found: Option<usize>) -> usize
+pub fn counted(dim: usize, found: Option<usize>) -> usize
     requires { dim < 16 }
     ensures { MatchOption found (result ≡ dim + 1) (λ o. result ≡ dim) }
 {
