@@ -2,7 +2,7 @@
 
 #![tactic(auto)]
 
-ghost use Rattle.std.specs.Prelude.{◌+◌, ◌-◌, ◌*◌, ◌<◌, ◌≤◌, length};
+ghost use Rattle.std.specs.Prelude.{◌+◌, ◌-◌, ◌*◌, ◌≤◌, length};
 ghost use Rattle.trellis.specs.Inner.Write.{Wrote};
 ghost use Rattle.trellis.specs.Layout.{joined_up};
 ghost use Rattle.takers.specs.Inner.Pieces.{SmallMap, step_takers, Taken, step_pairs, step_symbols};

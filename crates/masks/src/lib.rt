@@ -2,7 +2,7 @@
 
 #![tactic(auto)]
 
-ghost use Rattle.std.specs.Prelude.{◌+◌, ◌<◌, length};
+ghost use Rattle.std.specs.Prelude.{length};
 ghost use Rattle.masks.specs.Inner.Masks.{MasksAsked, MasksPut};
 
 // The masks of a path's labels against what was received, one for each received label.

@@ -4,7 +4,7 @@
 
 #![tactic(auto)]
 
-ghost use Rattle.std.specs.Prelude.{◌≡◌, ◌%◌, ◌<◌, length};
+ghost use Rattle.std.specs.Prelude.{◌≡◌, ◌%◌, length};
 ghost use Rattle.trellis.specs.Bounds.{most_states, most_words};
 ghost use Rattle.trellis.specs.Layout.{n_of, vertex_count_of};
 ghost use Rattle.paths.specs.Inner.Ranked.{PriceRoom};

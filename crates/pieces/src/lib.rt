@@ -2,7 +2,7 @@
 
 #![tactic(auto)]
 
-ghost use Rattle.std.specs.Prelude.{◌+◌, ◌-◌, ◌*◌, ◌<◌, ◌≤◌, length};
+ghost use Rattle.std.specs.Prelude.{◌+◌, ◌-◌, ◌*◌, ◌≤◌, length};
 ghost use Rattle.trellis.specs.Inner.Write.{Wrote};
 ghost use Rattle.takers.specs.Inner.Pieces.{part, pairs_of, symbols_of, WordsAt};
 

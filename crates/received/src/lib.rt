@@ -2,7 +2,7 @@
 
 #![tactic(auto)]
 
-ghost use Rattle.std.specs.Prelude.{◌≡◌, ◌+◌, ◌^◌, ◌<◌, ◌≤◌, ltb, eqb};
+ghost use Rattle.std.specs.Prelude.{◌≡◌, ◌^◌, ◌<◌, ◌≤◌, ltb, eqb};
 ghost use Rattle.trellis.specs.Bounds.{most_symbols};
 ghost use Rattle.trellis.specs.Lists.{one_if, first};
 ghost use Rattle.trellis.specs.Comparing.{marked_at};

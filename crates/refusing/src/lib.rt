@@ -2,7 +2,7 @@
 
 #![tactic(auto)]
 
-ghost use Rattle.std.specs.Prelude.{◌≡◌, ◌+◌, ◌*◌, ◌<◌, ◌≤◌, length};
+ghost use Rattle.std.specs.Prelude.{◌≡◌, ◌+◌, ◌*◌, length};
 ghost use Rattle.trellis.specs.Witness.{witness};
 ghost use Rattle.answers.specs.Answers.{merged_outcome};
 ghost use Rattle.depths.specs.Inner.Words.{words};

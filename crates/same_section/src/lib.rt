@@ -3,7 +3,7 @@
 
 #![tactic(auto)]
 
-ghost use Rattle.std.specs.Prelude.{◌≡◌, true, ◌<◌, get_or, eqb};
+ghost use Rattle.std.specs.Prelude.{◌≡◌, true, get_or, eqb};
 ghost use Rattle.trellis.specs.Lists.{all};
 ghost use Rattle.answers.specs.Answers.{same_section_outcome};
 ghost use Rattle.section_file.specs.Inner.View.{Seen};

@@ -3,7 +3,7 @@
 
 #![tactic(auto)]
 
-ghost use Rattle.std.specs.Prelude.{◌≡◌, ◌+◌, ◌*◌, ◌<◌, ◌≤◌, get_or};
+ghost use Rattle.std.specs.Prelude.{◌≡◌, ◌+◌, ◌*◌, ◌≤◌, get_or};
 ghost use Rattle.trellis.specs.Bounds.{most_words, most_symbols};
 ghost use Rattle.trellis.specs.Layout.{n_of};
 ghost use Rattle.trellis.specs.Lists.{all, within};

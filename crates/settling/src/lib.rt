@@ -3,7 +3,7 @@
 
 #![tactic(auto)]
 
-ghost use Rattle.std.specs.Prelude.{◌≡◌, ◌*◌, ◌<◌, length};
+ghost use Rattle.std.specs.Prelude.{◌≡◌, ◌*◌, length};
 ghost use Rattle.trellis.specs.Bounds.{most_states};
 ghost use Rattle.trellis.specs.Layout.{vertex_count_of};
 ghost use Rattle.paths.specs.Inner.Ranked.{label_unit};

@@ -8,7 +8,6 @@ ghost use Rattle.table.specs.File.{table_file};
 ghost use Rattle.input_parts.specs.Input.{any_table, most_input};
 ghost use Rattle.input_parts.specs.Inner.Read.{HeadPassed, TableMeasured, Read};
 
-use answers::Answer;
 pub use input_parts::{block_count, section_index};
 use input_parts::{check_head, left_over, part_length, section_count};
 use listing::ANY_MAP;

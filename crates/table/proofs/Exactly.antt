@@ -23,7 +23,6 @@ use Rattle.table.specs.Inner.Good.{Passes, GoodFile}
 use Rattle.std.specs.Prelude.{Ok, Err, is_ok}
 use Rattle.answers.specs.declared.merge.MergeRefusal.TheVariants as merge
 use Rattle.table.specs.Inner.Answer.{Checked, checked_outcome}
-use Rattle.table.specs.declared.Sizes.{Sizes}
 use Rattle.table.proofs.Accepted.{passes_accepted, zero_passes, word_at_is}
 
 not_outside : (x low high : ℕ) → low ≤ x → x ≤ high → outside x low high ≡ false

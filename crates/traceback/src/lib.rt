@@ -2,7 +2,6 @@
 
 #![tactic(auto)]
 
-ghost use Rattle.std.specs.Prelude.{◌<◌};
 ghost use Rattle.passes.specs.Inner.Chains.{Followed, FollowedTo};
 
 use ranks::{goal_of, label_of};

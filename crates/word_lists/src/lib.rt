@@ -3,7 +3,7 @@
 
 #![tactic(auto)]
 
-ghost use Rattle.std.specs.Prelude.{◌+◌, ◌<◌, ◌≤◌};
+ghost use Rattle.std.specs.Prelude.{◌≤◌};
 ghost use Rattle.trellis.specs.Bounds.{most_words};
 ghost use Rattle.word_lists.specs.Inner.Lists.{Copied};
 
