@@ -18,10 +18,7 @@ use Rattle.answers.specs.declared.listing.ListingRefusal.{ListingRefusal}
 use Rattle.answers.specs.declared.listing.ListingRefusal.TheVariants as listing
 
 -- merging a table
-abbrev pub Merged : Type 0
-Merged = Result ℕ MergeRefusal
-
-abbrev pub merged_outcome : Merged → Outcome
+abbrev pub merged_outcome : Result ℕ MergeRefusal → Outcome
 merged_outcome (Ok section_length) = success section_length
 merged_outcome (Err (merge.Length file_length)) = bad_length file_length
 merged_outcome (Err (merge.Size place)) = bad_size place
@@ -32,10 +29,7 @@ merged_outcome (Err (merge.NotRectangular depth i j k)) = not_rectangular depth 
 merged_outcome (Err (merge.ShortSection needed)) = short_section needed
 
 -- merging generator rows
-abbrev pub MergedRows : Type 0
-MergedRows = Result ℕ MergeRowsRefusal
-
-abbrev pub merged_rows_outcome : MergedRows → Outcome
+abbrev pub merged_rows_outcome : Result ℕ MergeRowsRefusal → Outcome
 merged_rows_outcome (Ok section_length) = success section_length
 merged_rows_outcome (Err (merge_rows.Rows count_or_row)) = bad_rows count_or_row
 merged_rows_outcome (Err (merge_rows.Dependent row)) = dependent_row row
@@ -44,29 +38,20 @@ merged_rows_outcome (Err (merge_rows.ShortMap needed)) = short_map needed
 merged_rows_outcome (Err (merge_rows.ShortSection needed)) = short_section needed
 
 -- reading a section back
-abbrev pub ReadBack : Type 0
-ReadBack = Result ℕ ReadBackRefusal
-
-abbrev pub read_back_outcome : ReadBack → Outcome
+abbrev pub read_back_outcome : Result ℕ ReadBackRefusal → Outcome
 read_back_outcome (Ok length) = success length
 read_back_outcome (Err read_back.Unusable) = bad_section 0
 read_back_outcome (Err read_back.TooMany) = too_many_words
 read_back_outcome (Err (read_back.Short needed)) = short_buffer needed
 
 -- comparing two sections
-abbrev pub SameSection : Type 0
-SameSection = Result Bool SameSectionRefusal
-
-abbrev pub same_section_outcome : SameSection → Outcome
+abbrev pub same_section_outcome : Result Bool SameSectionRefusal → Outcome
 same_section_outcome (Ok true) = success 1
 same_section_outcome (Ok false) = success 0
 same_section_outcome (Err (same_section.Unusable which)) = bad_section which
 
 -- decoding a chain
-abbrev pub Decoded : Type 0
-Decoded = Result ℕ DecodeRefusal
-
-abbrev pub decoded_outcome : Decoded → Outcome
+abbrev pub decoded_outcome : Result ℕ DecodeRefusal → Outcome
 decoded_outcome (Ok d) = success d
 decoded_outcome (Err (decode.Section index)) = bad_section index
 decoded_outcome (Err (decode.Block index)) = bad_block index
@@ -74,10 +59,7 @@ decoded_outcome (Err (decode.Short needed)) = short_buffer needed
 decoded_outcome (Err decode.NoPath) = no_path
 
 -- listing the best paths of a chain
-abbrev pub DecodedList : Type 0
-DecodedList = Result ℕ DecodeListRefusal
-
-abbrev pub decoded_list_outcome : DecodedList → Outcome
+abbrev pub decoded_list_outcome : Result ℕ DecodeListRefusal → Outcome
 decoded_list_outcome (Ok count) = success count
 decoded_list_outcome (Err (decode_list.Section index)) = bad_section index
 decoded_list_outcome (Err (decode_list.Block index)) = bad_block index
@@ -86,9 +68,6 @@ decoded_list_outcome (Err decode_list.NoPath) = no_path
 decoded_list_outcome (Err (decode_list.Count paths)) = bad_path_count paths
 
 -- a text in a lent buffer
-abbrev pub Listed : Type 0
-Listed = Result ℕ ListingRefusal
-
-abbrev pub listed_outcome : Listed → Outcome
+abbrev pub listed_outcome : Result ℕ ListingRefusal → Outcome
 listed_outcome (Ok length) = success length
 listed_outcome (Err (listing.Short needed)) = short_buffer needed

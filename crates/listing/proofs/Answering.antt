@@ -2,8 +2,8 @@
 use mathlib.Core.Path.{◌≡◌, refl}
 use mathlib.Core.List.{List}
 use Prim.Native.Nat.{ℕ}
-use Rattle.std.specs.Prelude.{Ok, Err}
-use Rattle.answers.specs.Answers.{Merged, merged_outcome}
+use Rattle.std.specs.Prelude.{Result, Ok, Err}
+use Rattle.answers.specs.Answers.{merged_outcome}
 use Rattle.answers.specs.declared.merge.MergeRefusal.{MergeRefusal}
 use Rattle.answers.specs.declared.merge.MergeRefusal.TheVariants.{Length, Size, Word, Order, ShortMap, NotRectangular, ShortSection}
 use Rattle.text.specs.Inner.Put.{Put}
@@ -22,7 +22,7 @@ module _ (words : ℕ) (sizes : List ℕ) where
   text_of_other (NotRectangular t i j k) h = refl
   text_of_other (ShortSection k) h = absurd (h k refl)
 
-  module _ {r : Merged} {old new : List ℕ} {end : ℕ} where
+  module _ {r : Result ℕ MergeRefusal} {old new : List ℕ} {end : ℕ} where
     pub section_answered : {length : ℕ} → r ≡ Ok length → Put old 0 (refusal_line (merged_outcome r)) new end
         → Put old 0 (text_from words (merged_outcome r) sizes) new end
     unfolding text_from

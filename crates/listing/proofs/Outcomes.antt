@@ -10,12 +10,13 @@ use lib.ListN.{length, get_or, take, drop, replicate, length-append, length-repl
 use lib.Seq.{length-take-le}
 use lib.Dec.{ltb}
 use borrow.Author.Tests.{lt-ltb, le-ltb}
+use Rattle.answers.specs.declared.listing.ListingRefusal.{ListingRefusal}
+use Rattle.answers.specs.declared.merge.MergeRefusal.{MergeRefusal}
+use Rattle.std.specs.Prelude.{Result}
 use Rattle.trellis.specs.Lists.{over}
 use Rattle.trellis.specs.Outcome.{bad_length, success}
 use Rattle.trellis.specs.Bounds.{most_bytes}
 use Rattle.answers.specs.Answers.{merged_outcome, listed_outcome}
-use Rattle.answers.specs.Answers.{Merged}
-use Rattle.answers.specs.Answers.{Listed}
 use Rattle.std.specs.Prelude.{Ok}
 use Rattle.fields.specs.Fields.{word_count}
 use Rattle.table.specs.File.{table_file}
@@ -41,7 +42,7 @@ module _ (file : List ℕ) {old new : List ℕ} {end : ℕ} where
         short = text_short file;
       }
 
-  pub made_measured : {r : Merged} {map none sizes : List ℕ} {words x : ℕ} → length file ≤ most_bytes
+  pub made_measured : {r : Result ℕ MergeRefusal} {map none sizes : List ℕ} {words x : ℕ} → length file ≤ most_bytes
       → Measured file (replicate any_map 0) none r map sizes → x ≡ word_count file → words ≡ x
       → Put old 0 (text_from words (merged_outcome r) sizes) new end → TextMade file old new end
   unfolding text_of
@@ -70,7 +71,7 @@ unfolding listing
 listed file text M room e = e ∙ taken_whole M.put (omega (arith, M.short)) text
 
 -- what callers know: a text that was written stands in the buffer
-pub written_inside : (made text : List ℕ) {new : List ℕ} {r : Listed} {k : ℕ}
+pub written_inside : (made text : List ℕ) {new : List ℕ} {r : Result ℕ ListingRefusal} {k : ℕ}
     → left (listed_outcome r) new ≡ in_buffer made text → r ≡ Ok k → k ≤ length new
 unfolding in_buffer
 written_inside made text {new} {r} {k} e f =
@@ -83,7 +84,7 @@ written_inside made text {new} {r} {k} e f =
         let n : length new ≡ length (over made text) = ap (λ (m : Listing). length m.text) e in
         omega (arith, length-append made (drop (length made) text))
 
-pub listed_inside : (file text : List ℕ) {new : List ℕ} {r : Listed} {k : ℕ}
+pub listed_inside : (file text : List ℕ) {new : List ℕ} {r : Result ℕ ListingRefusal} {k : ℕ}
     → left (listed_outcome r) new ≡ listing file text → r ≡ Ok k → k ≤ length new
 unfolding listing
 listed_inside file text e f = written_inside (text_of file) text e f

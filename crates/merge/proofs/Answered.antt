@@ -4,11 +4,10 @@ use mathlib.Core.List.{List}
 use Prim.Native.Nat.{ℕ}
 use lib.ListN.{length}
 use Rattle.trellis.specs.Outcome.{Outcome}
-use Rattle.answers.specs.Answers.{Merged}
 use Rattle.answers.specs.declared.merge.MergeRefusal.{MergeRefusal}
 use Rattle.fields.specs.Fields.{file_words}
 use Rattle.table.specs.File.{accepted, refused, table_file, file_outcome}
-use Rattle.std.specs.Prelude.{Ok, Err}
+use Rattle.std.specs.Prelude.{Ok, Err, Result}
 use Rattle.table.specs.Inner.Answer.{Checked, checked_outcome}
 use Rattle.table.specs.declared.Sizes.{Sizes}
 use Rattle.table.proofs.Exactly.{checked_table, checked_refused}
@@ -41,7 +40,7 @@ module _ (file map section sizes : List ℕ) where
   unfolding merging merged_file
   by_words q n states e = ap (merged_file map section) e
 
-  pub ends_table : (q n states : ℕ) → table_file file ≡ accepted q n states (file_words file) → {a : Merged} {map2 section2 sizes2 : List ℕ}
+  pub ends_table : (q n states : ℕ) → table_file file ≡ accepted q n states (file_words file) → {a : Result ℕ MergeRefusal} {map2 section2 sizes2 : List ℕ}
       → EndsSized (merged_table q n states (file_words file) map section) (sized_table q n states (file_words file) map sizes) a map2 section2
       sizes2
       → EndsSized (merging file map section) (sizing file map sizes) a map2 section2 sizes2

@@ -8,14 +8,14 @@ use native.Mathlib.Numerals.{add-one}
 use lib.ListN.{length, get_or, take}
 use lib.Seq.{length-take-le, get_or-take, ext_get_or}
 use borrow.Author.Tests.{lt-ltb, le-ltb}
+use Rattle.answers.specs.declared.merge.MergeRefusal.{MergeRefusal}
 use Rattle.trellis.specs.Bounds.{most_states, most_words}
 use Rattle.trellis.specs.Word.{Word, word, word_at, Table}
 use Rattle.trellis.specs.Outcome.{short_map}
 use Rattle.trellis.specs.Witness.{witness}
 use Rattle.trellis.proofs.Words.{word_in, word_eq}
-use Rattle.answers.specs.Answers.{Merged}
 use Rattle.answers.specs.declared.merge.MergeRefusal.TheVariants.{ShortMap}
-use Rattle.std.specs.Prelude.{Err}
+use Rattle.std.specs.Prelude.{Err, Result}
 use Rattle.fields.specs.Fields.{file_words}
 use Rattle.table.specs.File.{accepted, table_file}
 use Rattle.table.specs.Inner.Good.{GoodFile}
@@ -122,7 +122,7 @@ module _ (file : List ℕ) {q n states count : ℕ}
       room = omega (arith, ap₂ (λ x y. x * y) (add-one n) size_roots, mul_comm w (n + 1));
     }
 
-    pub ends_words : (map section sizes map2 section2 sizes2 : List ℕ) (a : Merged) → w * (n + 1) ≤ length map
+    pub ends_words : (map section sizes map2 section2 sizes2 : List ℕ) (a : Result ℕ MergeRefusal) → w * (n + 1) ≤ length map
         → EndsSized (merged q n states held_words map section (witness n held_words))
         (sized_by q n states held_words sizes (witness n held_words)) a map2 section2 sizes2
         → EndsSized (merged_table q n states (file_words file) map section) (sized_table q n states (file_words file) map sizes) a map2 section2

@@ -11,13 +11,13 @@ use lib.ListN.{length, take}
 use lib.Dec.{ltb}
 use lib.Pow.{pow_mono}
 use borrow.Author.Tests.{lt-ltb, ltb-true}
-use Rattle.std.specs.Prelude.{Option, Some, None}
+use Rattle.answers.specs.declared.merge_rows.MergeRowsRefusal.{MergeRowsRefusal}
+use Rattle.std.specs.Prelude.{Option, Some, None, Result}
 use Rattle.std.proofs.lemmas.Option.{cond_some, none-some}
 use Rattle.trellis.specs.Bounds.{most_symbols, most_state_bits}
 use Rattle.trellis.specs.Outcome.{bad_rows, dependent_row, short_buffer, short_map}
 use Rattle.trellis.specs.Lists.{found_below}
 use Rattle.answers.specs.Answers.{merged_rows_outcome}
-use Rattle.answers.specs.Answers.{MergedRows}
 use Rattle.answers.specs.declared.merge_rows.MergeRowsRefusal.TheVariants.{ShortFile, ShortMap}
 use Rattle.std.specs.Prelude.{Err}
 use Rattle.merging.specs.Merging.{map_length}
@@ -83,7 +83,7 @@ module _ {s n : ℕ} {rows columns : List ℕ} (K : BaseAsked s n rows columns) 
 -- ---- the checks
 
 -- the end as one equation
-whole : {m : MergingRows} {r : MergedRows} {file map section : List ℕ} → RowsEnd m r file map section
+whole : {m : MergingRows} {r : Result ℕ MergeRowsRefusal} {file map section : List ℕ} → RowsEnd m r file map section
     → left (merged_rows_outcome r) file map section ≡ m
 whole R = λ i. left (R.answer_is i) (R.file_is i) (R.map_is i) (R.section_is i)
 
@@ -151,7 +151,7 @@ module _ (s n : ℕ) (rows : List ℕ) {b : Bool} (is : b ≡ sizes_fit s n (len
               symbols = few_symbols;
             })
 
-            pub as_built : (file map section : List ℕ) {r : MergedRows} {file' map' section' : List ℕ}
+            pub as_built : (file map section : List ℕ) {r : Result ℕ MergeRowsRefusal} {file' map' section' : List ℕ}
                 → RowsEnd (merged_rows s n given file map section) r file' map' section'
                 → left (merged_rows_outcome r) file' map' section' ≡ merging_rows s n rows file map section
             as_built file map section E = whole E

@@ -4,7 +4,8 @@ use mathlib.Core.Path.{◌≡◌, refl, sym, ap, ap₂, subst, ◌∙◌}
 use mathlib.Core.List.{List}
 use Prim.Native.Nat.{ℕ, suc, ◌+◌, ◌*◌}
 use native.Mathlib.Omega.{arith}
-use Rattle.std.specs.Prelude.{Option, Some, None}
+use Rattle.answers.specs.declared.merge.MergeRefusal.{MergeRefusal}
+use Rattle.std.specs.Prelude.{Option, Some, None, Result}
 use native.Mathlib.Nat.{mul_comm, suc-mul}
 use native.Mathlib.Numerals.{add-one}
 use lib.ListN.{length, replicate, length-replicate}
@@ -14,7 +15,6 @@ use Rattle.trellis.proofs.Witness.{witness_none}
 use Rattle.trellis.specs.Lists.{over}
 use Rattle.trellis.proofs.Buffers.{over_same}
 use Rattle.answers.specs.Answers.{merged_outcome}
-use Rattle.answers.specs.Answers.{Merged}
 use Rattle.depths.specs.Inner.Words.{words}
 use Rattle.depths.specs.Inner.Merge.{Inner, FirstRefused, InnerOutcome, InnerDone}
 use Rattle.depths.proofs.Words.{held_length}
@@ -64,7 +64,7 @@ module _ {n : ℕ} {r : Option ℕ} {roots labels goals map0 map1 counts0 counts
       let e = same_behind (map_of n table) (map_length_lem n table ∙ ap (λ w. suc n * w) size) in
       rw e
 
-  pub ends_written : (q states : ℕ) (section sizes : List ℕ) {map2 section2 sizes2 : List ℕ} {a : Merged} → r ≡ None
+  pub ends_written : (q states : ℕ) (section sizes : List ℕ) {map2 section2 sizes2 : List ℕ} {a : Result ℕ MergeRefusal} → r ≡ None
       → EndsSized (written q n states table map1 section) (over (section_sizes q n states table) sizes) a map2 section2 sizes2
       → EndsSized (merged q n states table map0 section (witness n table)) (sized_by q n states table sizes (witness n table)) a
       map2 section2 sizes2
@@ -83,7 +83,7 @@ module _ {n : ℕ} {r : Option ℕ} {roots labels goals map0 map1 counts0 counts
   pub refused : {depth : ℕ} → r ≡ Some depth → RefusedAt n depth roots labels goals map1
   refused e = record { asked = asked; first = first_of e }
 
-  pub ends_refused : (q states : ℕ) (section sizes : List ℕ) {map2 : List ℕ} {a : Merged} {depth : ℕ} → r ≡ Some depth
+  pub ends_refused : (q states : ℕ) (section sizes : List ℕ) {map2 : List ℕ} {a : Result ℕ MergeRefusal} {depth : ℕ} → r ≡ Some depth
       → (merged_outcome a ≡ refusal_of (witness n table)) × (map2 ≡ cleared (length roots * (n + 1)) map1)
       → EndsSized (merged q n states table map0 section (witness n table)) (sized_by q n states table sizes (witness n table)) a map2 section
       sizes

@@ -9,6 +9,7 @@ use native.Mathlib.Nat.{mul-le-mul}
 use lib.ListN.{length, get_or, length-append, replicate, length-replicate}
 use lib.Dec.{leb}
 use borrow.Author.Tests.{lt-ltb, le-ltb, le-leb}
+use Rattle.answers.specs.declared.merge.MergeRefusal.{MergeRefusal}
 use Rattle.trellis.specs.Bounds.{most_words, most_symbols}
 use Rattle.trellis.specs.Word.{Word, Rectangular}
 use Rattle.trellis.specs.Layout.{joined_up, section_of}
@@ -18,9 +19,8 @@ use Rattle.trellis.specs.Lists.{over}
 use Rattle.trellis.specs.Outcome.{Outcome, success, short_section}
 use Rattle.trellis.specs.Own.{Edge}
 use Rattle.answers.specs.Answers.{merged_outcome}
-use Rattle.answers.specs.Answers.{Merged}
 use Rattle.answers.specs.declared.merge.MergeRefusal.TheVariants.{ShortSection}
-use Rattle.std.specs.Prelude.{Ok, Err}
+use Rattle.std.specs.Prelude.{Ok, Err, Result}
 use Rattle.depths.specs.Inner.Words.{words, Held}
 use Rattle.depths.proofs.Words.{held_length}
 use Rattle.takers.specs.Inner.Pieces.{SmallMap, map_edge, step_takers, AllTaken, Taken}
@@ -64,7 +64,7 @@ module _ (q n states : ℕ) (table : List Word) (map section : List ℕ) where
   unfolding written
   written_done h = simp (le-ltb (length section) (length (section_of q n states table)) h)
 
-pub ends_by : {m : Merging} {r : Merged} {o : Outcome} {map section map' section' : List ℕ} → m ≡ left o map section → merged_outcome r ≡ o
+pub ends_by : {m : Merging} {r : Result ℕ MergeRefusal} {o : Outcome} {map section map' section' : List ℕ} → m ≡ left o map section → merged_outcome r ≡ o
     → map' ≡ map → section' ≡ section
     → Ends m r map' section'
 ends_by {m} {r} {o} {map} {section} {map'} {section'} e p q s = record {

@@ -1,6 +1,7 @@
 -- What merging a table file leaves: document 01's answer and the whole content of both buffers, from the file's bytes and the buffers
 -- before the call. Everything here computes.
-use Rattle.std.specs.Prelude.{cond, List, ◌≡◌, ℕ, suc, ◌+◌, ◌*◌, length, replicate, ltb}
+use Rattle.answers.specs.declared.merge.MergeRefusal.{MergeRefusal}
+use Rattle.std.specs.Prelude.{cond, List, ◌≡◌, ℕ, suc, ◌+◌, ◌*◌, length, replicate, ltb, Result}
 use Rattle.trellis.specs.Lists.{each, over}
 use Rattle.trellis.specs.Word.{Word}
 use Rattle.trellis.specs.Own.{vertex_of}
@@ -8,7 +9,6 @@ use Rattle.trellis.specs.Layout.{joined_up, section_of}
 use Rattle.trellis.specs.Witness.{Witness, found, nothing, witness}
 use Rattle.trellis.specs.Outcome.{Outcome, success, short_map, not_rectangular, short_section}
 use Rattle.outcomes.specs.Numbered.{Numbered}
-use Rattle.answers.specs.Answers.{Merged}
 use Rattle.answers.specs.Answers.{merged_outcome}
 use Rattle.table.specs.File.{TableFile, refused, accepted, table_file}
 
@@ -59,7 +59,7 @@ unfoldable pub merging : List ℕ → List ℕ → List ℕ → Merging
 merging file map section = merged_file map section (table_file file)
 
 -- the answer and both buffers are those of m
-pub record Ends (m : Merging) (r : Merged) (map section : List ℕ) : Type 0 where
+pub record Ends (m : Merging) (r : Result ℕ MergeRefusal) (map section : List ℕ) : Type 0 where
   pub answer_is : merged_outcome r ≡ m.answer
   pub map_is : map ≡ m.map
   pub section_is : section ≡ m.section

@@ -7,12 +7,12 @@ use native.Mathlib.Nat.{mul_comm}
 use native.Mathlib.Numerals.{add-one}
 use lib.ListN.{length, get_or, replicate}
 use lib.Pow.{pow_pos}
+use Rattle.answers.specs.declared.merge_rows.MergeRowsRefusal.{MergeRowsRefusal}
 use Rattle.trellis.specs.Lists.{each, over}
 use Rattle.trellis.specs.Layout.{section_of}
 use Rattle.trellis.specs.Outcome.{success, short_section}
-use Rattle.answers.specs.Answers.{MergedRows}
 use Rattle.answers.specs.declared.merge_rows.MergeRowsRefusal.TheVariants.{ShortSection}
-use Rattle.std.specs.Prelude.{Ok, Err}
+use Rattle.std.specs.Prelude.{Ok, Err, Result}
 use Rattle.assemble.specs.Inner.Numbers.{length_by}
 use Rattle.merging.specs.Merging.{map_of, map_length}
 use Rattle.merging.proofs.MapRows.{map_is_lem}
@@ -33,7 +33,7 @@ use Rattle.merging_rows.proofs.StepEdges.{narrow_rows}
 use Rattle.merging_rows.proofs.Numbers.{numbers_are, length_is}
 
 -- a record that was found another way
-pub ends_by : {m : MergingRows} {o : MergingRows} {r : MergedRows} {file map section : List ℕ} → m ≡ o → RowsEnd o r file map section
+pub ends_by : {m : MergingRows} {o : MergingRows} {r : Result ℕ MergeRowsRefusal} {file map section : List ℕ} → m ≡ o → RowsEnd o r file map section
     → RowsEnd m r file map section
 ends_by {m} {o} {r} {file} {map} {section} e R = subst (λ x. RowsEnd x r file map section) (sym e) R
 

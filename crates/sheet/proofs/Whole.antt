@@ -6,10 +6,10 @@ use Prim.Native.Nat.{ℕ, ◌≤◌}
 use native.Mathlib.Omega.{arith}
 use lib.ListN.{length, take}
 use borrow.Author.Tests.{eq-eqb, ne_eqb}
+use Rattle.answers.specs.declared.listing.ListingRefusal.{ListingRefusal}
 use Rattle.trellis.specs.Bounds.{most_blocks}
 use Rattle.answers.specs.Answers.{listed_outcome}
-use Rattle.answers.specs.Answers.{Listed}
-use Rattle.std.specs.Prelude.{Ok}
+use Rattle.std.specs.Prelude.{Ok, Result}
 use Rattle.text.specs.Inner.Put.{Put}
 use Rattle.lines.specs.Text.{refusal_line}
 use Rattle.text_buffer.specs.Listing.{Listing, left, in_buffer}
@@ -71,7 +71,7 @@ unfolding sheet
 copied input text M room e = e ∙ taken_whole M.put (omega (arith, M.short)) text
 
 -- what callers know: a sheet that was written stands in the buffer
-pub sheet_inside : (input text : List ℕ) {new : List ℕ} {r : Listed} {k : ℕ}
+pub sheet_inside : (input text : List ℕ) {new : List ℕ} {r : Result ℕ ListingRefusal} {k : ℕ}
     → left (listed_outcome r) new ≡ sheet input text → r ≡ Ok k → k ≤ length new
 unfolding sheet
 sheet_inside input text e f = written_inside (sheet_text input) text e f

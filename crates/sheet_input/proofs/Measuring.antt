@@ -7,6 +7,8 @@ use native.Mathlib.Omega.{arith}
 use native.Mathlib.Nat.{le_of_eq}
 use lib.ListN.{length, replicate, length-replicate}
 use borrow.Author.Tests.{lt-ltb, le-ltb}
+use Rattle.answers.specs.declared.merge.MergeRefusal.{MergeRefusal}
+use Rattle.std.specs.Prelude.{Result}
 use Rattle.trellis.specs.Bounds.{most_symbols, most_words}
 use Rattle.trellis.specs.Word.{Word}
 use Rattle.trellis.specs.Witness.{Witness, found, nothing, witness}
@@ -15,7 +17,6 @@ use Rattle.trellis.specs.Layout.{section_of}
 use Rattle.outcomes.specs.Inner.Holds.{Holds}
 use Rattle.outcomes.proofs.Held.{holds_by}
 use Rattle.answers.specs.Answers.{merged_outcome}
-use Rattle.answers.specs.Answers.{Merged}
 use Rattle.table.specs.File.{TableFile, refused, accepted, table_file}
 use Rattle.table.proofs.Accepted.{accepted_good}
 use Rattle.merging.specs.Merging.{map_length, written, merged, merged_table, merged_file, merging}
@@ -87,7 +88,7 @@ module _ (map sizes : List ℕ) where
     unfolding merging sizing
     answers = by_file (table_file file) refl
 
-module _ (file : List ℕ) {r : Merged} {map none sizes : List ℕ} (short : length file ≤ any_table)
+module _ (file : List ℕ) {r : Result ℕ MergeRefusal} {map none sizes : List ℕ} (short : length file ≤ any_table)
     (M : Sized file (replicate any_map 0) none r map sizes) {number count : ℕ} {values : List ℕ}
     (H : Holds (merged_outcome r) number count values) where
   abbrev of_file : Answers (table_file file) (merging file (replicate any_map 0) []).answer (sizing file (replicate any_map 0) none)

@@ -7,12 +7,12 @@ use lib.ListN.{length, take, drop, get_or}
 use lib.Seq.{take-append_seam}
 use native.Mathlib.Omega.{arith}
 use borrow.Author.Tests.{lt-ltb, le-ltb}
+use Rattle.answers.specs.declared.listing.ListingRefusal.{ListingRefusal}
 use Rattle.trellis.specs.Outcome.{success, short_buffer}
 use Rattle.trellis.specs.Lists.{over}
 use Rattle.answers.specs.Answers.{listed_outcome}
-use Rattle.answers.specs.Answers.{Listed}
 use Rattle.answers.specs.declared.listing.ListingRefusal.TheVariants.{Short}
-use Rattle.std.specs.Prelude.{Ok, Err}
+use Rattle.std.specs.Prelude.{Ok, Err, Result}
 use Rattle.text.specs.Inner.Put.{Put}
 use Rattle.text.proofs.Putting.{front_put}
 use Rattle.text_buffer.specs.Listing.{left, in_buffer, Listing}
@@ -37,7 +37,7 @@ module _ (made old : List ℕ) (fits : length made ≤ length old) where
   unfolding in_buffer
   whole_left = ap (leaves made old) (le-ltb (length old) (length made) fits)
 
-  module _ {new : List ℕ} {r : Listed} {k : ℕ} (e : left (listed_outcome r) new ≡ in_buffer made old) where
+  module _ {new : List ℕ} {r : Result ℕ ListingRefusal} {k : ℕ} (e : left (listed_outcome r) new ≡ in_buffer made old) where
     pub whole_front : r ≡ Ok k → take k new ≡ made
     whole_front f =
         let l : left (success k) new ≡ left (success (length made)) (over made old)

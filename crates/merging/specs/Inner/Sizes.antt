@@ -1,13 +1,13 @@
 -- The sizes that merging leaves beside the section: the numbers that a section begins with, up to its counts, wherever the table has a
 -- section, also where the buffer has no room for it. Everything here computes.
-use Rattle.std.specs.Prelude.{◌≡◌, cond, List, [], ℕ, ◌+◌, ◌*◌, length, take, ltb}
+use Rattle.answers.specs.declared.merge.MergeRefusal.{MergeRefusal}
+use Rattle.std.specs.Prelude.{◌≡◌, cond, List, [], ℕ, ◌+◌, ◌*◌, length, take, ltb, Result}
 use Rattle.trellis.specs.Bounds.{most_symbols}
 use Rattle.trellis.specs.Lists.{over}
 use Rattle.trellis.specs.Word.{Word}
 use Rattle.trellis.specs.Layout.{section_of}
 use Rattle.trellis.specs.Witness.{Witness, found, nothing, witness}
 use Rattle.answers.specs.Answers.{merged_outcome}
-use Rattle.answers.specs.Answers.{Merged}
 use Rattle.table.specs.File.{TableFile, refused, accepted, table_file}
 use Rattle.merging.specs.Merging.{Ends, Merging, map_length, merging}
 
@@ -38,12 +38,12 @@ unfoldable pub sizing : List ℕ → List ℕ → List ℕ → List ℕ
 sizing file map sizes = sized_file map sizes (table_file file)
 
 -- merging ends as m says and leaves these sizes
-pub record EndsSized (m : Merging) (sizes : List ℕ) (r : Merged) (map section left : List ℕ) : Type 0 where
+pub record EndsSized (m : Merging) (sizes : List ℕ) (r : Result ℕ MergeRefusal) (map section left : List ℕ) : Type 0 where
   pub ends : Ends m r map section
   pub sizes_are : left ≡ sizes
 
 -- measuring answers as merging does with no room for a section, and leaves the sizes
-pub record Measured (file map sizes : List ℕ) (r : Merged) (map' sizes' : List ℕ) : Type 0 where
+pub record Measured (file map sizes : List ℕ) (r : Result ℕ MergeRefusal) (map' sizes' : List ℕ) : Type 0 where
   pub answer_is : merged_outcome r ≡ (merging file map []).answer
   pub map_is : map' ≡ (merging file map []).map
   pub sizes_are : sizes' ≡ sizing file map sizes

@@ -1,8 +1,8 @@
 -- What the stages of merging generator rows ask and leave.
-use Rattle.std.specs.Prelude.{◌≡◌, List, ℕ, ◌+◌, ◌*◌, ◌≤◌, ◌<◌, length}
+use Rattle.answers.specs.declared.merge_rows.MergeRowsRefusal.{MergeRowsRefusal}
+use Rattle.std.specs.Prelude.{◌≡◌, List, ℕ, ◌+◌, ◌*◌, ◌≤◌, ◌<◌, length, Result}
 use Rattle.trellis.specs.Bounds.{most_symbols, most_state_bits, most_rows}
 use Rattle.answers.specs.Answers.{merged_rows_outcome}
-use Rattle.answers.specs.Answers.{MergedRows}
 use Rattle.rows.specs.Table.{row_width}
 use Rattle.rows.specs.Inner.Reduced.{Narrow, Echelon}
 use Rattle.row_map.specs.Inner.Maps.{MapAsked}
@@ -23,7 +23,7 @@ pub record BuildAsked (s n : ℕ) (rows columns : List ℕ) (w : ℕ) (file map 
   pub file_room : 5 + 4 * w ≤ length file
 
 -- the answer and the three buffers are those of m
-pub record RowsEnd (m : MergingRows) (r : MergedRows) (file map section : List ℕ) : Type 0 where
+pub record RowsEnd (m : MergingRows) (r : Result ℕ MergeRowsRefusal) (file map section : List ℕ) : Type 0 where
   pub answer_is : merged_rows_outcome r ≡ m.answer
   pub file_is : file ≡ m.file
   pub map_is : map ≡ m.map
