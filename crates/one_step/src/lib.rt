@@ -18,7 +18,7 @@ ghost use Rattle.one_step.specs.Inner.Loops.{StepRoom, limited, Streamed, Steppe
 use codes::vertex_of;
 use dearest::{code_of, item};
 use edge_search::first_edge;
-use edges::{Edge, edge_at};
+use edges::{Edge, Step};
 use kept::{Held, admit};
 use least_rows::ROWS;
 use totals::{paid, total};
@@ -60,9 +60,7 @@ fn keep_edge(
 
 // Item x along each edge of step t that leaves its vertex, within the limit.
 fn keep_item(
-    pairs: &[u16],
-    symbols: &[u16],
-    edges: usize,
+    step: Step,
     each: usize,
     rows: &[u32; ROWS],
     prices: &[u64],
@@ -73,17 +71,17 @@ fn keep_item(
     before: Held,
     items: &mut [u64; MOST_PATHS],
 ) -> Held
-    requires { StepEdges pairs.now symbols.now edges × StepRoom k t rows.now prices.now
+    requires { StepEdges step.pairs.now step.symbols.now step.count × StepRoom k t rows.now prices.now
         × Kept k items.old before.count before.worst × (each ≤ most_words) × (limit < unreached) }
     ensures { Streamed k before.count items.old (limited limit (candidates rows.now prices.now t
-        (run (edge_in pairs.now symbols.now) 0 edges) x)) items.new result.count result.worst }
+        (run (edge_in step.entry.pairs.now step.entry.symbols.now) 0 step.entry.count) x)) items.new result.count result.worst }
 {
     let code = code_of(x);
     let vertex = vertex_of(code);
     let so_far = paid(rows, t, vertex, x);
     let mut held = before;
-    for i in first_edge(pairs, edges, each, vertex)..edges {
-        let e = edge_at(pairs, symbols, i);
+    for i in first_edge(step.pairs, step.count, each, vertex)..step.count {
+        let e = step.edge_at(i);
         if e.from != vertex {
             return held;
         }
@@ -94,9 +92,7 @@ fn keep_item(
 
 // The first `have` items one step further: of all that they become within the limit, the k best.
 pub fn step_within(
-    pairs: &[u16],
-    symbols: &[u16],
-    edges: usize,
+    step: Step,
     each: usize,
     rows: &[u32; ROWS],
     prices: &[u64],
@@ -107,17 +103,15 @@ pub fn step_within(
     k: usize,
     items: &mut [u64; MOST_PATHS],
 ) -> Held
-    requires { StepEdges pairs.now symbols.now edges × StepRoom k t rows.now prices.now × (have ≤ k)
+    requires { StepEdges step.pairs.now step.symbols.now step.count × StepRoom k t rows.now prices.now × (have ≤ k)
         × (each ≤ most_words) × (limit < unreached) }
     ensures { Stepped k (limited limit (flat_map (candidates rows.now prices.now t
-        (run (edge_in pairs.now symbols.now) 0 edges)) (take have old.now)))
+        (run (edge_in step.entry.pairs.now step.entry.symbols.now) 0 step.entry.count)) (take have old.now)))
         items.new result.count result.worst }
 {
     let mut held = Held { count: 0, worst: 0 };
     for x in &old[..have] {
-        held = keep_item(
-            pairs, symbols, edges, each, rows, prices, t, *x, limit, k, held, items,
-        );
+        held = keep_item(step, each, rows, prices, t, *x, limit, k, held, items);
     }
     held
 }

@@ -12,6 +12,7 @@ ghost use Rattle.section_file.specs.Inner.View.{Seen};
 ghost use Rattle.one_step.specs.Inner.Loops.{Gone};
 
 use edge_search::edges_each;
+use edges::Step;
 use least_rows::ROWS;
 use section_file::View;
 pub use step_limits::NONE_ABOVE;
@@ -47,12 +48,15 @@ pub fn keep_section(
     let mut symbols = at.symbols;
     for t in 0..n {
         let old = *items;
-        let edges = usize::from(l[4 + n + t]);
-        let each = edges_each(l, t, edges);
+        let count = usize::from(l[4 + n + t]);
+        let step = Step {
+            pairs: &l[pairs..],
+            symbols: &l[symbols..],
+            count,
+        };
+        let each = edges_each(l, t, count);
         let held = keep_step(
-            &l[pairs..],
-            &l[symbols..],
-            edges,
+            step,
             each,
             rows,
             prices,
@@ -67,8 +71,8 @@ pub fn keep_section(
             count: held.count,
             limit: limit_of(items, k, held),
         };
-        pairs += 2 * edges;
-        symbols += edges;
+        pairs += 2 * count;
+        symbols += count;
     }
     grown
 }
