@@ -14,6 +14,7 @@ ghost use Rattle.one_step.specs.Inner.Loops.{Gone};
 use edge_search::edges_each;
 use edges::Step;
 use least_rows::ROWS;
+use one_step::Costs;
 use section_file::View;
 pub use step_limits::NONE_ABOVE;
 use step_limits::{keep_step, limit_of};
@@ -55,18 +56,8 @@ pub fn keep_section(
             count,
         };
         let each = edges_each(l, t, count);
-        let held = keep_step(
-            step,
-            each,
-            rows,
-            prices,
-            t,
-            &old,
-            grown.count,
-            grown.limit,
-            k,
-            items,
-        );
+        let costs = Costs { rows, prices, t };
+        let held = keep_step(step, each, costs, &old, grown.count, grown.limit, k, items);
         grown = Grown {
             count: held.count,
             limit: limit_of(items, k, held),
