@@ -1,5 +1,4 @@
-// The edges of one step, in the two slices where their pairs (from, to) and their symbols begin: an edge read, whether all are within
-// bounds, and whether they ascend.
+// The edges of one step: an edge read, whether all are within bounds, and whether they ascend.
 
 #![tactic(auto)]
 
@@ -15,53 +14,56 @@ pub struct Edge {
     pub to: usize,
 }
 
-// Edge k of those whose pairs (from, to) and symbols begin at the front of two slices.
-pub fn edge_at(pairs: &[u16], symbols: &[u16], k: usize) -> Edge
-    requires { (2 * k + 1 < length pairs.now) × (k < length symbols.now) }
-    ensures { result ≡ held_edge (edge_in pairs.now symbols.now k) }
-{
-    Edge {
-        from: usize::from(pairs[2 * k]),
-        symbol: usize::from(symbols[k]),
-        to: usize::from(pairs[2 * k + 1]),
+// The edges of one step: their pairs (from, to) and their symbols, each at the front of a slice, and how many they are.
+#[derive(Clone, Copy)]
+pub struct Step<'a> {
+    pub pairs: &'a [u16],
+    pub symbols: &'a [u16],
+    pub count: usize,
+}
+
+impl<'a> Step<'a> {
+    // Edge k, counted from the front of the slices.
+    pub fn edge_at(self, k: usize) -> Edge
+        requires { (2 * k + 1 < length self.pairs.now) × (k < length self.symbols.now) }
+        ensures { result ≡ held_edge (edge_in self.entry.pairs.now self.entry.symbols.now k) }
+    {
+        Edge {
+            from: usize::from(self.pairs[2 * k]),
+            symbol: usize::from(self.symbols[k]),
+            to: usize::from(self.pairs[2 * k + 1]),
+        }
     }
-}
 
-#[tactic(auto, unfolding(crate::specs::Inner::Edges::inside))]
-fn is_inside(pairs: &[u16], symbols: &[u16], k: usize, q: usize, froms: usize, tos: usize) -> bool
-    requires { (2 * k + 1 < length pairs.now) × (k < length symbols.now) }
-    ensures { result ≡ inside (edge_in pairs.now symbols.now) q froms tos k }
-{
-    let e = edge_at(pairs, symbols, k);
-    e.from < froms && e.to < tos && e.symbol < q
-}
+    #[tactic(auto, unfolding(crate::specs::Inner::Edges::inside))]
+    fn is_inside(self, k: usize, q: usize, froms: usize, tos: usize) -> bool
+        requires { (2 * k + 1 < length self.pairs.now) × (k < length self.symbols.now) }
+        ensures { result ≡ inside (edge_in self.entry.pairs.now self.entry.symbols.now) q froms tos k }
+    {
+        let e = self.edge_at(k);
+        e.from < froms && e.to < tos && e.symbol < q
+    }
 
-pub fn all_inside(
-    pairs: &[u16],
-    symbols: &[u16],
-    count: usize,
-    q: usize,
-    froms: usize,
-    tos: usize,
-) -> bool
-    requires { EdgesThere pairs.now symbols.now count }
-    ensures { result ≡ all (inside (edge_in pairs.now symbols.now) q froms tos) count }
-{
-    (0..count).all(|k| is_inside(pairs, symbols, k, q, froms, tos))
-}
+    pub fn all_inside(self, q: usize, froms: usize, tos: usize) -> bool
+        requires { EdgesThere self.pairs.now self.symbols.now self.count }
+        ensures { result ≡ all (inside (edge_in self.entry.pairs.now self.entry.symbols.now) q froms tos) self.entry.count }
+    {
+        (0..self.count).all(|k| self.is_inside(k, q, froms, tos))
+    }
 
-// Whether edge k is above the edge before it.
-#[tactic(auto, using(crate::proofs::Reading::first_above))]
-fn is_above(pairs: &[u16], symbols: &[u16], k: usize) -> bool
-    requires { (2 * k + 1 < length pairs.now) × (k < length symbols.now) }
-    ensures { result ≡ above (edge_in pairs.now symbols.now) k }
-{
-    k == 0 || edge_at(pairs, symbols, k - 1) < edge_at(pairs, symbols, k)
-}
+    // Whether edge k is above the edge before it.
+    #[tactic(auto, using(crate::proofs::Reading::first_above))]
+    fn is_above(self, k: usize) -> bool
+        requires { (2 * k + 1 < length self.pairs.now) × (k < length self.symbols.now) }
+        ensures { result ≡ above (edge_in self.entry.pairs.now self.entry.symbols.now) k }
+    {
+        k == 0 || self.edge_at(k - 1) < self.edge_at(k)
+    }
 
-pub fn all_above(pairs: &[u16], symbols: &[u16], count: usize) -> bool
-    requires { EdgesThere pairs.now symbols.now count }
-    ensures { result ≡ all (above (edge_in pairs.now symbols.now)) count }
-{
-    (0..count).all(|k| is_above(pairs, symbols, k))
+    pub fn all_above(self) -> bool
+        requires { EdgesThere self.pairs.now self.symbols.now self.count }
+        ensures { result ≡ all (above (edge_in self.entry.pairs.now self.entry.symbols.now)) self.entry.count }
+    {
+        (0..self.count).all(|k| self.is_above(k))
+    }
 }

@@ -12,7 +12,7 @@ ghost use Rattle.twins.specs.Inner.Twins.{turned_in};
 ghost use Rattle.whole_section.specs.Inner.StepAt.{part_from, StepAt};
 ghost use Rattle.partners.specs.Inner.Following.{slot, Single, Partners, StepMatched, LastMatched, BothSeen, FollowedBy};
 
-use edges::edge_at;
+use edges::Step;
 use numbers::{number, wide};
 use partners::{carry, ends_of};
 use section_file::View;
@@ -35,28 +35,32 @@ fn match_step(
         (run (edge_in (part_from pairs b.now) (part_from symbols b.now)) 0 count)
         matched.old matched.new result }
 {
-    let ends = ends_of(&b[pairs..], &b[symbols..], count, false);
+    let theirs = Step {
+        pairs: &b[pairs..],
+        symbols: &b[symbols..],
+        count,
+    };
+    let ends = ends_of(theirs, false);
     let old = *matched;
-    carry(&a[pairs..], &a[symbols..], count, &ends, &old, matched)
+    let ours = Step {
+        pairs: &a[pairs..],
+        symbols: &a[symbols..],
+        count,
+    };
+    carry(ours, &ends, &old, matched)
 }
 
 // Whether each edge of the last step leaves the vertex whose partner the edge with its end and symbol leaves; `starts` has these.
 #[tactic(auto, using(edges::proofs::Reading::edge_small))]
-fn all_close(
-    pairs: &[u16],
-    symbols: &[u16],
-    count: usize,
-    starts: &[u16; MOST_Q * MOST_WORDS],
-    matched: &[u16; MOST_WORDS],
-) -> bool
-    requires { EdgesSmall pairs.now symbols.now count × (length starts.now ≡ most_q * most_words)
+fn all_close(step: Step, starts: &[u16; MOST_Q * MOST_WORDS], matched: &[u16; MOST_WORDS]) -> bool
+    requires { EdgesSmall step.pairs.now step.symbols.now step.count × (length starts.now ≡ most_q * most_words)
         × (length matched.now ≡ most_words) }
-    ensures { result ≡ all (λ k. eqb (get_or starts.now (slot (edge_in pairs.now symbols.now k).to
-        (edge_in pairs.now symbols.now k).symbol) 0)
-        (get_or matched.now (edge_in pairs.now symbols.now k).from 0)) count }
+    ensures { result ≡ all (λ k. eqb (get_or starts.now (slot (edge_in step.entry.pairs.now step.entry.symbols.now k).to
+        (edge_in step.entry.pairs.now step.entry.symbols.now k).symbol) 0)
+        (get_or matched.now (edge_in step.entry.pairs.now step.entry.symbols.now k).from 0)) step.entry.count }
 {
-    for k in 0..count {
-        let e = edge_at(pairs, symbols, k);
+    for k in 0..step.count {
+        let e = step.edge_at(k);
         let slot = MOST_Q * e.to + e.symbol;
         if starts[slot] != matched[e.from] {
             return false;
@@ -81,8 +85,18 @@ fn match_last(
         (run (edge_in (part_from pairs b.now) (part_from symbols b.now)) 0 count)
         matched.now result }
 {
-    let starts = ends_of(&b[pairs..], &b[symbols..], count, true);
-    all_close(&a[pairs..], &a[symbols..], count, &starts, matched)
+    let theirs = Step {
+        pairs: &b[pairs..],
+        symbols: &b[symbols..],
+        count,
+    };
+    let starts = ends_of(theirs, true);
+    let ours = Step {
+        pairs: &a[pairs..],
+        symbols: &a[symbols..],
+        count,
+    };
+    all_close(ours, &starts, matched)
 }
 
 // The first vertices, each its own partner: those of depth 0, whose states are the same.

@@ -14,19 +14,19 @@ ghost use Rattle.codes.specs.Inner.Codes.{code_vertex, grown_codes};
 ghost use Rattle.gathering.specs.Inner.Growing.{PutBehind, BeginsAt, Starts, Gathered, FirstLevel, RootCodes};
 
 use codes::{further, vertex_of};
-use edges::edge_at;
+use edges::Step;
 use numbers::{number, wide};
 use section_file::View;
 use trellis::MOST_WORDS;
 
 // Where the edges of each vertex begin. Going down, the last note of a vertex is its first edge.
-fn starts_of(pairs: &[u16], symbols: &[u16], count: usize) -> [u16; MOST_WORDS]
-    requires { StepEdges pairs.now symbols.now count }
-    ensures { Starts (edge_in pairs.now symbols.now) count result }
+fn starts_of(step: Step) -> [u16; MOST_WORDS]
+    requires { StepEdges step.pairs.now step.symbols.now step.count }
+    ensures { Starts (edge_in step.entry.pairs.now step.entry.symbols.now) step.entry.count result }
 {
-    let mut starts = [count as u16; MOST_WORDS];
-    for k in (0..count).rev() {
-        let e = edge_at(pairs, symbols, k);
+    let mut starts = [step.count as u16; MOST_WORDS];
+    for k in (0..step.count).rev() {
+        let e = step.edge_at(k);
         starts[e.from] = k as u16;
     }
     starts
@@ -36,23 +36,22 @@ fn starts_of(pairs: &[u16], symbols: &[u16], count: usize) -> [u16; MOST_WORDS]
 // then, or nothing where they are more than the array has room for.
 #[tactic(auto, using(edges::proofs::Reading::edge_small))]
 fn grow_one(
-    pairs: &[u16],
-    symbols: &[u16],
-    count: usize,
+    step: Step,
     start: usize,
     c: u32,
     made: usize,
     codes: &mut [u32; MOST_WORDS],
 ) -> Option<usize>
-    requires { StepEdges pairs.now symbols.now count × BeginsAt (edge_in pairs.now symbols.now) count (code_vertex c) start
+    requires { StepEdges step.pairs.now step.symbols.now step.count
+        × BeginsAt (edge_in step.pairs.now step.symbols.now) step.count (code_vertex c) start
         × (made ≤ most_words) × (length codes.old ≡ most_words) }
-    ensures { PutBehind (grown_codes (run (edge_in pairs.now symbols.now) 0 count) c) codes.old made
+    ensures { PutBehind (grown_codes (run (edge_in step.entry.pairs.now step.entry.symbols.now) 0 step.entry.count) c) codes.old made
         codes.new result }
 {
     let vertex = vertex_of(c);
     let mut filled = made;
-    for k in start..count {
-        let e = edge_at(pairs, symbols, k);
+    for k in start..step.count {
+        let e = step.edge_at(k);
         if e.from != vertex {
             return Some(filled);
         }
@@ -67,24 +66,22 @@ fn grow_one(
 
 // Puts the first `have` beginnings of `old` one step further.
 fn grow(
-    pairs: &[u16],
-    symbols: &[u16],
-    count: usize,
+    step: Step,
     old: &[u32; MOST_WORDS],
     have: usize,
     codes: &mut [u32; MOST_WORDS],
 ) -> Option<usize>
-    requires { StepEdges pairs.now symbols.now count × (have ≤ most_words) × (length old.now ≡ most_words)
+    requires { StepEdges step.pairs.now step.symbols.now step.count × (have ≤ most_words) × (length old.now ≡ most_words)
         × (length codes.old ≡ most_words) }
-    ensures { PutBehind (flat_map (grown_codes (run (edge_in pairs.now symbols.now) 0 count))
+    ensures { PutBehind (flat_map (grown_codes (run (edge_in step.entry.pairs.now step.entry.symbols.now) 0 step.entry.count))
         (take have old.now)) codes.old 0 codes.new result }
 {
-    let starts = starts_of(pairs, symbols, count);
+    let starts = starts_of(step);
     let mut made: usize = 0;
     for i in 0..have {
         let c = old[i];
         let start = usize::from(starts[vertex_of(c)]);
-        made = grow_one(pairs, symbols, count, start, c, made, codes)?;
+        made = grow_one(step, start, c, made, codes)?;
     }
     Some(made)
 }
@@ -103,7 +100,12 @@ fn grow_step(
         count)) (take have codes.old)) codes.old 0 codes.new result }
 {
     let old = *codes;
-    grow(&s[pairs..], &s[symbols..], count, &old, have, codes)
+    let step = Step {
+        pairs: &s[pairs..],
+        symbols: &s[symbols..],
+        count,
+    };
+    grow(step, &old, have, codes)
 }
 
 // The vertices of depth 0, each with its root; the roots begin at place `at`.

@@ -18,11 +18,19 @@ ghost use Rattle.one_step.specs.Inner.Loops.{StepRoom, limited, Streamed, Steppe
 use codes::vertex_of;
 use dearest::{code_of, item};
 use edge_search::first_edge;
-use edges::{Edge, edge_at};
+use edges::{Edge, Step};
 use kept::{Held, admit};
 use least_rows::ROWS;
 use totals::{paid, total};
 use trellis::MOST_PATHS;
+
+// What the edges of step t cost: the least costs that are left from each vertex of each depth, the prices of the symbols, and which step it is.
+#[derive(Clone, Copy)]
+pub struct Costs<'a> {
+    pub rows: &'a [u32; ROWS],
+    pub prices: &'a [u64],
+    pub t: usize,
+}
 
 // The code of a beginning along an edge. What comes of the code alone stands apart, so that it is worked out once for all edges.
 fn further_code(code: u32, e: Edge) -> u32
@@ -34,9 +42,7 @@ fn further_code(code: u32, e: Edge) -> u32
 
 // One beginning, for which so much is paid, along one edge of step t, unless it costs more than the limit.
 fn keep_edge(
-    rows: &[u32; ROWS],
-    prices: &[u64],
-    t: usize,
+    costs: Costs,
     paid: u64,
     code: u32,
     e: Edge,
@@ -45,13 +51,13 @@ fn keep_edge(
     before: Held,
     items: &mut [u64; MOST_PATHS],
 ) -> Held
-    requires { StepRoom k t rows.now prices.now × (paid < 4294967296) × (e.symbol < most_q) × (e.to < most_words)
+    requires { StepRoom k costs.t costs.rows.now costs.prices.now × (paid < 4294967296) × (e.symbol < most_q) × (e.to < most_words)
         × Kept k items.old before.count before.worst × (limit < unreached) }
     ensures { Streamed k before.count items.old
-        (limited limit (candidate rows.now prices.now t paid code (meant_edge e)))
+        (limited limit (candidate costs.entry.rows.now costs.entry.prices.now costs.entry.t paid code (meant_edge e)))
         items.new result.count result.worst }
 {
-    let cost = total(rows, prices, t, paid, e);
+    let cost = total(costs.rows, costs.prices, costs.t, paid, e);
     if cost > limit {
         return before;
     }
@@ -60,64 +66,54 @@ fn keep_edge(
 
 // Item x along each edge of step t that leaves its vertex, within the limit.
 fn keep_item(
-    pairs: &[u16],
-    symbols: &[u16],
-    edges: usize,
+    step: Step,
     each: usize,
-    rows: &[u32; ROWS],
-    prices: &[u64],
-    t: usize,
+    costs: Costs,
     x: u64,
     limit: u64,
     k: usize,
     before: Held,
     items: &mut [u64; MOST_PATHS],
 ) -> Held
-    requires { StepEdges pairs.now symbols.now edges × StepRoom k t rows.now prices.now
+    requires { StepEdges step.pairs.now step.symbols.now step.count × StepRoom k costs.t costs.rows.now costs.prices.now
         × Kept k items.old before.count before.worst × (each ≤ most_words) × (limit < unreached) }
-    ensures { Streamed k before.count items.old (limited limit (candidates rows.now prices.now t
-        (run (edge_in pairs.now symbols.now) 0 edges) x)) items.new result.count result.worst }
+    ensures { Streamed k before.count items.old (limited limit (candidates costs.entry.rows.now costs.entry.prices.now costs.entry.t
+        (run (edge_in step.entry.pairs.now step.entry.symbols.now) 0 step.entry.count) x)) items.new result.count result.worst }
 {
     let code = code_of(x);
     let vertex = vertex_of(code);
-    let so_far = paid(rows, t, vertex, x);
+    let so_far = paid(costs.rows, costs.t, vertex, x);
     let mut held = before;
-    for i in first_edge(pairs, edges, each, vertex)..edges {
-        let e = edge_at(pairs, symbols, i);
+    for i in first_edge(step.pairs, step.count, each, vertex)..step.count {
+        let e = step.edge_at(i);
         if e.from != vertex {
             return held;
         }
-        held = keep_edge(rows, prices, t, so_far, code, e, limit, k, held, items);
+        held = keep_edge(costs, so_far, code, e, limit, k, held, items);
     }
     held
 }
 
 // The first `have` items one step further: of all that they become within the limit, the k best.
 pub fn step_within(
-    pairs: &[u16],
-    symbols: &[u16],
-    edges: usize,
+    step: Step,
     each: usize,
-    rows: &[u32; ROWS],
-    prices: &[u64],
-    t: usize,
+    costs: Costs,
     old: &[u64; MOST_PATHS],
     have: usize,
     limit: u64,
     k: usize,
     items: &mut [u64; MOST_PATHS],
 ) -> Held
-    requires { StepEdges pairs.now symbols.now edges × StepRoom k t rows.now prices.now × (have ≤ k)
+    requires { StepEdges step.pairs.now step.symbols.now step.count × StepRoom k costs.t costs.rows.now costs.prices.now × (have ≤ k)
         × (each ≤ most_words) × (limit < unreached) }
-    ensures { Stepped k (limited limit (flat_map (candidates rows.now prices.now t
-        (run (edge_in pairs.now symbols.now) 0 edges)) (take have old.now)))
+    ensures { Stepped k (limited limit (flat_map (candidates costs.entry.rows.now costs.entry.prices.now costs.entry.t
+        (run (edge_in step.entry.pairs.now step.entry.symbols.now) 0 step.entry.count)) (take have old.now)))
         items.new result.count result.worst }
 {
     let mut held = Held { count: 0, worst: 0 };
     for x in &old[..have] {
-        held = keep_item(
-            pairs, symbols, edges, each, rows, prices, t, *x, limit, k, held, items,
-        );
+        held = keep_item(step, each, costs, *x, limit, k, held, items);
     }
     held
 }

@@ -9,24 +9,19 @@ ghost use Rattle.edges.specs.Inner.Edges.{edge_in, meant_edge, EdgesSmall};
 ghost use Rattle.twins.specs.Inner.Twins.{turned_in};
 ghost use Rattle.partners.specs.Inner.Following.{slot, end_for, Single, Leads, Partners, StepCarried};
 
-use edges::{Edge, edge_at};
+use edges::{Edge, Step};
 use trellis::{MOST_Q, MOST_WORDS};
 use twins::edge_met;
 
 // Where the edges of a step end, on the way back with from and to in each other's place: a number for each vertex and symbol.
 #[tactic(auto, using(twins::proofs::Marking::edge_small))]
-pub fn ends_of(
-    pairs: &[u16],
-    symbols: &[u16],
-    count: usize,
-    back: bool,
-) -> [u16; MOST_Q * MOST_WORDS]
-    requires { EdgesSmall pairs.now symbols.now count × Single (turned_in back pairs.now symbols.now) count }
-    ensures { Leads (turned_in back pairs.now symbols.now) count result }
+pub fn ends_of(step: Step, back: bool) -> [u16; MOST_Q * MOST_WORDS]
+    requires { EdgesSmall step.pairs.now step.symbols.now step.count × Single (turned_in back step.pairs.now step.symbols.now) step.count }
+    ensures { Leads (turned_in back step.entry.pairs.now step.entry.symbols.now) step.entry.count result }
 {
     let mut ends = [0u16; MOST_Q * MOST_WORDS];
-    for k in 0..count {
-        let e = edge_met(pairs, symbols, k, back);
+    for k in 0..step.count {
+        let e = edge_met(step, k, back);
         let slot = MOST_Q * e.from + e.symbol;
         ends[slot] = (e.to + 1) as u16;
     }
@@ -53,21 +48,19 @@ fn can_join(known: u16, end: u16) -> bool
 // Finds the partners of the vertices that a step reaches, if each is the same along all edges that reach the vertex.
 #[tactic(auto, using(edges::proofs::Reading::edge_small))]
 pub fn carry(
-    pairs: &[u16],
-    symbols: &[u16],
-    count: usize,
+    step: Step,
     ends: &[u16; MOST_Q * MOST_WORDS],
     old: &[u16; MOST_WORDS],
     new: &mut [u16; MOST_WORDS],
 ) -> bool
-    requires { EdgesSmall pairs.now symbols.now count × (length ends.now ≡ most_q * most_words)
-        × Partners (edge_in pairs.now symbols.now) count old.now }
-    ensures { StepCarried (edge_in pairs.now symbols.now) count ends.now old.now
+    requires { EdgesSmall step.pairs.now step.symbols.now step.count × (length ends.now ≡ most_q * most_words)
+        × Partners (edge_in step.pairs.now step.symbols.now) step.count old.now }
+    ensures { StepCarried (edge_in step.entry.pairs.now step.entry.symbols.now) step.entry.count ends.now old.now
         new.new result }
 {
     *new = [0u16; MOST_WORDS];
-    for k in 0..count {
-        let e = edge_at(pairs, symbols, k);
+    for k in 0..step.count {
+        let e = step.edge_at(k);
         let end = end_for(ends, old, e);
         if !can_join(new[e.to], end) {
             return false;

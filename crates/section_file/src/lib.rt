@@ -12,7 +12,7 @@ ghost use Rattle.section_file.specs.Inner.View.{view_of};
 
 pub mod states;
 
-pub use edges::{Edge, edge_at};
+pub use edges::{Edge, Step};
 use numbers::{number, total};
 use trellis::{LEAST_Q, MOST_Q, MOST_STATES, MOST_SYMBOLS, MOST_WORDS};
 

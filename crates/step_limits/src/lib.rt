@@ -14,9 +14,9 @@ ghost use Rattle.one_step.specs.Inner.Steps.{candidates};
 ghost use Rattle.one_step.specs.Inner.Loops.{StepRoom, is_enough, Stepped};
 
 use dearest::cost_of;
+use edges::Step;
 use kept::Held;
-use least_rows::ROWS;
-use one_step::step_within;
+use one_step::{Costs, step_within};
 use passes::NO_PATH;
 use trellis::MOST_PATHS;
 
@@ -34,34 +34,26 @@ fn is_enough(count: usize, k: usize, limit: u64) -> bool
 // The first `have` items one step further: the k best of all that they become. They are looked for within the limit first. Where k items
 // came in and it is the cost of the dearest, k are found, for each goes on along some edge at its own cost.
 pub fn keep_step(
-    pairs: &[u16],
-    symbols: &[u16],
-    edges: usize,
+    step: Step,
     each: usize,
-    rows: &[u32; ROWS],
-    prices: &[u64],
-    t: usize,
+    costs: Costs,
     old: &[u64; MOST_PATHS],
     have: usize,
     limit: u64,
     k: usize,
     items: &mut [u64; MOST_PATHS],
 ) -> Held
-    requires { StepEdges pairs.now symbols.now edges × StepRoom k t rows.now prices.now × (have ≤ k)
+    requires { StepEdges step.pairs.now step.symbols.now step.count × StepRoom k costs.t costs.rows.now costs.prices.now × (have ≤ k)
         × (each ≤ most_words) × (limit < unreached) }
-    ensures { Stepped k (flat_map (candidates rows.now prices.now t
-        (run (edge_in pairs.now symbols.now) 0 edges)) (take have old.now))
+    ensures { Stepped k (flat_map (candidates costs.entry.rows.now costs.entry.prices.now costs.entry.t
+        (run (edge_in step.entry.pairs.now step.entry.symbols.now) 0 step.entry.count)) (take have old.now))
         items.new result.count result.worst }
 {
-    let held = step_within(
-        pairs, symbols, edges, each, rows, prices, t, old, have, limit, k, items,
-    );
+    let held = step_within(step, each, costs, old, have, limit, k, items);
     if is_enough(held.count, k, limit) {
         return held;
     }
-    step_within(
-        pairs, symbols, edges, each, rows, prices, t, old, have, NONE_ABOVE, k, items,
-    )
+    step_within(step, each, costs, old, have, NONE_ABOVE, k, items)
 }
 
 // The limit of the next step: where k items are kept, what the dearest of them costs.

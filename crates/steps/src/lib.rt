@@ -12,7 +12,9 @@ ghost use Rattle.section_file.specs.Inner.View.{Seen};
 ghost use Rattle.one_step.specs.Inner.Loops.{Gone};
 
 use edge_search::edges_each;
+use edges::Step;
 use least_rows::ROWS;
+use one_step::Costs;
 use section_file::View;
 pub use step_limits::NONE_ABOVE;
 use step_limits::{keep_step, limit_of};
@@ -47,28 +49,21 @@ pub fn keep_section(
     let mut symbols = at.symbols;
     for t in 0..n {
         let old = *items;
-        let edges = usize::from(l[4 + n + t]);
-        let each = edges_each(l, t, edges);
-        let held = keep_step(
-            &l[pairs..],
-            &l[symbols..],
-            edges,
-            each,
-            rows,
-            prices,
-            t,
-            &old,
-            grown.count,
-            grown.limit,
-            k,
-            items,
-        );
+        let count = usize::from(l[4 + n + t]);
+        let step = Step {
+            pairs: &l[pairs..],
+            symbols: &l[symbols..],
+            count,
+        };
+        let each = edges_each(l, t, count);
+        let costs = Costs { rows, prices, t };
+        let held = keep_step(step, each, costs, &old, grown.count, grown.limit, k, items);
         grown = Grown {
             count: held.count,
             limit: limit_of(items, k, held),
         };
-        pairs += 2 * edges;
-        symbols += edges;
+        pairs += 2 * count;
+        symbols += count;
     }
     grown
 }

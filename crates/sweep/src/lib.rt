@@ -10,6 +10,7 @@ ghost use Rattle.section_file.specs.Inner.View.{Seen};
 ghost use Rattle.lowering.specs.Inner.Rows.{SweepAsked, Swept, side};
 ghost use Rattle.lowering.specs.Inner.Loops.{RowAsked, RowDone};
 
+use edges::Step;
 use lowering::{clear, lower};
 use section_file::View;
 use trellis::MOST_WORDS;
@@ -32,14 +33,12 @@ fn lower_depth(
     let symbols = at.symbols + before;
     let first = 4 * t;
     clear(usize::from(l[3 + t]), row);
-    lower(
-        &l[pairs..],
-        &l[symbols..],
-        usize::from(l[4 + at.n + t]),
-        &prices[first..],
-        behind,
-        row,
-    );
+    let step = Step {
+        pairs: &l[pairs..],
+        symbols: &l[symbols..],
+        count: usize::from(l[4 + at.n + t]),
+    };
+    lower(step, &prices[first..], behind, row);
 }
 
 // The same, where the rows of even depths stand in one array and those of odd depths in the other.

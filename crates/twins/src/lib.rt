@@ -9,15 +9,15 @@ ghost use Rattle.trellis.specs.Bounds.{most_words};
 ghost use Rattle.edges.specs.Inner.Edges.{EdgesSmall, held_edge};
 ghost use Rattle.twins.specs.Inner.Twins.{covered, no_twins_of, turned_in, Marks};
 
-use edges::{Edge, edge_at};
+use edges::{Edge, Step};
 use trellis::{MOST_Q, MOST_WORDS};
 
 // Edge k, on the way back with from and to in each other's place.
-pub fn edge_met(pairs: &[u16], symbols: &[u16], k: usize, back: bool) -> Edge
-    requires { (2 * k + 1 < length pairs.now) × (k < length symbols.now) }
-    ensures { result ≡ held_edge (turned_in back pairs.now symbols.now k) }
+pub fn edge_met(step: Step, k: usize, back: bool) -> Edge
+    requires { (2 * k + 1 < length step.pairs.now) × (k < length step.symbols.now) }
+    ensures { result ≡ held_edge (turned_in back step.entry.pairs.now step.entry.symbols.now k) }
 {
-    let e = edge_at(pairs, symbols, k);
+    let e = step.edge_at(k);
     if back {
         Edge {
             from: e.to,
@@ -31,13 +31,13 @@ pub fn edge_met(pairs: &[u16], symbols: &[u16], k: usize, back: bool) -> Edge
 
 // A mark for each vertex that an edge starts from.
 #[tactic(auto, using(crate::proofs::Marking::edge_small))]
-pub fn marks(pairs: &[u16], symbols: &[u16], count: usize, back: bool) -> [u8; MOST_WORDS]
-    requires { EdgesSmall pairs.now symbols.now count }
-    ensures { Marks (λ k. (turned_in back pairs.now symbols.now k).from) count result }
+pub fn marks(step: Step, back: bool) -> [u8; MOST_WORDS]
+    requires { EdgesSmall step.pairs.now step.symbols.now step.count }
+    ensures { Marks (λ k. (turned_in back step.entry.pairs.now step.entry.symbols.now k).from) step.entry.count result }
 {
     let mut marks = [0u8; MOST_WORDS];
-    for k in 0..count {
-        let e = edge_met(pairs, symbols, k, back);
+    for k in 0..step.count {
+        let e = edge_met(step, k, back);
         marks[e.from] = 1;
     }
     marks
@@ -46,11 +46,11 @@ pub fn marks(pairs: &[u16], symbols: &[u16], count: usize, back: bool) -> [u8; M
 // Whether an edge starts from each vertex. It is not inlined, and neither is `without_twins`, so that their arrays do not stand on the stack
 // side by side.
 #[inline(never)]
-pub fn covers(pairs: &[u16], symbols: &[u16], count: usize, back: bool, vertices: usize) -> bool
-    requires { EdgesSmall pairs.now symbols.now count × (vertices ≤ most_words) }
-    ensures { result ≡ covered (λ k. (turned_in back pairs.now symbols.now k).from) count vertices }
+pub fn covers(step: Step, back: bool, vertices: usize) -> bool
+    requires { EdgesSmall step.pairs.now step.symbols.now step.count × (vertices ≤ most_words) }
+    ensures { result ≡ covered (λ k. (turned_in back step.entry.pairs.now step.entry.symbols.now k).from) step.entry.count vertices }
 {
-    let marks = marks(pairs, symbols, count, back);
+    let marks = marks(step, back);
     (0..vertices).all(|v| marks[v] != 0)
 }
 
@@ -66,13 +66,13 @@ fn differs(seen: u16, vertex: usize) -> bool
 // vertex and symbol, with the vertex that was seen at the other end.
 #[inline(never)]
 #[tactic(auto, using(crate::proofs::Marking::edge_small))]
-fn without_twins(pairs: &[u16], symbols: &[u16], count: usize, back: bool) -> bool
-    requires { EdgesSmall pairs.now symbols.now count }
-    ensures { result ≡ no_twins_of (turned_in back pairs.now symbols.now) count }
+fn without_twins(step: Step, back: bool) -> bool
+    requires { EdgesSmall step.pairs.now step.symbols.now step.count }
+    ensures { result ≡ no_twins_of (turned_in back step.entry.pairs.now step.entry.symbols.now) step.entry.count }
 {
     let mut seen = [0u16; MOST_Q * MOST_WORDS];
-    for k in 0..count {
-        let e = edge_met(pairs, symbols, k, back);
+    for k in 0..step.count {
+        let e = edge_met(step, k, back);
         let slot = MOST_Q * e.from + e.symbol;
         if differs(seen[slot], e.to) {
             return false;
@@ -83,9 +83,9 @@ fn without_twins(pairs: &[u16], symbols: &[u16], count: usize, back: bool) -> bo
 }
 
 // Twins matter at inner depths only.
-pub fn twins_right(inner: bool, pairs: &[u16], symbols: &[u16], count: usize, back: bool) -> bool
-    requires { EdgesSmall pairs.now symbols.now count }
-    ensures { result ≡ (not inner || no_twins_of (turned_in back pairs.now symbols.now) count) }
+pub fn twins_right(inner: bool, step: Step, back: bool) -> bool
+    requires { EdgesSmall step.pairs.now step.symbols.now step.count }
+    ensures { result ≡ (not inner || no_twins_of (turned_in back step.entry.pairs.now step.entry.symbols.now) step.entry.count) }
 {
-    !inner || without_twins(pairs, symbols, count, back)
+    !inner || without_twins(step, back)
 }

@@ -12,7 +12,7 @@ ghost use Rattle.section_file.specs.Inner.Steps.{step_right};
 ghost use Rattle.usable.specs.Inner.Steps.{edges_right, StepThere};
 ghost use Rattle.usable.specs.Inner.Part.{part_of};
 
-use edges::{all_above, all_inside};
+use edges::Step;
 use numbers::number;
 use section_file::states::states_right;
 use section_file::{View, counts_right, sizes_right, view_of};
@@ -21,25 +21,16 @@ use twins::{covers, twins_right};
 // The edges of one step. That they are within bounds is checked first: their vertices and symbols are places in the arrays of marks.
 // Twins are looked for at the depth that the step reaches and at the depth that it leaves, where these are inner ones.
 #[tactic(auto, unfolding(crate::specs::Inner::Steps::edges_right), using(crate::proofs::Steps::small_edges))]
-fn edges_right(
-    pairs: &[u16],
-    symbols: &[u16],
-    count: usize,
-    q: usize,
-    froms: usize,
-    tos: usize,
-    reached: bool,
-    left: bool,
-) -> bool
-    requires { StepThere pairs.now symbols.now count q froms tos }
-    ensures { result ≡ edges_right (edge_in pairs.now symbols.now) count q froms tos reached left }
+fn edges_right(step: Step, q: usize, froms: usize, tos: usize, reached: bool, left: bool) -> bool
+    requires { StepThere step.pairs.now step.symbols.now step.count q froms tos }
+    ensures { result ≡ edges_right (edge_in step.entry.pairs.now step.entry.symbols.now) step.entry.count q froms tos reached left }
 {
-    all_inside(pairs, symbols, count, q, froms, tos)
-        && all_above(pairs, symbols, count)
-        && covers(pairs, symbols, count, false, froms)
-        && covers(pairs, symbols, count, true, tos)
-        && twins_right(reached, pairs, symbols, count, false)
-        && twins_right(left, pairs, symbols, count, true)
+    step.all_inside(q, froms, tos)
+        && step.all_above()
+        && covers(step, false, froms)
+        && covers(step, true, tos)
+        && twins_right(reached, step, false)
+        && twins_right(left, step, true)
 }
 
 // One step, whose edges stand behind those of the steps before it.
@@ -54,16 +45,12 @@ fn step_right(l: &[u16], at: View, t: usize, before: usize) -> bool
     let tos = usize::from(number(l, 3 + (t + 1)));
     let pairs = at.pairs + 2 * before;
     let symbols = at.symbols + before;
-    edges_right(
-        &l[pairs..],
-        &l[symbols..],
+    let step = Step {
+        pairs: &l[pairs..],
+        symbols: &l[symbols..],
         count,
-        usize::from(at.q),
-        froms,
-        tos,
-        t + 1 < n,
-        0 < t,
-    )
+    };
+    edges_right(step, usize::from(at.q), froms, tos, t + 1 < n, 0 < t)
 }
 
 #[tactic(auto, using(section_file::proofs::Seen::near_of))]

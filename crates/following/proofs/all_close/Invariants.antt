@@ -6,5 +6,5 @@ use Rattle.partners.proofs.Tests.{Agreeing}
 use Rattle.following.proofs.all_close.Given as goal
 
 abbrev pub invariant-loop-k : goal.invariant-loop-k
-invariant-loop-k l = Agreeing (λ k. get_or l.starts (slot (edge_in l.pairs l.symbols k).to (edge_in l.pairs l.symbols k).symbol) 0)
-    (λ k. get_or l.matched (edge_in l.pairs l.symbols k).from 0) l.count l.k
+invariant-loop-k l = Agreeing (λ k. get_or l.starts (slot (edge_in l.step.pairs.now l.step.symbols.now k).to (edge_in l.step.pairs.now l.step.symbols.now k).symbol) 0)
+    (λ k. get_or l.matched (edge_in l.step.pairs.now l.step.symbols.now k).from 0) l.step.count l.k

@@ -6,4 +6,4 @@ use Rattle.gathering.proofs.Growing.{Growing}
 use Rattle.gathering.proofs.grow.Given as goal
 
 abbrev pub invariant-loop-i : goal.invariant-loop-i
-invariant-loop-i l = Growing (grown_codes (run (edge_in l.pairs l.symbols) 0 l.count)) l.old l.have l.codes l.made l.i
+invariant-loop-i l = Growing (grown_codes (run (edge_in l.step.pairs.now l.step.symbols.now) 0 l.step.count)) l.old l.have l.codes l.made l.i

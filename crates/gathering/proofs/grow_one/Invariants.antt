@@ -6,4 +6,4 @@ use Rattle.gathering.proofs.Growing.{Putting}
 use Rattle.gathering.proofs.grow_one.Given as goal
 
 abbrev pub invariant-loop-k : goal.invariant-loop-k
-invariant-loop-k l = Putting (further_code l.c) (edge_in l.pairs l.symbols) l.count (code_vertex l.c) l.initial.codes l.made l.codes l.filled l.k
+invariant-loop-k l = Putting (further_code l.c) (edge_in l.step.pairs.now l.step.symbols.now) l.step.count (code_vertex l.c) l.initial.codes l.made l.codes l.filled l.k

@@ -4,4 +4,4 @@ use Rattle.gathering.proofs.Growing.{Noted}
 use Rattle.gathering.proofs.starts_of.Given as goal
 
 abbrev pub invariant-loop-k : goal.invariant-loop-k
-invariant-loop-k l = Noted (edge_in l.pairs l.symbols) l.count l.starts l.k
+invariant-loop-k l = Noted (edge_in l.step.pairs.now l.step.symbols.now) l.step.count l.starts l.k

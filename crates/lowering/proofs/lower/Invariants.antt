@@ -4,4 +4,4 @@ use Rattle.lowering.proofs.Lowered.{InLower}
 use Rattle.lowering.proofs.lower.Given as goal
 
 abbrev pub invariant-loop-k : goal.invariant-loop-k
-invariant-loop-k l = InLower l.pairs l.symbols l.count l.prices l.behind l.initial.row l.row l.k
+invariant-loop-k l = InLower l.step.pairs.now l.step.symbols.now l.step.count l.prices l.behind l.initial.row l.row l.k

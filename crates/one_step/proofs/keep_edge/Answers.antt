@@ -7,11 +7,11 @@ use Rattle.one_step.proofs.keep_edge.Goals as goal
 pub returns-then-cost-limit : goal.returns-then-cost-limit
 returns-then-cost-limit c =
     let a = c.args in
-    streamed_none a.rows.now a.prices.now a.t a.paid a.code (meant_edge a.e) a.limit c.total-cost.ensures
+    streamed_none a.costs.rows.now a.costs.prices.now a.costs.t a.paid a.code (meant_edge a.e) a.limit c.total-cost.ensures
     c.if-cost-limit.true c.requires.4
 
 pub returns : goal.returns
 returns c =
     let a = c.args in
-    streamed_one a.rows.now a.prices.now a.t a.paid a.code (meant_edge a.e) a.limit c.total-cost.ensures
+    streamed_one a.costs.rows.now a.costs.prices.now a.costs.t a.paid a.code (meant_edge a.e) a.limit c.total-cost.ensures
     c.if-cost-limit.false c.requires.5 c.ranges.code.fits c.requires.3 c.further_code.ensures c.item.ensures c.admit.ensures

@@ -24,7 +24,7 @@ first_edge-i-requires c =
 pub loop-i-init : goal.loop-i-init
 loop-i-init c =
     let a = c.args in
-    streaming_start {cand = given_by a.rows.now a.prices.now a.t a.limit a.x} c.first_edge-i.ensures
+    streaming_start {cand = given_by a.costs.rows.now a.costs.prices.now a.costs.t a.limit a.x} c.first_edge-i.ensures
     (c.vertex_of-vertex.ensures ∙ ap code_vertex c.code_of-code.ensures) c.requires.2
 
 pub edge_at-e-requires : goal.edge_at-e-requires
@@ -35,8 +35,8 @@ edge_at-e-requires c =
 pub returns-then-e-vertex : goal.returns-then-e-vertex
 returns-then-e-vertex c =
     let a = c.args in
-    streamed_all a.rows.now a.prices.now a.t a.limit (run (edge_in a.pairs.now a.symbols.now) 0 a.edges) a.x
-    (streaming_stops {cand = given_by a.rows.now a.prices.now a.t a.limit a.x} c.requires.0.froms_rise c.loop-i.invariant c.loop-i-test.true
+    streamed_all a.costs.rows.now a.costs.prices.now a.costs.t a.limit (run (edge_in a.step.pairs.now a.step.symbols.now) 0 a.step.count) a.x
+    (streaming_stops {cand = given_by a.costs.rows.now a.costs.prices.now a.costs.t a.limit a.x} c.requires.0.froms_rise c.loop-i.invariant c.loop-i-test.true
     (λ q. c.if-e-vertex.true (ap (λ (x : Edge). x.from) c.edge_at-e.ensures ∙ q
     ∙ sym (c.vertex_of-vertex.ensures ∙ ap code_vertex c.code_of-code.ensures))))
 
@@ -54,14 +54,14 @@ keep_edge-held-requires c =
 pub loop-i-preserved : goal.loop-i-preserved
 loop-i-preserved c =
     let a = c.args in
-    streaming_next {cand = given_by a.rows.now a.prices.now a.t a.limit a.x} c.requires.0.froms_rise c.loop-i.invariant c.loop-i-test.true
+    streaming_next {cand = given_by a.costs.rows.now a.costs.prices.now a.costs.t a.limit a.x} c.requires.0.froms_rise c.loop-i.invariant c.loop-i-test.true
     (sym (ap (λ (x : Edge). x.from) c.edge_at-e.ensures) ∙ c.if-e-vertex.false
     ∙ c.vertex_of-vertex.ensures ∙ ap code_vertex c.code_of-code.ensures)
-    (streamed_at a.rows.now a.prices.now a.t a.x (edge_in a.pairs.now a.symbols.now c.loop-i.i) a.limit
+    (streamed_at a.costs.rows.now a.costs.prices.now a.costs.t a.x (edge_in a.step.pairs.now a.step.symbols.now c.loop-i.i) a.limit
     c.paid-so_far.ensures.0 c.code_of-code.ensures c.edge_at-e.ensures c.keep_edge-held.ensures)
 
 pub returns : goal.returns
 returns c =
     let a = c.args in
-    streamed_all a.rows.now a.prices.now a.t a.limit (run (edge_in a.pairs.now a.symbols.now) 0 a.edges) a.x
-    (streaming_done {cand = given_by a.rows.now a.prices.now a.t a.limit a.x} c.requires.0.froms_rise c.loop-i.invariant c.loop-i-test.false)
+    streamed_all a.costs.rows.now a.costs.prices.now a.costs.t a.limit (run (edge_in a.step.pairs.now a.step.symbols.now) 0 a.step.count) a.x
+    (streaming_done {cand = given_by a.costs.rows.now a.costs.prices.now a.costs.t a.limit a.x} c.requires.0.froms_rise c.loop-i.invariant c.loop-i-test.false)

@@ -7,5 +7,5 @@ use Rattle.one_step.proofs.Streaming.{Streaming, given_by}
 use Rattle.one_step.proofs.keep_item.Given as goal
 
 abbrev pub invariant-loop-i : goal.invariant-loop-i
-invariant-loop-i l = Streaming (given_by l.rows l.prices l.t l.limit l.x) (edge_in l.pairs l.symbols) l.edges
+invariant-loop-i l = Streaming (given_by l.costs.rows.now l.costs.prices.now l.costs.t l.limit l.x) (edge_in l.step.pairs.now l.step.symbols.now) l.step.count
     (code_vertex (code_in l.x)) l.k l.initial.held.count l.initial.items l.items l.held.count l.held.worst l.i

@@ -29,6 +29,6 @@ pub returns : goal.returns
 returns c =
     let a = c.args in
     stepped_same
-    (sym (limited_items a.rows.now a.prices.now a.t a.limit (run (edge_in a.pairs.now a.symbols.now) 0 a.edges)
+    (sym (limited_items a.costs.rows.now a.costs.prices.now a.costs.t a.limit (run (edge_in a.step.pairs.now a.step.symbols.now) 0 a.step.count)
     (take a.have a.old.now)))
     (stepping_all c.loop-x.invariant (search rules))

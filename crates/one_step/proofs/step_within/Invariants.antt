@@ -8,5 +8,5 @@ use Rattle.one_step.proofs.Streaming.{Stepping}
 use Rattle.one_step.proofs.step_within.Given as goal
 
 abbrev pub invariant-loop-x : goal.invariant-loop-x
-invariant-loop-x l = Stepping (λ x. limited l.limit (candidates l.rows l.prices l.t (run (edge_in l.pairs l.symbols) 0 l.edges) x)) l.k l.old l.have l.items
+invariant-loop-x l = Stepping (λ x. limited l.limit (candidates l.costs.rows.now l.costs.prices.now l.costs.t (run (edge_in l.step.pairs.now l.step.symbols.now) 0 l.step.count) x)) l.k l.old l.have l.items
     l.held.count l.held.worst l.x-index

@@ -5,4 +5,4 @@ use Rattle.partners.proofs.Carrying.{Carried}
 use Rattle.partners.proofs.carry.Given as goal
 
 abbrev pub invariant-loop-k : goal.invariant-loop-k
-invariant-loop-k l = Carried (edge_in l.pairs l.symbols) l.count l.ends l.old l.new l.k
+invariant-loop-k l = Carried (edge_in l.step.pairs.now l.step.symbols.now) l.step.count l.ends l.old l.new l.k

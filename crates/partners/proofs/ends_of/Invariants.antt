@@ -5,4 +5,4 @@ use Rattle.partners.proofs.Ends.{Passing}
 use Rattle.partners.proofs.ends_of.Given as goal
 
 abbrev pub invariant-loop-k : goal.invariant-loop-k
-invariant-loop-k l = Passing (turned_in l.back l.pairs l.symbols) l.count l.ends l.k
+invariant-loop-k l = Passing (turned_in l.back l.step.pairs.now l.step.symbols.now) l.step.count l.ends l.k

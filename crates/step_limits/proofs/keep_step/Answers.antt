@@ -9,9 +9,9 @@ pub returns-then-is_enough : goal.returns-then-is_enough
 returns-then-is_enough c =
     let a = c.args in
     stepped_enough a.limit c.requires.1.few (sym c.is_enough.ensures ∙ c.if-is_enough.true)
-    (unlimited a.rows.now a.prices.now a.t c.requires.0 (take a.have a.old.now)) c.step_within-held.ensures
+    (unlimited a.costs.rows.now a.costs.prices.now a.costs.t c.requires.0 (take a.have a.old.now)) c.step_within-held.ensures
 
 pub returns : goal.returns
 returns c =
     let a = c.args in
-    stepped_same (unlimited a.rows.now a.prices.now a.t c.requires.0 (take a.have a.old.now)) c.step_within.ensures
+    stepped_same (unlimited a.costs.rows.now a.costs.prices.now a.costs.t c.requires.0 (take a.have a.old.now)) c.step_within.ensures

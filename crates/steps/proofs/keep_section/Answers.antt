@@ -22,30 +22,30 @@ pub bounds-l-n : goal.bounds-l-n
 bounds-l-n c = search (rules, count_in c.requires.0 c.loop-t-test.true)
 
 pub edges_each-each-requires : goal.edges_each-each-requires
-edges_each-each-requires c = deep_each c.requires.0 c.loop-t.invariant.0 c.loop-t-test.true refl (c.from-edges.ensures, search rules)
+edges_each-each-requires c = deep_each c.requires.0 c.loop-t.invariant.0 c.loop-t-test.true refl (c.from-count.ensures, search rules)
 
 pub offset_bounds-l-pairs : goal.offset_bounds-l-pairs
-offset_bounds-l-pairs c = search (rules, deep_here c.requires.0 c.loop-t.invariant.0 c.loop-t-test.true c.from-edges.ensures (search rules))
+offset_bounds-l-pairs c = search (rules, deep_here c.requires.0 c.loop-t.invariant.0 c.loop-t-test.true c.from-count.ensures (search rules))
 
-pub slice_bounds-keep_step-count : goal.slice_bounds-keep_step-count
-slice_bounds-keep_step-count c = search (rules, deep_here c.requires.0 c.loop-t.invariant.0 c.loop-t-test.true c.from-edges.ensures (search rules))
+pub slice_bounds-step-count : goal.slice_bounds-step-count
+slice_bounds-step-count c = search (rules, deep_here c.requires.0 c.loop-t.invariant.0 c.loop-t-test.true c.from-count.ensures (search rules))
 
-pub slice_bounds-keep_step-start : goal.slice_bounds-keep_step-start
-slice_bounds-keep_step-start c = search (rules, deep_here c.requires.0 c.loop-t.invariant.0 c.loop-t-test.true c.from-edges.ensures (search rules))
+pub slice_bounds-step-start : goal.slice_bounds-step-start
+slice_bounds-step-start c = search (rules, deep_here c.requires.0 c.loop-t.invariant.0 c.loop-t-test.true c.from-count.ensures (search rules))
 
 pub offset_bounds-l-symbols : goal.offset_bounds-l-symbols
-offset_bounds-l-symbols c = search (rules, deep_here c.requires.0 c.loop-t.invariant.0 c.loop-t-test.true c.from-edges.ensures (search rules))
+offset_bounds-l-symbols c = search (rules, deep_here c.requires.0 c.loop-t.invariant.0 c.loop-t-test.true c.from-count.ensures (search rules))
 
-pub slice_bounds-keep_step-count-in-loop-t : goal.slice_bounds-keep_step-count-in-loop-t
-slice_bounds-keep_step-count-in-loop-t c = search (rules, deep_here c.requires.0 c.loop-t.invariant.0 c.loop-t-test.true c.from-edges.ensures (search rules))
+pub slice_bounds-step-count-in-loop-t : goal.slice_bounds-step-count-in-loop-t
+slice_bounds-step-count-in-loop-t c = search (rules, deep_here c.requires.0 c.loop-t.invariant.0 c.loop-t-test.true c.from-count.ensures (search rules))
 
-pub slice_bounds-keep_step-start-in-loop-t : goal.slice_bounds-keep_step-start-in-loop-t
-slice_bounds-keep_step-start-in-loop-t c = search (rules, deep_here c.requires.0 c.loop-t.invariant.0 c.loop-t-test.true c.from-edges.ensures (search rules))
+pub slice_bounds-step-start-in-loop-t : goal.slice_bounds-step-start-in-loop-t
+slice_bounds-step-start-in-loop-t c = search (rules, deep_here c.requires.0 c.loop-t.invariant.0 c.loop-t-test.true c.from-count.ensures (search rules))
 
 pub keep_step-held-requires : goal.keep_step-held-requires
 keep_step-held-requires c =
     let p = c.requires in let i = c.loop-t.invariant in (
-      (step_at p.0 i.0.places c.loop-t-test.true refl (c.from-edges.ensures, search rules)).edges,
+      (step_at p.0 i.0.places c.loop-t-test.true refl (c.from-count.ensures, search rules)).edges,
       deep_room p.0 i.0 c.loop-t-test.true p.1 p.2 (search rules) p.4,
       i.0.most,
       c.edges_each-each.ensures,
@@ -56,15 +56,15 @@ pub limit_of-requires : goal.limit_of-requires
 limit_of-requires c = (c.keep_step-held.ensures.kept, c.requires.2)
 
 pub overflow_add-pairs : goal.overflow_add-pairs
-overflow_add-pairs c = search (rules, deep_here c.requires.0 c.loop-t.invariant.0 c.loop-t-test.true c.from-edges.ensures (search rules))
+overflow_add-pairs c = search (rules, deep_here c.requires.0 c.loop-t.invariant.0 c.loop-t-test.true c.from-count.ensures (search rules))
 
 pub overflow_add-symbols : goal.overflow_add-symbols
-overflow_add-symbols c = search (rules, deep_here c.requires.0 c.loop-t.invariant.0 c.loop-t-test.true c.from-edges.ensures (search rules))
+overflow_add-symbols c = search (rules, deep_here c.requires.0 c.loop-t.invariant.0 c.loop-t-test.true c.from-count.ensures (search rules))
 
 pub loop-t-preserved : goal.loop-t-preserved
 loop-t-preserved c =
     let s = c.keep_step-held.ensures in
-    let d = deep_next c.requires.0 c.loop-t.invariant.0 c.loop-t-test.true refl (c.from-edges.ensures, search rules) s in
+    let d = deep_next c.requires.0 c.loop-t.invariant.0 c.loop-t-test.true refl (c.from-count.ensures, search rules) s in
     (d, c.limit_of.ensures)
 
 pub returns : goal.returns

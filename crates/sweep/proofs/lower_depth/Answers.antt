@@ -7,11 +7,11 @@ use Rattle.sweep.proofs.lower_depth.Goals as goal
 pub overflow_add-symbols : goal.overflow_add-symbols
 overflow_add-symbols c = search (rules, near_by c.requires.0 c.requires.1.inside c.requires.1.before_is)
 
-pub slice_bounds-lower-count-2 : goal.slice_bounds-lower-count-2
-slice_bounds-lower-count-2 c = search (rules, near_by c.requires.0 c.requires.1.inside c.requires.1.before_is)
+pub slice_bounds-step-count-2 : goal.slice_bounds-step-count-2
+slice_bounds-step-count-2 c = search (rules, near_by c.requires.0 c.requires.1.inside c.requires.1.before_is)
 
-pub slice_bounds-lower-start-2 : goal.slice_bounds-lower-start-2
-slice_bounds-lower-start-2 c = search (rules, near_by c.requires.0 c.requires.1.inside c.requires.1.before_is)
+pub slice_bounds-step-start-2 : goal.slice_bounds-step-start-2
+slice_bounds-step-start-2 c = search (rules, near_by c.requires.0 c.requires.1.inside c.requires.1.before_is)
 
 pub clear-requires : goal.clear-requires
 clear-requires c = vertices_few c.requires.0 (search (rules, c.requires.1.inside)) c.from.ensures

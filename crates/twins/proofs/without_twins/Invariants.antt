@@ -5,5 +5,5 @@ use Rattle.twins.proofs.Marking.{Apart}
 use Rattle.twins.proofs.without_twins.Given as goal
 
 abbrev pub invariant-loop-k : goal.invariant-loop-k
-invariant-loop-k l = Apart (λ k. (turned_in l.back l.pairs l.symbols k).from) (λ k. (turned_in l.back l.pairs l.symbols k).symbol) (λ k. (turned_in l.back l.pairs l.symbols k).to)
-    l.count l.seen l.k
+invariant-loop-k l = Apart (λ k. (turned_in l.back l.step.pairs.now l.step.symbols.now k).from) (λ k. (turned_in l.back l.step.pairs.now l.step.symbols.now k).symbol) (λ k. (turned_in l.back l.step.pairs.now l.step.symbols.now k).to)
+    l.step.count l.seen l.k
