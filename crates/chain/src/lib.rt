@@ -41,7 +41,7 @@ pub fn decode(
         Err(index) => return Err(DecodeRefusal::Section(index)),
     };
     decode_frame(
-        sections, &starts, views, k, indices, received, erased, start, end, costs, labels, goals,
+        sections, &starts, &views, k, indices, received, erased, start, end, costs, labels, goals,
         masks,
     )
 }

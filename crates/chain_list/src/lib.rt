@@ -20,7 +20,7 @@ use trellis::MOST_SECTIONS;
 fn list_frame(
     sections: &[u16],
     starts: &[usize; MOST_SECTIONS + 1],
-    views: [View; MOST_SECTIONS],
+    views: &[View; MOST_SECTIONS],
     k: usize,
     indices: &[u8],
     received: &[u16],
@@ -33,18 +33,17 @@ fn list_frame(
     labels: &mut [u16],
     goals: &mut [u8],
 ) -> DecodedList
-    requires { AllFound sections.now starts.now views k }
+    requires { AllFound sections.now starts.now views.now k }
     ensures { left (decoded_list_outcome result) costs.new distances.new labels.new goals.new
         ≡ framed (frame sections.now k indices.now received.now erased.now start end) paths
         costs.old distances.old labels.old goals.old }
 {
-    if let Err(bad) = frame::check(views, k, indices, received, erased, start, end) {
-        return Err(DecodeListRefusal::Block(bad));
+    match frame::checked(
+        sections, starts, views, k, indices, received, erased, start, end,
+    ) {
+        Ok(f) => list_blocks(f, paths, costs, distances, labels, goals),
+        Err(bad) => Err(DecodeListRefusal::Block(bad)),
     }
-    list_blocks(
-        sections, starts, views, indices, received, erased, start, end, paths, costs, distances,
-        labels, goals,
-    )
 }
 
 // Lists the best paths of one frame, by distance and then word order, so many as `paths` says or all where fewer exist; the frame is that
@@ -75,7 +74,7 @@ pub fn decode_list(
         Err(index) => return Err(DecodeListRefusal::Section(index)),
     };
     list_frame(
-        sections, &starts, views, k, indices, received, erased, start, end, paths, costs,
+        sections, &starts, &views, k, indices, received, erased, start, end, paths, costs,
         distances, labels, goals,
     )
 }

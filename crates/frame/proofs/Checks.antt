@@ -25,7 +25,7 @@ use Rattle.received.specs.Received.{stray, fits_block}
 use Rattle.sections.specs.Sections.{section_at}
 use Rattle.sections.specs.Inner.Found.{SectionsFound, no_view, AllFound}
 use Rattle.frame.specs.Frame.{Frame, frame, block_count, frame_bad, block_section, block_bad, frame_fault}
-use Rattle.frame.specs.Inner.Checked.{Views, Framed, Checked}
+use Rattle.frame.specs.Inner.Checked.{Views, Framed, FrameChecked, Checked}
 
 -- ---- the frame
 
@@ -237,15 +237,17 @@ received_short_lem {f} P b h =
     (block_good P b h).1 in
     ltb-true x (4 ^ n_of l) (is_true _ (both (ltb x (4 ^ n_of l)) (symbols_below (q_of l) (n_of l) x) label.0).0)
 
-pub checked : {sections starts : List ℕ} {views : List View} {k : ℕ} {indices received erased : List ℕ} {start end : ℕ}
-    → AllFound sections starts views k → frame_fault (frame sections k indices received erased start end) ≡ None
-    → Checked sections starts views indices received erased start end
-checked {k = k} A e =
+pub frame_checked : {f : Frame} {starts : List ℕ} {views : List View} → AllFound f.sections starts views f.k → frame_fault f ≡ None
+    → FrameChecked f starts views
+frame_checked A e =
     let P = frame_passed e in
-    record {
-      k = k;
-      checks = record { sections_found = A; framed = framed_of P.frame_good; index_below = index_good P; received_short = received_short_lem P };
-    }
+    record { sections_found = A; framed = framed_of P.frame_good; index_below = index_good P; received_short = received_short_lem P }
+
+-- the same, where K plays no part any more
+pub of_checked : {sections starts : List ℕ} {views : List View} {k : ℕ} {indices received erased : List ℕ} {start end : ℕ}
+    → FrameChecked (frame sections k indices received erased start end) starts views
+    → Checked sections starts views indices received erased start end
+of_checked {k = k} C = record { k = k; checks = C }
 
 pub views_of : {sections starts : List ℕ} {views : List View} {k : ℕ} → AllFound sections starts views k → Views views k
 unfolding view_of

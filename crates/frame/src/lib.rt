@@ -2,15 +2,30 @@
 
 #![tactic(auto)]
 
-ghost use Rattle.std.specs.Prelude.{◌≡◌, List, ℕ, length};
+ghost use Rattle.std.specs.Prelude.{◌≡◌, List, ℕ, length, IfOk};
 ghost use Rattle.trellis.specs.Lists.{first, found_below};
-ghost use Rattle.sections.specs.Inner.Found.{SectionsFound};
+ghost use Rattle.sections.specs.Inner.Found.{SectionsFound, AllFound};
 ghost use Rattle.frame.specs.Frame.{frame, frame_bad, block_bad};
-ghost use Rattle.frame.specs.Inner.Checked.{Views, Tested};
+ghost use Rattle.frame.specs.Inner.Checked.{Views, Tested, FrameChecked};
 
 use numbers::is_within;
 use section_file::View;
 use trellis::{MOST_BLOCKS, MOST_SECTIONS};
+
+// A frame without fault 9, over sections without fault 8, and where each of its sections stands with its view.
+#[derive(Clone, Copy)]
+pub struct CheckedFrame<'a> {
+    pub sections: &'a [u16],
+    pub starts: &'a [usize; MOST_SECTIONS + 1],
+    pub views: &'a [View; MOST_SECTIONS],
+    pub k: usize,
+    pub indices: &'a [u8],
+    pub received: &'a [u16],
+    pub erased: &'a [u8],
+    pub start: u8,
+    pub end: u8,
+    ghost checked: { FrameChecked (frame sections.now k indices.now received.now erased.now start end) starts.now views.now },
+}
 
 // The bound on states in the width of a state.
 const MOST_STATES: u8 = trellis::MOST_STATES as u8;
@@ -60,26 +75,39 @@ pub fn first_bad(
     None
 }
 
-// Fault 9: the error is the number that it returns, the number of blocks where a length or a state is out of bounds, else the first bad
-// block.
-pub fn check(
-    views: [View; MOST_SECTIONS],
+// The frame, where there is no fault 9. Else the error is the number that the fault returns: the number of blocks where a length or a
+// state is out of bounds, else the first bad block.
+pub fn checked<'a>(
+    sections: &'a [u16],
+    starts: &'a [usize; MOST_SECTIONS + 1],
+    views: &'a [View; MOST_SECTIONS],
     k: usize,
-    indices: &[u8],
-    received: &[u16],
-    erased: &[u8],
+    indices: &'a [u8],
+    received: &'a [u16],
+    erased: &'a [u8],
     start: u8,
     end: u8,
-) -> Result<(), usize>
-    requires { Views views k }
-    ensures { (sections starts : List ℕ) → SectionsFound sections starts views k
-        → Tested (frame sections k indices.now received.now erased.now start end) result }
+) -> Result<CheckedFrame<'a>, usize>
+    requires { AllFound sections.now starts.now views.now k }
+    ensures { let asked = frame sections.now k indices.now received.now erased.now start end in
+        Tested asked result
+        × IfOk result (λ f. frame f.sections.now f.k f.indices.now f.received.now f.erased.now f.start f.end ≡ asked) }
 {
     if frame_bad(indices, received, erased, start, end) {
         return Err(indices.len());
     }
-    match first_bad(views, k, indices, received, erased) {
-        Some(bad) => Err(bad),
-        None => Ok(()),
+    if let Some(bad) = first_bad(*views, k, indices, received, erased) {
+        return Err(bad);
     }
+    Ok(CheckedFrame {
+        sections,
+        starts,
+        views,
+        k,
+        indices,
+        received,
+        erased,
+        start,
+        end,
+    })
 }

@@ -6,36 +6,28 @@ ghost use Rattle.std.specs.Prelude.{◌≡◌, ℕ};
 ghost use Rattle.answers.specs.Answers.{decoded_outcome};
 ghost use Rattle.sections.specs.Inner.Found.{AllFound};
 ghost use Rattle.frame.specs.Frame.{frame};
-ghost use Rattle.frame.specs.Inner.Checked.{Checked};
 ghost use Rattle.decoding.specs.Decoding.{left, fitted, framed};
 
 use answers::decode::{DecodeRefusal, Decoded};
 use decoding::decode_with;
+use frame::CheckedFrame;
 use section_file::View;
 use trellis::MOST_SECTIONS;
 
 // Fault 10, and then what follows where there is none.
 fn decode_blocks(
-    sections: &[u16],
-    starts: &[usize; MOST_SECTIONS + 1],
-    views: [View; MOST_SECTIONS],
-    indices: &[u8],
-    received: &[u16],
-    erased: &[u8],
-    start: u8,
-    end: u8,
+    f: CheckedFrame,
     costs: &mut [u32],
     labels: &mut [u16],
     goals: &mut [u8],
     masks: &mut [u8],
 ) -> Decoded
-    requires { Checked sections.now starts.now views indices.now received.now erased.now start end }
     ensures { (k : ℕ) → left (decoded_outcome result) costs.new labels.new goals.new masks.new
-        ≡ fitted (frame sections.now k indices.now received.now erased.now start end)
+        ≡ fitted (frame f.entry.sections.now k f.entry.indices.now f.entry.received.now f.entry.erased.now f.entry.start f.entry.end)
         costs.old labels.old goals.old masks.old }
 {
     if let Some(needed) = room::needed_to_decode(
-        indices.len(),
+        f.indices.len(),
         costs.len(),
         labels.len(),
         goals.len(),
@@ -43,16 +35,14 @@ fn decode_blocks(
     ) {
         return Err(DecodeRefusal::Short(needed));
     }
-    decode_with(
-        sections, starts, views, indices, received, erased, start, end, costs, labels, goals, masks,
-    )
+    decode_with(f, costs, labels, goals, masks)
 }
 
 // Fault 9, and then what follows where there is none.
 pub fn decode_frame(
     sections: &[u16],
     starts: &[usize; MOST_SECTIONS + 1],
-    views: [View; MOST_SECTIONS],
+    views: &[View; MOST_SECTIONS],
     k: usize,
     indices: &[u8],
     received: &[u16],
@@ -64,15 +54,15 @@ pub fn decode_frame(
     goals: &mut [u8],
     masks: &mut [u8],
 ) -> Decoded
-    requires { AllFound sections.now starts.now views k }
+    requires { AllFound sections.now starts.now views.now k }
     ensures { left (decoded_outcome result) costs.new labels.new goals.new masks.new
         ≡ framed (frame sections.now k indices.now received.now erased.now start end)
         costs.old labels.old goals.old masks.old }
 {
-    if let Err(bad) = frame::check(views, k, indices, received, erased, start, end) {
-        return Err(DecodeRefusal::Block(bad));
+    match frame::checked(
+        sections, starts, views, k, indices, received, erased, start, end,
+    ) {
+        Ok(f) => decode_blocks(f, costs, labels, goals, masks),
+        Err(bad) => Err(DecodeRefusal::Block(bad)),
     }
-    decode_blocks(
-        sections, starts, views, indices, received, erased, start, end, costs, labels, goals, masks,
-    )
 }

@@ -8,4 +8,4 @@ pub returns-in-Some : goal.returns-in-Some
 returns-in-Some c = let N = some_needed _ c.in-Some.ensures in λ k. ends_short (frame _ k _ _ _ _ _) _ _ _ _ N.0 N.1
 
 pub decode_with-requires : goal.decode_with-requires
-decode_with-requires c = (c.requires, room_to_decode c.requires.checks.framed.some c.in_default.ensures)
+decode_with-requires c = room_to_decode c.args.f.checked.framed.some c.in_default.ensures

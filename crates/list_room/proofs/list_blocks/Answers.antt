@@ -10,7 +10,7 @@ pub returns-then-not-is_within : goal.returns-then-not-is_within
 returns-then-not-is_within c = λ k. ends_count (frame _ k _ _ _ _ _) _ _ _ _ _ c.is_within.ensures (ap not c.if-not-is_within.true)
 
 pub needed_to_list-requires : goal.needed_to_list-requires
-needed_to_list-requires c = (c.requires.checks.framed.many, (few_of c.is_within.ensures (ap not c.if-not-is_within.false)).few)
+needed_to_list-requires c = (c.args.f.checked.framed.many, (few_of c.is_within.ensures (ap not c.if-not-is_within.false)).few)
 
 pub returns-in-Some : goal.returns-in-Some
 returns-in-Some c =
@@ -22,7 +22,7 @@ returns-in-Some c =
 pub list_with-requires : goal.list_with-requires
 list_with-requires c =
     let W = few_of c.is_within.ensures (ap not c.if-not-is_within.false) in
-    (c.requires, W, room_to_list c.requires.checks.framed.some W c.in_default.ensures)
+    (W, room_to_list c.args.f.checked.framed.some W c.in_default.ensures)
 
 pub returns : goal.returns
 returns c =
