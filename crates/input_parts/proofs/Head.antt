@@ -15,24 +15,22 @@ use Rattle.trellis.specs.Outcome.{Outcome, outcome, bad_section, bad_block}
 use Rattle.trellis.proofs.Bools.{neither}
 use Rattle.numbers.proofs.Bounds.{within_to}
 use Rattle.outcomes.specs.Inner.Holds.{Holds}
+use Rattle.outcomes.specs.declared.Returned.{Returned}
 use Rattle.table.specs.File.{table_file}
 use Rattle.table.proofs.Search.{Clear, clear_found, clear_all, found_is, none_below}
 use Rattle.input_parts.specs.Input.{input_sections, input_blocks, input_index, table_at, table_start, table_outcome, lengths_bad, index_bad}
 use Rattle.input_parts.specs.Input.{first_index, first_refused, input_outcome}
-use Rattle.input_parts.specs.Inner.Read.{head_outcome, left_over, HeadRead, HeadPassed, Told, Read}
+use Rattle.input_parts.specs.Inner.Read.{head_outcome, left_over, HeadRead, HeadPassed, Fault}
 
--- ---- outcomes of no number or of one, which has at most six digits
+-- ---- faults of one number, which has at most six digits
 
-pub told_by : {o p : Outcome} {number count : ℕ} {values : List ℕ} → o ≡ p → Told p number count values → Told o number count values
-told_by {o} {p} {number} {count} {values} e T = subst (λ x. Told x number count values) (sym e) T
+pub fault_by : {o p : Outcome} {r : Returned} → o ≡ p → Fault p r → Fault o r
+fault_by {o} {p} {r} e F = subst (λ x. Fault x r) (sym e) F
 
-told_one : (k x : ℕ) → k < 10 ^ 6 → x < 10 ^ 6 → {o : Outcome} {number count : ℕ} {values : List ℕ} → o ≡ outcome k (x ∷ [])
-    → Holds (outcome k (x ∷ [])) number count values → Told o number count values
-told_one k x f g e h = told_by e (record { holds = h; small = (f, (g, tt)) })
-
-pub told_none : {o : Outcome} {number count : ℕ} {values : List ℕ} → o ≡ outcome 0 [] → Holds (outcome 0 []) number count values
-    → Told o number count values
-told_none e h = told_by e (record { holds = h; small = (omega arith, tt) })
+pub fault_one : (k x : ℕ) → 0 < k → k < 10 ^ 6 → x < 10 ^ 6 → {o : Outcome} {r : Returned} → o ≡ outcome k (x ∷ [])
+    → Holds (outcome k (x ∷ [])) r.number r.count r.values → Fault o r
+fault_one k x s f g e h =
+    fault_by e (record { some = λ z. omega (arith, s, h.number_is, z); told = record { holds = h; small = (f, (g, tt)) } })
 
 pub head_read : {input : List ℕ} {sections blocks : ℕ} → (sections ≡ input_sections input) × (sections ≤ 255)
     → (blocks ≡ input_blocks input) × (blocks ≤ 65535) → HeadRead input sections blocks
@@ -40,15 +38,15 @@ head_read s b = record { sections_are = s.0; blocks_are = b.0; sections_to = s.1
 
 -- ---- bytes left over
 
-pub some_left : (end length : ℕ) {sections number count : ℕ} {values : List ℕ} → sections ≤ most_sections → end < length
-    → Holds (bad_section sections) number count values → Told (left_over end length sections) number count values
+pub some_left : (end length : ℕ) {sections : ℕ} {r : Returned} → sections ≤ most_sections → end < length
+    → Holds (bad_section sections) r.number r.count r.values → Fault (left_over end length sections) r
 unfolding left_over
-some_left end length {sections} f h H = simp (lt-ltb end length h) (told_one 8 sections (omega arith) (omega arith) refl H)
+some_left end length {sections} f h H =
+    simp (lt-ltb end length h) (fault_one 8 sections (omega arith) (omega arith) (omega arith) refl H)
 
-pub none_left : (end length sections : ℕ) {number count : ℕ} {values : List ℕ} → length ≤ end
-    → Holds (outcome 0 []) number count values → Told (left_over end length sections) number count values
+pub none_left : (end length sections : ℕ) → length ≤ end → left_over end length sections ≡ outcome 0 []
 unfolding left_over
-none_left end length sections h H = simp (le-ltb end length h) (told_none refl H)
+none_left end length sections h = simp (le-ltb end length h) refl
 
 -- ---- the indices
 
@@ -101,19 +99,19 @@ module _ (input : List ℕ) where
     same_sections : w ≡ within 1 most_sections K
     same_sections = w_is ∙ ap (within 1 most_sections) R.sections_are
 
-    pub head_sections : {number count : ℕ} {values : List ℕ} → w ≡ false → Holds (bad_section sections) number count values
-        → Told (head_outcome input) number count values
+    pub head_sections : {r : Returned} → w ≡ false → Holds (bad_section sections) r.number r.count r.values
+        → Fault (head_outcome input) r
     unfolding head_outcome
     head_sections e h =
-        told_one 8 sections (omega arith) (omega (arith, R.sections_to))
+        fault_one 8 sections (omega arith) (omega arith) (omega (arith, R.sections_to))
         (ap (λ a. heads a (lengths_bad input) (ltb (first_index input) B)) (sym same_sections ∙ e) ∙ ap bad_section (sym R.sections_are)) h
 
     module _ (w_true : w ≡ true) {bad : Bool} (bad_is : bad ≡ lengths_bad input) where
-      pub head_lengths : {number count : ℕ} {values : List ℕ} → bad ≡ true → Holds (bad_block blocks) number count values
-          → Told (head_outcome input) number count values
+      pub head_lengths : {r : Returned} → bad ≡ true → Holds (bad_block blocks) r.number r.count r.values
+          → Fault (head_outcome input) r
       unfolding head_outcome
       head_lengths e h =
-          told_one 9 blocks (omega arith) (omega (arith, R.blocks_to))
+          fault_one 9 blocks (omega arith) (omega arith) (omega (arith, R.blocks_to))
           (ap (λ a. heads a (lengths_bad input) (ltb (first_index input) B)) (sym same_sections ∙ w_true)
           ∙ ap (λ b. heads true b (ltb (first_index input) B)) (sym bad_is ∙ e) ∙ ap bad_block (sym R.blocks_are)) h
 
@@ -124,18 +122,16 @@ module _ (input : List ℕ) where
             ap (λ a. heads a (lengths_bad input) (ltb (first_index input) B)) (sym same_sections ∙ w_true)
             ∙ ap (λ b. heads true b (ltb (first_index input) B)) (sym bad_is ∙ bad_false)
 
-        pub head_index : {first number count : ℕ} {values : List ℕ} → found ≡ Some first → Holds (bad_block first) number count values
-            → Told (head_outcome input) number count values
+        pub head_index : {first : ℕ} {r : Returned} → found ≡ Some first → Holds (bad_block first) r.number r.count r.values
+            → Fault (head_outcome input) r
         head_index {first} e h =
             let f = found_is (sym e ∙ found_lem) in
-            told_one 9 first (omega arith) (omega (arith, R.blocks_to, R.blocks_are, f.1))
+            fault_one 9 first (omega arith) (omega arith) (omega (arith, R.blocks_to, R.blocks_are, f.1))
             (by_index ∙ ap (heads true false) (lt-ltb (first_index input) B (omega (arith, f.0, f.1)))
             ∙ ap bad_block (sym f.0)) h
 
-        pub head_fine : {number count : ℕ} {values : List ℕ} → found ≡ None → Holds (outcome 0 []) number count values
-            → Told (head_outcome input) number count values
-        head_fine e h =
-            told_none (by_index ∙ ap (heads true false) (le-ltb (first_index input) B (none_below (sym e ∙ found_lem)))) h
+        pub head_fine : found ≡ None → head_outcome input ≡ outcome 0 []
+        head_fine e = by_index ∙ ap (heads true false) (le-ltb (first_index input) B (none_below (sym e ∙ found_lem)))
 
   pub blocks_few : lengths_bad input ≡ false → B ≤ most_blocks
   unfolding lengths_bad
@@ -197,9 +193,13 @@ module _ (input : List ℕ) where
       go true false true h = refl
       go true false false h = absurd (h refl)
 
-  module _ {number count : ℕ} {values : List ℕ} (h : Told (head_outcome input) number count values) where
-    pub read_head : {added selected : List ℕ} → (number ≡ 0 → ⊥) → Read input number count values added selected
-    read_head n = record { outcome_is = told_by (head_counts (λ e. n (h.holds.number_is ∙ e))) h; costs = λ e. absurd (n e) }
+  pub read_head : {r : Returned} → Fault (head_outcome input) r → Fault (input_outcome input) r
+  read_head F = fault_by (head_counts (λ e. F.some (F.told.holds.number_is ∙ e))) F
 
-    pub head_passed : {blocks sections : ℕ} → HeadRead input sections blocks → number ≡ 0 → HeadPassed input (3 + blocks) sections
-    head_passed R n = record { fine = sym h.holds.number_is ∙ n; start_is = ap (λ k. 3 + k) R.blocks_are; sections_are = R.sections_are }
+  pub head_passed : {blocks sections : ℕ} → HeadRead input sections blocks → head_outcome input ≡ outcome 0 []
+      → HeadPassed input (3 + blocks) sections
+  head_passed R e = record {
+    fine = ap (λ (o : Outcome). o.number) e;
+    start_is = ap (λ k. 3 + k) R.blocks_are;
+    sections_are = R.sections_are;
+  }

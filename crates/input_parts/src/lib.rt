@@ -6,11 +6,11 @@ ghost use Rattle.std.specs.Prelude.{◌≡◌, ◌≤◌, length};
 ghost use Rattle.trellis.specs.Bounds.{most_sections};
 ghost use Rattle.trellis.specs.Lists.{found_below};
 ghost use Rattle.input_parts.specs.Input.{input_sections, input_blocks, input_index, any_table, table_part, lengths_bad, first_index};
-ghost use Rattle.input_parts.specs.Inner.Read.{head_outcome, left_over, HeadRead, Told};
+ghost use Rattle.input_parts.specs.Inner.Read.{head_outcome, left_over, HeadRead, TellsFault};
 
 use fields::{byte_at, two_bytes, word_count};
 use numbers::{is_within, wide, widened};
-use outcomes::{Returned, no_value, one_value};
+use outcomes::{Returned, one_value};
 use trellis::{MOST_BLOCKS, MOST_SECTIONS};
 
 // K as the input states it.
@@ -59,32 +59,32 @@ fn first_index(input: &[u8], sections: usize, blocks: usize) -> Option<usize>
     None
 }
 
-// K, B and the indices: the first fault, or number 0.
-pub fn check_head(input: &[u8], sections: usize, blocks: usize) -> Returned
+// K, B and the indices: the first fault.
+pub fn check_head(input: &[u8], sections: usize, blocks: usize) -> Result<(), Returned>
     requires { HeadRead input.now sections blocks }
-    ensures { Told (head_outcome input.now) result.number result.count result.values }
+    ensures { TellsFault (head_outcome input.now) result }
 {
     if !is_within(1, MOST_SECTIONS, sections) {
-        return one_value(8, sections);
+        return Err(one_value(8, sections));
     }
     if lengths_bad(input, blocks) {
-        return one_value(9, blocks);
+        return Err(one_value(9, blocks));
     }
     if let Some(bad) = first_index(input, sections, blocks) {
-        return one_value(9, bad);
+        return Err(one_value(9, bad));
     }
-    no_value(0)
+    Ok(())
 }
 
 // Bytes behind the last table are refused with K.
-pub fn left_over(end: usize, length: usize, sections: usize) -> Returned
+pub fn left_over(end: usize, length: usize, sections: usize) -> Result<(), Returned>
     requires { sections ≤ most_sections }
-    ensures { Told (left_over end length sections) result.number result.count result.values }
+    ensures { TellsFault (left_over end length sections) result }
 {
     if end < length {
-        return one_value(8, sections);
+        return Err(one_value(8, sections));
     }
-    no_value(0)
+    Ok(())
 }
 
 // How many bytes the table at the front of `rest` has: as many as its W says, or what is left.

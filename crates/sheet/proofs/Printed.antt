@@ -14,7 +14,6 @@ use borrow.Author.Tests.{eq-eqb, ne_eqb}
 use Rattle.trellis.specs.Lists.{run, each, sum, over}
 use Rattle.trellis.specs.Word.{Word}
 use Rattle.trellis.specs.Witness.{Witness, found, nothing, witness}
-use Rattle.trellis.specs.Selections.{additions, selections}
 use Rattle.trellis.specs.Outcome.{Outcome, success, short_map, short_section}
 use Rattle.trellis.specs.Layout.{n_of, section_of}
 use Rattle.trellis.proofs.Buffers.{over_front}

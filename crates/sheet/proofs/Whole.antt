@@ -8,6 +8,8 @@ use lib.ListN.{length, take}
 use borrow.Author.Tests.{eq-eqb, ne_eqb}
 use Rattle.answers.specs.declared.listing.ListingRefusal.{ListingRefusal}
 use Rattle.trellis.specs.Bounds.{most_blocks}
+use Rattle.trellis.specs.Outcome.{Outcome}
+use Rattle.outcomes.specs.declared.Returned.{Returned}
 use Rattle.answers.specs.Answers.{listed_outcome}
 use Rattle.std.specs.Prelude.{Ok, Result}
 use Rattle.text.specs.Inner.Put.{Put}
@@ -17,31 +19,33 @@ use Rattle.listing.proofs.Short.{line_of_few}
 use Rattle.listing.proofs.Outcomes.{taken_whole, written_inside}
 use Rattle.records.specs.declared.BlockRecord.{BlockRecord}
 use Rattle.input_parts.specs.Input.{input_blocks, input_outcome}
-use Rattle.input_parts.specs.Inner.Read.{Read}
+use Rattle.input_parts.specs.Inner.Read.{Fault, Read}
 use Rattle.input_parts.proofs.Head.{few_sections_lem}
 use Rattle.sheet_input.proofs.Right.{InputRight, input_right, index_below_lem}
 use Rattle.sheet_records.specs.Sheet.{records_of, sheet_lines, sheet_text, sheet}
 use Rattle.sheet_records.specs.Inner.Made.{Drawn, Holding, any_sheet, SheetMade}
 use Rattle.sheet.proofs.Short.{few_blocks_lem, sheet_short}
 
-module _ (input : List ℕ) {number count : ℕ} {values added selected : List ℕ} (R : Read input number count values added selected) where
-  number_is_lem : number ≡ (input_outcome input).number
-  number_is_lem = R.outcome_is.holds.number_is
-
-  pub made_refused : (number ≡ 0 → ⊥) → {old new : List ℕ} {end : ℕ} → Put old 0 (refusal_line (input_outcome input)) new end
-      → SheetMade input old new end
+module _ (input : List ℕ) where
+  pub made_refused : {r : Returned} → Fault (input_outcome input) r → {old new : List ℕ} {end : ℕ}
+      → Put old 0 (refusal_line (input_outcome input)) new end → SheetMade input old new end
   unfolding sheet_text
-  made_refused h {old} {new} {end} p =
-      let e : sheet_text input ≡ refusal_line (input_outcome input) = simp (ne_eqb (input_outcome input).number 0 (λ z. h (number_is_lem ∙ z))) in
-      let few : length (input_outcome input).values ≤ 4 = omega (arith, R.outcome_is.holds.count_is, R.outcome_is.holds.few) in
+  made_refused F {old} {new} {end} p =
+      let T = F.told in
+      let some : (input_outcome input).number ≡ 0 → ⊥ = λ z. F.some (T.holds.number_is ∙ z) in
+      let e : sheet_text input ≡ refusal_line (input_outcome input) = simp (ne_eqb (input_outcome input).number 0 some) in
+      let few : length (input_outcome input).values ≤ 4 = omega (arith, T.holds.count_is, T.holds.few) in
       record {
         put = subst (λ t. Put old 0 t new end) (sym e) p;
-        short = omega (arith, ap length e, line_of_few (input_outcome input) R.outcome_is.small few);
+        short = omega (arith, ap length e, line_of_few (input_outcome input) T.small few);
       }
 
-  module _ (none : number ≡ 0) where
+  module _ {added selected : List ℕ} (R : Read input added selected) where
+    none : (input_outcome input).number ≡ 0
+    none = ap (λ (o : Outcome). o.number) R.outcome_is
+
     right : InputRight input
-    right = input_right input (sym number_is_lem ∙ none)
+    right = input_right input none
 
     pub few_asked : {blocks : ℕ} → blocks ≡ input_blocks input → blocks ≤ most_blocks
     few_asked b_is = omega (arith, b_is, few_blocks_lem input right)
@@ -52,7 +56,7 @@ module _ (input : List ℕ) {number count : ℕ} {values added selected : List �
       few_blocks = few_asked b_is;
       few_sections = few_sections_lem input right.head;
       indices_below = λ b h. index_below_lem input right.head b (omega (arith, b_is));
-      costs = R.costs none;
+      costs = R.costs;
     }
 
     pub blocks_inside : {blocks : ℕ} {items : List BlockRecord} → blocks ≡ input_blocks input → Holding (records_of input) blocks items
@@ -62,7 +66,7 @@ module _ (input : List ℕ) {number count : ℕ} {values added selected : List �
     pub made_lines : {old new : List ℕ} {end : ℕ} → Put old 0 (sheet_lines (records_of input)) new end → SheetMade input old new end
     unfolding sheet_text
     made_lines {old} {new} {end} p =
-        let e : sheet_text input ≡ sheet_lines (records_of input) = simp (eq-eqb (input_outcome input).number 0 (sym number_is_lem ∙ none)) in
+        let e : sheet_text input ≡ sheet_lines (records_of input) = simp (eq-eqb (input_outcome input).number 0 none) in
         record { put = subst (λ t. Put old 0 t new end) (sym e) p; short = omega (arith, ap length e, sheet_short input right) }
 
 pub copied : (input text : List ℕ) {old made : List ℕ} {end : ℕ} → SheetMade input old made end → any_sheet ≤ length old → {l : Listing}

@@ -23,18 +23,16 @@ pub const ANY_SHEET: usize = 8192;
 fn put_sheet(input: &[u8], text: &mut [u8]) -> usize
     ensures { SheetMade input.now text.old text.new result }
 {
-    let read = sheet_input::read(input);
-    let refusal = read.refusal;
-    if refusal.number != 0 {
-        return put_refusal(text, refusal);
+    match sheet_input::read(input) {
+        Err(refusal) => put_refusal(text, refusal),
+        Ok(costs) => {
+            let blocks = block_count(input);
+            let made = make_records(input, blocks, costs.additions, costs.selections);
+            let items = made.items;
+            let end = put_blocks(text, items, blocks);
+            put_total(text, end, items, blocks)
+        }
     }
-    let additions = read.additions;
-    let selections = read.selections;
-    let blocks = block_count(input);
-    let made = make_records(input, blocks, additions, selections);
-    let items = made.items;
-    let end = put_blocks(text, items, blocks);
-    put_total(text, end, items, blocks)
 }
 
 // Writes the block sheet of `input`, or the line of its refusal, to the front of `text`.

@@ -16,7 +16,11 @@ use Rattle.trellis.specs.Outcome.{Outcome, outcome}
 use Rattle.trellis.specs.Layout.{section_of}
 use Rattle.outcomes.specs.Inner.Holds.{Holds}
 use Rattle.outcomes.proofs.Held.{holds_by}
+use Rattle.std.specs.Prelude.{Result, Ok, Err}
+use Rattle.outcomes.specs.declared.Returned.{Returned}
 use Rattle.answers.specs.Answers.{merged_outcome}
+use Rattle.answers.specs.declared.merge.MergeRefusal.{MergeRefusal}
+use Rattle.answers.specs.declared.merge.MergeRefusal.TheVariants.{Length, Size, Word as BadWord, Order, ShortMap, NotRectangular, ShortSection}
 use Rattle.table.specs.File.{TableFile, refused, accepted, table_file}
 use Rattle.table.proofs.Accepted.{accepted_good}
 use Rattle.merging.specs.Merging.{map_length, written, merged, merged_table, merged_file, merging}
@@ -26,8 +30,8 @@ use Rattle.listing.proofs.Room.{any_map, long_enough}
 use Rattle.listing.proofs.Refusals.{Small, witness_refusal, file_refusal}
 use Rattle.listing.proofs.Merged.{counts_inside, additions_over, selections_over}
 use Rattle.input_parts.specs.Input.{any_table, witness_outcome, table_outcome, section_in}
-use Rattle.input_parts.specs.Inner.Read.{additions_of, selections_of, TableMeasured}
-use Rattle.input_parts.proofs.Head.{told_by, told_none}
+use Rattle.input_parts.specs.Inner.Read.{additions_of, selections_of, Fault, TableMeasured}
+use Rattle.input_parts.proofs.Head.{fault_by}
 
 -- an answer of measuring, and the sizes that it leaves
 record Answers (f : TableFile) (o : Outcome) (sizes : List ℕ) : Type 0 where
@@ -88,31 +92,46 @@ module _ (map sizes : List ℕ) where
     unfolding merging sizing
     answers = by_file (table_file file) refl
 
+refused_other : (e : MergeRefusal) → ((k : ℕ) → e ≡ ShortSection k → ⊥) → (merged_outcome (Err e)).number ≡ 7 → ⊥
+refused_other (Length k) h s = omega (arith, s)
+refused_other (Size k) h s = omega (arith, s)
+refused_other (BadWord k) h s = omega (arith, s)
+refused_other (Order k) h s = omega (arith, s)
+refused_other (ShortMap k) h s = omega (arith, s)
+refused_other (NotRectangular t i j k) h s = omega (arith, s)
+refused_other (ShortSection k) h s = h k refl
+
 module _ (file : List ℕ) {r : Result ℕ MergeRefusal} {map none sizes : List ℕ} (short : length file ≤ any_table)
-    (M : Sized file (replicate any_map 0) none r map sizes) {number count : ℕ} {values : List ℕ}
-    (H : Holds (merged_outcome r) number count values) where
+    (M : Sized file (replicate any_map 0) none r map sizes) where
   abbrev of_file : Answers (table_file file) (merging file (replicate any_map 0) []).answer (sizing file (replicate any_map 0) none)
   of_file = answers (replicate any_map 0) none (le_of_eq (sym (length-replicate {A = ℕ} any_map 0))) file (omega arith)
 
-  number_is_lem : number ≡ (merging file (replicate any_map 0) []).answer.number
-  number_is_lem = H.number_is ∙ ap (λ (o : Outcome). o.number) M.answer_is
+  number_is_lem : (merged_outcome r).number ≡ (merging file (replicate any_map 0) []).answer.number
+  number_is_lem = ap (λ (o : Outcome). o.number) M.answer_is
 
-  pub measured_refused : (number ≡ 7 → ⊥) → TableMeasured (table_file file) number count values 0 0
-  measured_refused h =
-      let n : (merging file (replicate any_map 0) []).answer.number ≡ 7 → ⊥ = λ e. h (number_is_lem ∙ e) in
-      record {
-        outcome_is = told_by (sym (of_file.refused_is n)) (record { holds = holds_by (sym M.answer_is) H; small = of_file.small n });
-        additions_are = λ z. absurd (omega (arith, of_file.some, number_is_lem));
-        selections_are = λ z. absurd (omega (arith, of_file.some, number_is_lem));
-      }
+  pub measured_never : {length : ℕ} → r ≡ Ok length → ⊥
+  measured_never e =
+      let zero : (merged_outcome r).number ≡ 0 = ap (λ r. (merged_outcome r).number) e in
+      omega (arith, of_file.some, number_is_lem, zero)
 
-  pub measured_accepted : number ≡ 7 → {number' count' added selected : ℕ} {values' : List ℕ} → Holds (outcome 0 []) number' count' values'
-      → added ≡ additions_of sizes → selected ≡ selections_of sizes
-      → TableMeasured (table_file file) number' count' values' added selected
-  measured_accepted e h a s =
-      let seven : (merging file (replicate any_map 0) []).answer.number ≡ 7 = sym number_is_lem ∙ e in
+  pub measured_refused : {refusal : MergeRefusal} → r ≡ Err refusal → ((k : ℕ) → refusal ≡ ShortSection k → ⊥) → {x : Returned}
+      → Holds (merged_outcome (Err refusal)) x.number x.count x.values → Fault (table_outcome (table_file file)) x
+  measured_refused {refusal} e h H =
+      let a : merged_outcome (Err refusal) ≡ (merging file (replicate any_map 0) []).answer = ap merged_outcome (sym e) ∙ M.answer_is in
+      let n : (merging file (replicate any_map 0) []).answer.number ≡ 7 → ⊥ =
+      λ s. refused_other refusal h (ap (λ (o : Outcome). o.number) a ∙ s) in
+      fault_by (sym (of_file.refused_is n)) (record {
+        some = λ z. omega (arith, of_file.some, ap (λ (o : Outcome). o.number) a, H.number_is, z);
+        told = record { holds = holds_by (sym a) H; small = of_file.small n };
+      })
+
+  pub measured_accepted : {k : ℕ} → r ≡ Err (ShortSection k) → {added selected : ℕ}
+      → added ≡ additions_of sizes → selected ≡ selections_of sizes → TableMeasured (table_file file) added selected
+  measured_accepted e a s =
+      let seven : (merging file (replicate any_map 0) []).answer.number ≡ 7 =
+      sym number_is_lem ∙ ap (λ r. (merged_outcome r).number) e in
       record {
-        outcome_is = told_none (of_file.accepted_is seven) h;
-        additions_are = λ z. a ∙ ap additions_of M.sizes_are ∙ of_file.additions_are seven;
-        selections_are = λ z. s ∙ ap selections_of M.sizes_are ∙ of_file.selections_are seven;
+        outcome_is = of_file.accepted_is seven;
+        additions_are = a ∙ ap additions_of M.sizes_are ∙ of_file.additions_are seven;
+        selections_are = s ∙ ap selections_of M.sizes_are ∙ of_file.selections_are seven;
       }

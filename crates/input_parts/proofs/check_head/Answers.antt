@@ -18,4 +18,4 @@ returns-in-Some c =
 pub returns : goal.returns
 returns c =
     head_fine c.args.input.now c.requires c.is_within.ensures c.if-not-is_within.false c.lengths_bad.ensures
-    c.if-lengths_bad.false c.first_index.ensures c.in_default.is c.no_value.ensures
+    c.if-lengths_bad.false c.first_index.ensures c.in_default.is

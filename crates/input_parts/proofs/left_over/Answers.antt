@@ -6,4 +6,4 @@ pub returns-then-end-length : goal.returns-then-end-length
 returns-then-end-length c = some_left c.args.end c.args.length c.requires c.if-end-length.true c.one_value.ensures
 
 pub returns : goal.returns
-returns c = none_left c.args.end c.args.length c.args.sections c.if-end-length.false c.no_value.ensures
+returns c = none_left c.args.end c.args.length c.args.sections c.if-end-length.false

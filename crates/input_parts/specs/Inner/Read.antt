@@ -1,11 +1,12 @@
--- What reading the input leaves: an outcome in numbers, and both costs of each section.
-use Rattle.std.specs.Prelude.{◌≡◌, cond, not, List, [], ◌∷◌, ℕ, ◌+◌, ◌<◌, ◌≤◌, length, get_or, ltb}
+-- What reading the input leaves: a fault in numbers, or both costs of each section.
+use Rattle.std.specs.Prelude.{◌≡◌, cond, not, Result, MatchResult, List, [], ◌∷◌, ℕ, ◌+◌, ◌<◌, ◌≤◌, length, get_or, ltb}
 use Rattle.trellis.specs.Bounds.{most_sections}
 use Rattle.trellis.specs.Lists.{within}
 use Rattle.trellis.specs.Outcome.{Outcome, outcome, bad_section, bad_block}
 use Rattle.trellis.specs.Selections.{additions, selections}
 use Rattle.trellis.specs.Layout.{n_of, vertex_count_of, edge_count_of}
 use Rattle.outcomes.specs.Inner.Holds.{Holds}
+use Rattle.outcomes.specs.declared.Returned.{Returned}
 use Rattle.table.specs.File.{TableFile, table_file}
 use Rattle.text.specs.Inner.Digits.{AllBelow}
 use Rattle.input_parts.specs.Input.{input_sections, input_blocks, table_at, table_outcome, section_in, lengths_bad, first_index}
@@ -51,11 +52,20 @@ pub record Told (o : Outcome) (number count : ℕ) (values : List ℕ) : Type 0 
   pub holds : Holds o number count values
   pub small : AllBelow 6 (o.number ∷ o.values)
 
--- one table: its outcome and both costs of its section, which are 0 where it is refused
-pub record TableMeasured (f : TableFile) (number count : ℕ) (values : List ℕ) (added selected : ℕ) : Type 0 where
-  pub outcome_is : Told (table_outcome f) number count values
-  pub additions_are : number ≡ 0 → added ≡ additions_of (section_in f)
-  pub selections_are : number ≡ 0 → selected ≡ selections_of (section_in f)
+-- a fault in numbers
+pub record Fault (o : Outcome) (r : Returned) : Type 0 where
+  pub some : r.number ≡ 0 → ⊥
+  pub told : Told o r.number r.count r.values
+
+-- the answer of a test: the fault in numbers, and where there is none the outcome is number 0 alone
+abbrev pub TellsFault : {A : Type 0} → Outcome → Result A Returned → Type 0
+TellsFault o result = MatchResult result (λ fine. o ≡ outcome 0 []) (Fault o)
+
+-- a table with no fault: both costs of its section
+pub record TableMeasured (f : TableFile) (added selected : ℕ) : Type 0 where
+  pub outcome_is : table_outcome f ≡ outcome 0 []
+  pub additions_are : added ≡ additions_of (section_in f)
+  pub selections_are : selected ≡ selections_of (section_in f)
 
 -- both costs of the first k sections stand in two arrays
 pub record SectionCosts (input : List ℕ) (k : ℕ) (added selected : List ℕ) : Type 0 where
@@ -64,7 +74,7 @@ pub record SectionCosts (input : List ℕ) (k : ℕ) (added selected : List ℕ)
   pub additions_at : (j : ℕ) → j < k → get_or added j 0 ≡ additions_of (section_in (table_in input j))
   pub selections_at : (j : ℕ) → j < k → get_or selected j 0 ≡ selections_of (section_in (table_in input j))
 
--- the first fault, or number 0 and both costs of all K sections
-pub record Read (input : List ℕ) (number count : ℕ) (values added selected : List ℕ) : Type 0 where
-  pub outcome_is : Told (input_outcome input) number count values
-  pub costs : number ≡ 0 → SectionCosts input (input_sections input) added selected
+-- an input with no fault: both costs of all K sections
+pub record Read (input added selected : List ℕ) : Type 0 where
+  pub outcome_is : input_outcome input ≡ outcome 0 []
+  pub costs : SectionCosts input (input_sections input) added selected

@@ -3,4 +3,4 @@ use Rattle.sheet_input.proofs.Tables.{InTables}
 use Rattle.sheet_input.proofs.measure_tables.Given as goal
 
 abbrev pub invariant-loop-j : goal.invariant-loop-j
-invariant-loop-j l = InTables l.input l.additions l.selections l.at l.j
+invariant-loop-j l = InTables l.input l.costs.additions l.costs.selections l.at l.j
