@@ -9,6 +9,7 @@ ghost use Rattle.text.specs.Inner.Put.{Put};
 ghost use Rattle.text_buffer.specs.Listing.{left, listing};
 ghost use Rattle.listing.specs.Inner.Made.{text_from, TextMade};
 
+use answers::Answer as _;
 pub use answers::listing::{Listed, ListingRefusal};
 use answers::merge::{MergeRefusal, Merged};
 use lines::put_sizes;

@@ -8,6 +8,7 @@ ghost use Rattle.table.specs.File.{table_file};
 ghost use Rattle.input_parts.specs.Input.{any_table, most_input, table_outcome, input_outcome};
 ghost use Rattle.input_parts.specs.Inner.Read.{HeadPassed, Fault, TableMeasured, Read};
 
+use answers::Answer as _;
 use answers::merge::MergeRefusal;
 pub use input_parts::{block_count, section_index};
 use input_parts::{check_head, left_over, part_length, section_count};
