@@ -13,6 +13,15 @@ ghost use Rattle.depths.specs.Inner.Merge.{DepthAsked, DepthDone};
 use depth_runs::{put_numbers, runs_agree};
 use trellis::{MOST_Q, MOST_WORDS};
 
+// The words of a table, whose labels have n symbols each, in three slices: word i's root, label and goal stand at place i.
+#[derive(Clone, Copy)]
+pub struct TableWords<'a> {
+    pub n: usize,
+    pub roots: &'a [u8],
+    pub labels: &'a [u16],
+    pub goals: &'a [u8],
+}
+
 // Whether words i and j have the same beginning at depth t.
 fn begin_alike(roots: &[u8], labels: &[u16], n: usize, t: usize, i: usize, j: usize) -> bool
     requires { (i < length roots.now) × (j < length roots.now) × (length labels.now ≡ length roots.now) }
@@ -76,22 +85,19 @@ pub fn put_firsts(labels: &[u16], n: usize, t: usize, row: &mut [u16; MOST_WORDS
 
 // Depth t of a table: how many vertices it has, or none if the table is not rectangular there. The row tells the endings at depth t + 1 apart, and then those at depth t; the map gets the depth's vertices.
 pub fn merge_depth(
-    roots: &[u8],
-    labels: &[u16],
-    goals: &[u8],
-    n: usize,
+    table: TableWords,
     t: usize,
     row: &mut [u16; MOST_WORDS],
     map: &mut [u16],
 ) -> Option<u16>
-    requires { DepthAsked n t roots.now labels.now goals.now row.old map.old }
-    ensures { DepthDone n t (words roots.now labels.now goals.now) row.new
+    requires { DepthAsked table.n t table.roots.now table.labels.now table.goals.now row.old map.old }
+    ensures { DepthDone table.entry.n t (words table.entry.roots.now table.entry.labels.now table.entry.goals.now) row.new
         map.old map.new result }
 {
-    let w = roots.len();
+    let w = table.roots.len();
     let mut starts = [0u16; MOST_WORDS];
-    put_starts(roots, labels, n, t, &mut starts);
-    put_firsts(labels, n, t, row);
+    put_starts(table.roots, table.labels, table.n, t, &mut starts);
+    put_firsts(table.labels, table.n, t, row);
     if !runs_agree(&starts, row, w) {
         return None;
     }

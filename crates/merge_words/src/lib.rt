@@ -10,35 +10,31 @@ ghost use Rattle.merging.specs.Merging.{merged};
 ghost use Rattle.merging.specs.Inner.Sizes.{any_sizes, sized_by, EndsSized};
 
 use answers::merge::Merged;
+use depths::TableWords;
 use merging::finish;
 use refusing::refuse;
 use trellis::MOST_SYMBOLS;
 
-// The words of a table in three slices: refusal 6, or what finish says.
+// The words of a table: refusal 6, or what finish says.
 pub fn merge_words(
     q: u8,
-    n: usize,
     states: u8,
-    roots: &[u8],
-    labels: &[u16],
-    goals: &[u8],
+    table: TableWords,
     map: &mut [u16],
     section: &mut [u16],
     sizes: &mut [u16],
 ) -> Merged
-    requires { WordsHeld n roots.now labels.now goals.now map.old × (any_sizes ≤ length sizes.old) }
+    requires { WordsHeld table.n table.roots.now table.labels.now table.goals.now map.old × (any_sizes ≤ length sizes.old) }
     ensures { EndsSized
-        (merged q n states (words roots.now labels.now goals.now) map.old
-        section.old (witness n (words roots.now labels.now goals.now)))
-        (sized_by q n states (words roots.now labels.now goals.now) sizes.old
-        (witness n (words roots.now labels.now goals.now))) result map.new section.new
+        (merged q table.entry.n states (words table.entry.roots.now table.entry.labels.now table.entry.goals.now) map.old
+        section.old (witness table.entry.n (words table.entry.roots.now table.entry.labels.now table.entry.goals.now)))
+        (sized_by q table.entry.n states (words table.entry.roots.now table.entry.labels.now table.entry.goals.now) sizes.old
+        (witness table.entry.n (words table.entry.roots.now table.entry.labels.now table.entry.goals.now))) result map.new section.new
         sizes.new }
 {
     let mut counts = [0u16; MOST_SYMBOLS + 1];
-    if let Some(depth) = inner_depths::merge_inner(roots, labels, goals, n, map, &mut counts) {
-        return refuse(n, depth, roots, labels, goals, map);
+    if let Some(depth) = inner_depths::merge_inner(table, map, &mut counts) {
+        return refuse(table, depth, map);
     }
-    finish(
-        q, n, states, roots, labels, goals, counts, map, section, sizes,
-    )
+    finish(q, states, table, counts, map, section, sizes)
 }

@@ -11,6 +11,7 @@ ghost use Rattle.lacking.specs.Inner.Search.{as_witness, FirstFrom, FirstIn};
 ghost use Rattle.lacking.specs.Inner.Rows.{InnerDepth, SearchRows, to_try, refutes_in};
 ghost use Rattle.lacking.specs.Inner.Chains.{Begun};
 
+use depths::TableWords;
 pub use lacking::Triple;
 use lacking::{NOTHING, first_lacking, in_run, put_next};
 use trellis::MOST_WORDS;
@@ -68,22 +69,16 @@ fn first_witness(starts: &[u16; MOST_WORDS], firsts: &[u16; MOST_WORDS], w: usiz
 }
 
 // The first words i, j, k that refute the table at the inner depth t.
-pub fn find_witness(
-    roots: &[u8],
-    labels: &[u16],
-    goals: &[u8],
-    n: usize,
-    t: usize,
-) -> Option<Triple>
-    requires { InnerDepth n t roots.now labels.now goals.now }
-    ensures { as_witness t result ≡ witness_at n (words roots.now labels.now goals.now) t }
+pub fn find_witness(table: TableWords, t: usize) -> Option<Triple>
+    requires { InnerDepth table.n t table.roots.now table.labels.now table.goals.now }
+    ensures { as_witness t result ≡ witness_at table.entry.n (words table.entry.roots.now table.entry.labels.now table.entry.goals.now) t }
 {
     let mut starts = [0u16; MOST_WORDS];
-    depths::put_starts(roots, labels, n, t, &mut starts);
+    depths::put_starts(table.roots, table.labels, table.n, t, &mut starts);
     let mut row = [0u16; MOST_WORDS];
-    depths::put_goals(goals, &mut row);
-    for u in (t..n).rev() {
-        depths::put_firsts(labels, n, u, &mut row);
+    depths::put_goals(table.goals, &mut row);
+    for u in (t..table.n).rev() {
+        depths::put_firsts(table.labels, table.n, u, &mut row);
     }
-    first_witness(&starts, &row, roots.len())
+    first_witness(&starts, &row, table.roots.len())
 }

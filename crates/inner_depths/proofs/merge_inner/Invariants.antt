@@ -5,4 +5,4 @@ use Rattle.inner_depths.proofs.AllDepths.{InDepths}
 use Rattle.inner_depths.proofs.merge_inner.Given as goal
 
 abbrev pub invariant-loop-t : goal.invariant-loop-t
-invariant-loop-t l = InDepths l.n (words l.roots l.labels l.goals) l.initial.map l.map l.initial.counts l.counts l.row l.t l.refused
+invariant-loop-t l = InDepths l.table.n (words l.table.roots.now l.table.labels.now l.table.goals.now) l.initial.map l.map l.initial.counts l.counts l.row l.t l.refused

@@ -4,4 +4,4 @@ use Rattle.witness.proofs.Words.{InRows}
 use Rattle.witness.proofs.find_witness.Given as goal
 
 abbrev pub invariant-loop-u : goal.invariant-loop-u
-invariant-loop-u l = InRows l.n l.t l.roots l.labels l.goals l.row l.u
+invariant-loop-u l = InRows l.table.n l.t l.table.roots.now l.table.labels.now l.table.goals.now l.row l.u
