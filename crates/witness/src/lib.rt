@@ -7,9 +7,8 @@ ghost use Rattle.std.specs.Prelude.{◌≡◌, ◌<◌, ◌≤◌};
 ghost use Rattle.trellis.specs.Bounds.{most_words};
 ghost use Rattle.trellis.specs.Witness.{witness_at};
 ghost use Rattle.depths.specs.Inner.Words.{words};
-ghost use Rattle.lacking.specs.Inner.Search.{as_witness, FirstFrom, FirstIn};
+ghost use Rattle.lacking.specs.Inner.Search.{as_witness, FirstIn};
 ghost use Rattle.lacking.specs.Inner.Rows.{InnerDepth, SearchRows, to_try, refutes_in};
-ghost use Rattle.lacking.specs.Inner.Chains.{Begun};
 
 use depths::TableWords;
 pub use lacking::Triple;
@@ -30,42 +29,29 @@ fn to_try(starts: &[u16; MOST_WORDS], w: usize, i: usize, j: usize) -> bool
     in_run(starts, w, start, j)
 }
 
-// The first j, then k that refute the table with i. `next` is what lacking::put_next left.
-fn first_from(
-    starts: &[u16; MOST_WORDS],
-    firsts: &[u16; MOST_WORDS],
-    next: &[u16; MOST_WORDS],
-    w: usize,
-    i: usize,
-) -> Option<Triple>
-    requires { Begun w starts.now firsts.now next.now i }
-    ensures { FirstFrom (refutes_in starts.now firsts.now w) w i result }
-{
-    let mut j = usize::from(starts[i]);
-    // Which words are tried is known by a test alone, and not by a range: `for` would be no plainer.
-    while to_try(starts, w, i, j) {
-        if let Some(k) = first_lacking(starts, firsts, next, w, i, j) {
-            return Some(Triple { i, j, k });
-        }
-        j += 1;
-    }
-    None
-}
-
 // The first i, then j, then k that refute the table. All words with an ending are gone along only for its first word: so the search takes a
-// few steps for each word, whatever the table is.
+// few steps for each word, whatever the table is. It is nested and yields its triple by break, as the paper asks: a `for` yields nothing.
 fn first_witness(starts: &[u16; MOST_WORDS], firsts: &[u16; MOST_WORDS], w: usize) -> Option<Triple>
     requires { SearchRows w starts.now firsts.now }
     ensures { FirstIn (refutes_in starts.now firsts.now w) w result }
 {
     let mut next = [NOTHING; MOST_WORDS];
     put_next(firsts, w, &mut next);
-    for i in 0..w {
-        if let Some(words) = first_from(starts, firsts, &next, w, i) {
-            return Some(words);
+    let mut i: usize = 0;
+    'search: loop {
+        if i >= w {
+            break None;
         }
+        let mut j = usize::from(starts[i]);
+        // Which words are tried is known by a test alone, and not by a range: `for` would be no plainer.
+        while to_try(starts, w, i, j) {
+            if let Some(k) = first_lacking(starts, firsts, &next, w, i, j) {
+                break 'search Some(Triple { i, j, k });
+            }
+            j += 1;
+        }
+        i += 1;
     }
-    None
 }
 
 // The first words i, j, k that refute the table at the inner depth t.

@@ -40,11 +40,6 @@ module _ (test : ℕ → ℕ → ℕ → Bool) (w : ℕ) where
     pub first_j : (y : ℕ) → y < j → NoneAt i y
     pub first_k : (z : ℕ) → z < k → test i j z ≡ false
 
-  -- the first triple that passes has this i, or no triple with this i passes
-  abbrev pub FirstFrom : ℕ → Option Triple → Type 0
-  FirstFrom i (Some x) = FirstAt x.i x.j x.k
-  FirstFrom i None = NoneFrom i
-
   abbrev pub FirstIn : Option Triple → Type 0
   FirstIn (Some x) = FirstAt x.i x.j x.k
   FirstIn None = NoneBefore w
