@@ -12,7 +12,6 @@ ghost use Rattle.decoding.specs.Decoding.{left, decoding};
 pub use answers::decode::{DecodeRefusal, Decoded};
 pub use frame::{first_bad, frame_bad};
 use frame_decoding::decode_frame;
-use sections::Found;
 
 // Decodes one frame over the K sections that lie one behind another in `sections`: the first path of least distance from state `start`
 // to state `end`, where block b takes a word of section `indices[b]`, and `received[b]` and `erased[b]` are its received label and its
@@ -36,12 +35,11 @@ pub fn decode(
         ≡ decoding (frame sections.now k indices.now received.now erased.now start end)
         costs.old labels.old goals.old masks.old }
 {
-    let Found { starts, views } = match sections::find(sections, k) {
+    let found = match sections::find(sections, k) {
         Ok(found) => found,
         Err(index) => return Err(DecodeRefusal::Section(index)),
     };
     decode_frame(
-        sections, &starts, &views, k, indices, received, erased, start, end, costs, labels, goals,
-        masks,
+        sections, &found, k, indices, received, erased, start, end, costs, labels, goals, masks,
     )
 }

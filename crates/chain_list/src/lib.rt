@@ -12,15 +12,12 @@ ghost use Rattle.path_list.specs.Listing.{left, framed, listing};
 
 pub use answers::decode_list::{DecodeListRefusal, DecodedList};
 use list_room::list_blocks;
-use section_file::View;
 use sections::Found;
-use trellis::MOST_SECTIONS;
 
 // Fault 9, and then what follows where there is none.
 fn list_frame(
     sections: &[u16],
-    starts: &[usize; MOST_SECTIONS + 1],
-    views: &[View; MOST_SECTIONS],
+    found: &Found,
     k: usize,
     indices: &[u8],
     received: &[u16],
@@ -33,14 +30,12 @@ fn list_frame(
     labels: &mut [u16],
     goals: &mut [u8],
 ) -> DecodedList
-    requires { AllFound sections.now starts.now views.now k }
+    requires { AllFound sections.now found.now.starts found.now.views k }
     ensures { left (decoded_list_outcome result) costs.new distances.new labels.new goals.new
         ≡ framed (frame sections.now k indices.now received.now erased.now start end) paths
         costs.old distances.old labels.old goals.old }
 {
-    match frame::checked(
-        sections, starts, views, k, indices, received, erased, start, end,
-    ) {
+    match frame::checked(sections, found, k, indices, received, erased, start, end) {
         Ok(f) => list_blocks(f, paths, costs, distances, labels, goals),
         Err(bad) => Err(DecodeListRefusal::Block(bad)),
     }
@@ -69,12 +64,12 @@ pub fn decode_list(
         ≡ listing (frame sections.now k indices.now received.now erased.now start end) paths
         costs.old distances.old labels.old goals.old }
 {
-    let Found { starts, views } = match sections::find(sections, k) {
+    let found = match sections::find(sections, k) {
         Ok(found) => found,
         Err(index) => return Err(DecodeListRefusal::Section(index)),
     };
     list_frame(
-        sections, &starts, &views, k, indices, received, erased, start, end, paths, costs,
-        distances, labels, goals,
+        sections, &found, k, indices, received, erased, start, end, paths, costs, distances,
+        labels, goals,
     )
 }

@@ -33,15 +33,22 @@ pub fn decode_with(
     let from = usize::from(f.start);
     let ends = ends_in(usize::from(f.end));
     let to_pay = fill(
-        f.sections, f.starts, *f.views, f.indices, f.received, f.erased, ends, costs,
+        f.sections,
+        &f.found.starts,
+        f.found.views,
+        f.indices,
+        f.received,
+        f.erased,
+        ends,
+        costs,
     );
     let distance = to_pay[from];
     if distance == NO_PATH {
-        settle(f.sections, f.starts, f.indices, ends, costs);
+        settle(f.sections, &f.found.starts, f.indices, ends, costs);
         return Err(DecodeRefusal::NoPath);
     }
     follow(f.indices.len(), from, costs, labels, goals);
     masks::put_masks(f.received, f.erased, labels, masks);
-    settle(f.sections, f.starts, f.indices, ends, costs);
+    settle(f.sections, &f.found.starts, f.indices, ends, costs);
     Ok(distance)
 }

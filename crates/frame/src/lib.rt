@@ -10,21 +10,21 @@ ghost use Rattle.frame.specs.Inner.Checked.{Views, Tested, FrameChecked};
 
 use numbers::is_within;
 use section_file::View;
+use sections::Found;
 use trellis::{MOST_BLOCKS, MOST_SECTIONS};
 
-// A frame without fault 9, over sections without fault 8, and where each of its sections stands with its view.
+// A frame without fault 9, over sections without fault 8, which are found.
 #[derive(Clone, Copy)]
 pub struct CheckedFrame<'a> {
     pub sections: &'a [u16],
-    pub starts: &'a [usize; MOST_SECTIONS + 1],
-    pub views: &'a [View; MOST_SECTIONS],
+    pub found: &'a Found,
     pub k: usize,
     pub indices: &'a [u8],
     pub received: &'a [u16],
     pub erased: &'a [u8],
     pub start: u8,
     pub end: u8,
-    ghost checked: { FrameChecked (frame sections.now k indices.now received.now erased.now start end) starts.now views.now },
+    ghost checked: { FrameChecked (frame sections.now k indices.now received.now erased.now start end) found.now.starts found.now.views },
 }
 
 // The bound on states in the width of a state.
@@ -79,8 +79,7 @@ pub fn first_bad(
 // state is out of bounds, else the first bad block.
 pub fn checked<'a>(
     sections: &'a [u16],
-    starts: &'a [usize; MOST_SECTIONS + 1],
-    views: &'a [View; MOST_SECTIONS],
+    found: &'a Found,
     k: usize,
     indices: &'a [u8],
     received: &'a [u16],
@@ -88,7 +87,7 @@ pub fn checked<'a>(
     start: u8,
     end: u8,
 ) -> Result<CheckedFrame<'a>, usize>
-    requires { AllFound sections.now starts.now views.now k }
+    requires { AllFound sections.now found.now.starts found.now.views k }
     ensures { let asked = frame sections.now k indices.now received.now erased.now start end in
         Tested asked result
         × IfOk result (λ f. frame f.sections.now f.k f.indices.now f.received.now f.erased.now f.start f.end ≡ asked) }
@@ -96,13 +95,12 @@ pub fn checked<'a>(
     if frame_bad(indices, received, erased, start, end) {
         return Err(indices.len());
     }
-    if let Some(bad) = first_bad(*views, k, indices, received, erased) {
+    if let Some(bad) = first_bad(found.views, k, indices, received, erased) {
         return Err(bad);
     }
     Ok(CheckedFrame {
         sections,
-        starts,
-        views,
+        found,
         k,
         indices,
         received,

@@ -11,8 +11,7 @@ ghost use Rattle.decoding.specs.Decoding.{left, fitted, framed};
 use answers::decode::{DecodeRefusal, Decoded};
 use decoding::decode_with;
 use frame::CheckedFrame;
-use section_file::View;
-use trellis::MOST_SECTIONS;
+use sections::Found;
 
 // Fault 10, and then what follows where there is none.
 fn decode_blocks(
@@ -41,8 +40,7 @@ fn decode_blocks(
 // Fault 9, and then what follows where there is none.
 pub fn decode_frame(
     sections: &[u16],
-    starts: &[usize; MOST_SECTIONS + 1],
-    views: &[View; MOST_SECTIONS],
+    found: &Found,
     k: usize,
     indices: &[u8],
     received: &[u16],
@@ -54,14 +52,12 @@ pub fn decode_frame(
     goals: &mut [u8],
     masks: &mut [u8],
 ) -> Decoded
-    requires { AllFound sections.now starts.now views.now k }
+    requires { AllFound sections.now found.now.starts found.now.views k }
     ensures { left (decoded_outcome result) costs.new labels.new goals.new masks.new
         ≡ framed (frame sections.now k indices.now received.now erased.now start end)
         costs.old labels.old goals.old masks.old }
 {
-    match frame::checked(
-        sections, starts, views, k, indices, received, erased, start, end,
-    ) {
+    match frame::checked(sections, found, k, indices, received, erased, start, end) {
         Ok(f) => decode_blocks(f, costs, labels, goals, masks),
         Err(bad) => Err(DecodeRefusal::Block(bad)),
     }

@@ -41,8 +41,18 @@ fn list_paths(
     let mut slots = [0u64; MOST_PATHS];
     let mut back = [0u32; BACK];
     let count = keep_blocks(
-        f.sections, f.starts, *f.views, f.indices, f.received, f.erased, f.start, f.end, costs,
-        paths, &mut slots, &mut back,
+        f.sections,
+        &f.found.starts,
+        f.found.views,
+        f.indices,
+        f.received,
+        f.erased,
+        f.start,
+        f.end,
+        costs,
+        paths,
+        &mut slots,
+        &mut back,
     );
     let sorted = sort(&slots, count);
     read_paths(
@@ -73,9 +83,16 @@ pub fn list_with(
 {
     let ends = ends_in(usize::from(f.end));
     let to_pay = fill(
-        f.sections, f.starts, *f.views, f.indices, f.received, f.erased, ends, costs,
+        f.sections,
+        &f.found.starts,
+        f.found.views,
+        f.indices,
+        f.received,
+        f.erased,
+        ends,
+        costs,
     );
-    settle(f.sections, f.starts, f.indices, ends, costs);
+    settle(f.sections, &f.found.starts, f.indices, ends, costs);
     if to_pay[usize::from(f.start)] == NO_PATH {
         return Err(DecodeListRefusal::NoPath);
     }
