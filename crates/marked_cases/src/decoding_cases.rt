@@ -41,7 +41,7 @@ fn run_case(
 // The section of case 3, labels 00 and 11, which has 22 numbers.
 fn merge_two_words(section: &mut [u16]) {
     let mut map = [9u16; 6];
-    merge::merge(
+    let _ = merge::merge(
         b"\x02\x02\x01\x02\x00\x00\x00\x00\x00\x00\x00\x05\x00",
         &mut map,
         section,
@@ -77,7 +77,7 @@ fn tie(rt: &impl Print) -> io::Result<()> {
     let mut map = [9u16; 6];
     let mut section = [9u16; 19];
     let file = b"\x02\x01\x02\x03\x00\x00\x01\x00\x00\x01\x00\x00\x00\x01\x00\x00\x00";
-    merge::merge(file, &mut map, &mut section);
+    let _ = merge::merge(file, &mut map, &mut section);
     let received = [0u16, 1];
     run_case(rt, b"tie\n", &section, b"\x00\x00", &received, b"\x00\x00")
 }

@@ -26,7 +26,7 @@ fn read_again(
     section: &mut [u16],
     again: &mut [u8],
 ) -> io::Result<()> {
-    merge::merge(file, map, section);
+    let _ = merge::merge(file, map, section);
     let answer = read_back::read_back(section, again);
     put_outcome(rt, b"read back", answer)?;
     put_numbers(rt, b"file", again)
