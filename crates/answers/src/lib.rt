@@ -1,5 +1,5 @@
-// What the functions of the kit answer: a result whose error is an enum of refusals. An answer stands for an outcome, document 01's number and
-// values, or for what came later document 02's; what it returns is that outcome in numbers.
+// What the functions of the kit answer: a result whose error is an enum of refusals. An answer stands for an outcome, document 01's number
+// and values, or for what came later document 02's; what it returns is that outcome in numbers.
 
 #![tactic(auto)]
 

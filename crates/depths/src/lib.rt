@@ -58,7 +58,7 @@ pub fn put_starts(roots: &[u8], labels: &[u16], n: usize, t: usize, starts: &mut
     }
 }
 
-// No word has this index.
+// No word has this index: a mark, since an array of options would take twice the bytes of the stack.
 const NOTHING: u16 = MOST_WORDS as u16;
 
 // What was noted for a key, or i where nothing was.
@@ -83,7 +83,8 @@ pub fn put_firsts(labels: &[u16], n: usize, t: usize, row: &mut [u16; MOST_WORDS
     }
 }
 
-// Depth t of a table: how many vertices it has, or none if the table is not rectangular there. The row tells the endings at depth t + 1 apart, and then those at depth t; the map gets the depth's vertices.
+// Depth t of a table: how many vertices it has, or none if the table is not rectangular there. The row tells the endings at depth t + 1
+// apart, and then those at depth t; the map gets the depth's vertices.
 pub fn merge_depth(
     table: TableWords,
     t: usize,

@@ -10,7 +10,7 @@ ghost use Rattle.lacking.specs.Inner.Chains.{Ahead, Chained, Reached, Asked};
 
 use trellis::MOST_WORDS;
 
-// No word has this index.
+// No word has this index: a mark, since an array of options would take twice the bytes of the stack.
 pub const NOTHING: u16 = MOST_WORDS as u16;
 
 // The words i, j and k that refute a table.

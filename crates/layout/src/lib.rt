@@ -42,7 +42,8 @@ pub fn put_all_pairs(
     to
 }
 
-// The symbols of all steps' edges, in the same order. The map is lent only for the contract to speak of: it decides the first words.
+// The symbols of all steps' edges, in the same order, by a loop of its own as in `pieces`. The map is lent only for the contract to speak
+// of: it decides the first words.
 pub fn put_all_symbols(
     words: &[u16],
     counts: &[u16; MOST_SYMBOLS],

@@ -1,4 +1,5 @@
-// The kit's static library for C and Rust: one export for each of `link_kit`'s calls in plain numbers, which it makes under the same promise.
+// The kit's static library for C and Rust: one export for each of `link_kit`'s calls in plain numbers, which it makes under the same
+// promise.
 
 #![tactic(auto)]
 

@@ -1,5 +1,5 @@
-// Numbers: held to bounds, and read at any place of a list of them, such as a section. A number past the end reads as 0, so that reading asks
-// for nothing.
+// Numbers: held to bounds, and read at any place of a list of them, such as a section. A number past the end reads as 0, so that reading
+// asks for nothing.
 
 #![tactic(auto)]
 

@@ -24,7 +24,8 @@ use least_rows::ROWS;
 use totals::{paid, total};
 use trellis::MOST_PATHS;
 
-// What the edges of step t cost: the least costs that are left from each vertex of each depth, the prices of the symbols, and which step it is.
+// What the edges of step t cost: the least costs that are left from each vertex of each depth, the prices of the symbols, and which step it
+// is.
 #[derive(Clone, Copy)]
 pub struct Costs<'a> {
     pub rows: &'a [u32; ROWS],

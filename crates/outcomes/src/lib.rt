@@ -7,7 +7,8 @@ ghost use Rattle.trellis.specs.Outcome.{outcome, Outcome};
 ghost use Rattle.outcomes.specs.Inner.Holds.{Holds};
 ghost use Rattle.outcomes.specs.Numbered.{stored, Numbered};
 
-// The outcome's number, how many numbers are returned with it, and these; 0 in the places not used.
+// The outcome's number, how many numbers are returned with it, and these; 0 in the places not used. Numbers and no enum: this is what
+// callers in C are given, and what is printed.
 #[derive(Clone, Copy)]
 pub struct Returned {
     pub number: u32,

@@ -38,7 +38,8 @@ fn end_for(ends: &[u16; MOST_Q * MOST_WORDS], matched: &[u16; MOST_WORDS], e: Ed
     ends[MOST_Q * partner + e.symbol]
 }
 
-// Whether a vertex can have the partner `end`, 0 for none, if `known` is the partner that it has, 0 for none yet.
+// Whether a vertex can have the partner `end`, 0 for none (an option in each place of the arrays would take twice the bytes of the stack),
+// if `known` is the partner that it has, 0 for none yet.
 fn can_join(known: u16, end: u16) -> bool
     ensures { result ≡ (not (eqb end 0) && (eqb known 0 || eqb known end)) }
 {

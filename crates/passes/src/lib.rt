@@ -18,7 +18,7 @@ use ranks::{note_of, ranked_left};
 use section_file::View;
 use trellis::{COSTS_A_BLOCK, MOST_WORDS};
 
-// No path, in a cost table.
+// No path, in a cost table: callers in C are given the table, so a place has a mark and no option.
 pub const NO_PATH: u32 = 4294967295;
 
 // The row of depth n: what it costs to end in each goal.

@@ -31,7 +31,8 @@ pub fn put_pairs(
     to
 }
 
-// Their symbols.
+// Their symbols. A loop of its own: each edge has two numbers in the pairs and one here, and a function of both would promise neither
+// plainly.
 pub fn put_symbols(
     words: &[u16],
     lo: usize,

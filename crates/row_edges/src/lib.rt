@@ -34,7 +34,7 @@ pub fn put_all_pairs(
     to
 }
 
-// The symbols of all steps' edges, in the same order.
+// The symbols of all steps' edges, in the same order, by a loop of its own as in `pieces`.
 pub fn put_all_symbols(
     edges: &[u16],
     counts: &[u16; MOST_SYMBOLS],

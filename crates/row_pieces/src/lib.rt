@@ -30,7 +30,7 @@ pub fn put_pairs(edges: &[u16], dim: usize, section: &mut [u16], at: usize) -> u
     to
 }
 
-// Their symbols.
+// Their symbols. A loop of its own, as in `pieces`.
 pub fn put_symbols(edges: &[u16], dim: usize, section: &mut [u16], at: usize) -> usize
     requires { (dim ≤ 10) × (at + length edges.now ≤ length section.old) }
     ensures { Wrote section.old at (symbols_from dim edges.now) section.new result }

@@ -1,6 +1,6 @@
 // The program `section`: reads a table file from standard input, to its end or to 65,536 bytes, and prints its sizes or why it is refused.
-// What it prints is proved of `print_listing`, whatever reader and writer it is given: the text of the whole file, also where only the front
-// of it is read. `main` gives it standard input and standard output.
+// What it prints is proved of `print_listing`, whatever reader and writer it is given: the text of the whole file, also where only the
+// front of it is read. `main` gives it standard input and standard output.
 
 #![tactic(auto)]
 

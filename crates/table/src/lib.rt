@@ -15,7 +15,8 @@ use fields::{Word, byte_at, length_bad, word_count};
 use packed::is_label;
 use reader::word_through;
 
-// Document 01's bounds as numbers of the width that they are compared in.
+// Document 01's bounds as numbers of the width that they are compared in: a constant has one width, and a cast at each comparison is no
+// plainer.
 const LEAST_Q: u16 = trellis::LEAST_Q as u16;
 
 const MOST_Q: u16 = trellis::MOST_Q as u16;
@@ -102,8 +103,8 @@ fn first_not_above(file: &[u8]) -> Option<usize>
     None
 }
 
-// Checks 1 to 4, each over the whole file before the next begins. It is not inlined: clang, where these checks stand in front of large arrays
-// in one function, makes the frame behind the first of them, and loses the answer's case in the loop that touches the frame's pages.
+// Checks 1 to 4, each over the whole file before the next begins. It is not inlined: clang, where these checks stand in front of large
+// arrays in one function, makes the frame behind the first of them, and loses the answer's case in the loop that touches the frame's pages.
 #[inline(never)]
 pub fn check(file: &[u8]) -> Result<Sizes, MergeRefusal>
     ensures { checked_outcome result ≡ file_outcome (table_file file.now) }

@@ -43,8 +43,8 @@ pub fn marks(step: Step, back: bool) -> [u8; MOST_WORDS]
     marks
 }
 
-// Whether an edge starts from each vertex. It is not inlined, and neither is `without_twins`, so that their arrays do not stand on the stack
-// side by side.
+// Whether an edge starts from each vertex. It is not inlined, and neither is `without_twins`, so that their arrays do not stand on the
+// stack side by side.
 #[inline(never)]
 pub fn covers(step: Step, back: bool, vertices: usize) -> bool
     requires { EdgesSmall step.pairs.now step.symbols.now step.count × (vertices ≤ most_words) }
@@ -54,7 +54,8 @@ pub fn covers(step: Step, back: bool, vertices: usize) -> bool
     (0..vertices).all(|v| marks[v] != 0)
 }
 
-// Whether a vertex was seen before, and was another one. Seen is 0 where none was, and else one more than the vertex.
+// Whether a vertex was seen before, and was another one. Seen is 0 where none was, and else one more than the
+// vertex: an array of options would take twice the bytes of the stack.
 fn differs(seen: u16, vertex: usize) -> bool
     requires { vertex < most_words }
     ensures { result ≡ (not (eqb seen 0) && not (eqb seen (vertex + 1))) }
