@@ -37,16 +37,17 @@ module _ (made old : List ℕ) (fits : length made ≤ length old) where
   unfolding in_buffer
   whole_left = ap (leaves made old) (le-ltb (length old) (length made) fits)
 
-  module _ {new : List ℕ} {r : Result ℕ ListingRefusal} {k : ℕ} (e : left (listed_outcome r) new ≡ in_buffer made old) where
-    pub whole_front : r ≡ Ok k → take k new ≡ made
-    whole_front f =
+  module _ {new : List ℕ} {r : Result ℕ ListingRefusal} (e : left (listed_outcome r) new ≡ in_buffer made old) where
+    pub whole_front : {k : ℕ} → r ≡ Ok k → take k new ≡ made
+    whole_front {k} f =
         let l : left (success k) new ≡ left (success (length made)) (over made old)
         = ap (λ x. left (listed_outcome x) new) (sym f) ∙ e ∙ whole_left in
         ap₂ take (ap (λ (m : Listing). get_or m.outcome.values 0 0) l) (ap (λ (m : Listing). m.text) l)
         ∙ take-append_seam made (drop (length made) old)
 
-    pub never_short : r ≡ Err (Short k) → ⊥
-    never_short f =
-        let l : left (short_buffer k) new ≡ left (success (length made)) (over made old)
+    -- a short buffer is the only refusal
+    pub never_refused : (refusal : ListingRefusal) → r ≡ Err refusal → ⊥
+    never_refused (Short needed) f =
+        let l : left (short_buffer needed) new ≡ left (success (length made)) (over made old)
         = ap (λ x. left (listed_outcome x) new) (sym f) ∙ e ∙ whole_left in
         absurd (omega (arith, ap (λ (m : Listing). m.outcome.number) l))

@@ -2,7 +2,7 @@
 use Rattle.std.proofs.Common.{arith}
 use Rattle.lines.specs.Text.{text_of}
 use Rattle.text_buffer.specs.Listing.{listing}
-use Rattle.text_buffer.proofs.Buffer.{whole_front, never_short}
+use Rattle.text_buffer.proofs.Buffer.{whole_front, never_refused}
 use Rattle.listing.proofs.Outcomes.{listed_inside}
 use Rattle.listing.proofs.Short.{text_short}
 use Rattle.section.proofs.put_text.Goals as goal
@@ -11,13 +11,14 @@ pub unreachable-requires : goal.unreachable-requires
 unfolding listing
 unreachable-requires c =
     let file = c.args.file.now in
-    never_short (text_of file) c.args.text.now (omega (arith, text_short file, c.told-text)) c.listing.ensures c.in-Short.is
+    never_refused (text_of file) c.args.text.now (omega (arith, text_short file, c.told-text)) c.listing.ensures
+    c.in-Err-Short.field-0 c.in-Err-Short.is
 
 pub returns-clause-inside : goal.returns-clause-inside
-returns-clause-inside c = listed_inside _ _ c.listing.ensures c.in-Text.is
+returns-clause-inside c = listed_inside _ _ c.listing.ensures c.in-Ok.is
 
 pub returns-clause-text : goal.returns-clause-text
 unfolding listing
 returns-clause-text c =
     let file = c.args.file.now in
-    whole_front (text_of file) c.args.text.now (omega (arith, text_short file, c.told-text)) c.listing.ensures c.in-Text.is
+    whole_front (text_of file) c.args.text.now (omega (arith, text_short file, c.told-text)) c.listing.ensures c.in-Ok.is
