@@ -10,7 +10,7 @@ ghost use Rattle.cost_table.specs.Inner.Filled.{EndRow, Working, BlockFilled, he
 
 use block::put_prices;
 use passes::{NO_PATH, pass_block};
-use section_file::View;
+use section_file::{Section, View};
 use trellis::{COSTS_A_BLOCK, MOST_Q, MOST_SECTIONS, MOST_SYMBOLS, MOST_WORDS};
 
 // Nothing is left to pay in the end state, and there is no path from any other.
@@ -26,8 +26,7 @@ pub fn ends_in(end: usize) -> [u32; COSTS_A_BLOCK]
 // One block: `left` has what is left to pay behind it, and then before it; `notes` gets its notes. The prices and the two rows are working
 // room.
 fn fill_block(
-    l: &[u16],
-    at: View,
+    section: Section,
     received: u16,
     mask: u8,
     left: &mut [u32; COSTS_A_BLOCK],
@@ -36,12 +35,12 @@ fn fill_block(
     even: &mut [u64; MOST_WORDS],
     odd: &mut [u64; MOST_WORDS],
 )
-    requires { Seen l.now at × (length notes.old ≡ most_states) × Working left.old prices.old even.old odd.old }
-    ensures { BlockFilled l.now received mask left.old left.new notes.new
+    requires { Seen section.numbers.now section.view × (length notes.old ≡ most_states) × Working left.old prices.old even.old odd.old }
+    ensures { BlockFilled section.entry.numbers.now received mask left.old left.new notes.new
         × Working left.new prices.new even.new odd.new }
 {
-    put_prices(at.n, received, mask, prices);
-    pass_block(l, at, prices, left, notes, even, odd);
+    put_prices(section.view.n, received, mask, prices);
+    pass_block(section, prices, left, notes, even, odd);
 }
 
 // `ends` has what is left to pay behind the last block: nothing in a state where a path may end. The notes go to the cost table, and what
@@ -67,15 +66,16 @@ pub fn fill(
     let mut odd = [0u64; MOST_WORDS];
     for b in (0..indices.len()).rev() {
         let i = usize::from(indices[b]);
-        let at = views[i];
+        let view = views[i];
         let start = starts[i];
         let word = received[b];
         let mask = erased[b];
+        let numbers = &sections[start..];
+        let section = Section { numbers, view };
         let first = COSTS_A_BLOCK * b;
         let next = first + COSTS_A_BLOCK;
         fill_block(
-            &sections[start..],
-            at,
+            section,
             word,
             mask,
             &mut left,

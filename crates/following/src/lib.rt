@@ -15,7 +15,7 @@ ghost use Rattle.partners.specs.Inner.Following.{slot, Single, Partners, StepMat
 use edges::Step;
 use numbers::{number, wide};
 use partners::{carry, ends_of};
-use section_file::View;
+use section_file::Section;
 use trellis::{MOST_Q, MOST_WORDS};
 
 // One step of `count` edges, whose pairs and symbols begin at the same places of both sections: from the partners of the vertices that it
@@ -113,10 +113,12 @@ fn own_partners(count: usize) -> [u16; MOST_WORDS]
 
 // Whether there is a map from the vertices of the one section to those of the other that keeps end states and symbols and carries edges to
 // edges.
-pub fn follow(a: &[u16], b: &[u16], at: View) -> bool
-    requires { BothSeen a.now b.now at × (1 < at.n) }
-    ensures { FollowedBy a.now b.now result }
+pub fn follow(ours: Section, b: &[u16]) -> bool
+    requires { BothSeen ours.numbers.now b.now ours.view × (1 < ours.view.n) }
+    ensures { FollowedBy ours.entry.numbers.now b.now result }
 {
+    let a = ours.numbers;
+    let at = ours.view;
     let n = at.n;
     let last = n - 1;
     let mut matched = own_partners(at.goals - at.roots);

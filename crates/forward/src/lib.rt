@@ -21,7 +21,7 @@ use cost_table::ends_in;
 use dearest::item;
 use least_rows::{ROWS, put_rows};
 use left_behind::left_behind;
-use section_file::View;
+use section_file::{Section, View};
 use step_limits::NONE_ABOVE;
 use steps::{Grown, keep_section};
 use trellis::{COSTS_A_BLOCK, MOST_PATHS, MOST_Q, MOST_SECTIONS, MOST_SYMBOLS, MOST_WORDS};
@@ -29,8 +29,7 @@ use trellis::{COSTS_A_BLOCK, MOST_PATHS, MOST_Q, MOST_SECTIONS, MOST_SYMBOLS, MO
 // The first `have` slots in front of block b, through its section, to those behind it. Any limit will do; a good one saves work. The last
 // arrays are working room.
 fn through_block(
-    l: &[u16],
-    at: View,
+    section: Section,
     received: u16,
     mask: u8,
     left: &[u32; COSTS_A_BLOCK],
@@ -46,20 +45,22 @@ fn through_block(
     rows: &mut [u32; ROWS],
     items: &mut [u64; MOST_PATHS],
 ) -> Grown
-    requires { Seen l.now at × (length left.now ≡ most_states) × (b < most_blocks) × (0 < k) × (k ≤ most_paths) × (have ≤ k)
+    requires { Seen section.numbers.now section.view × (length left.now ≡ most_states) × (b < most_blocks) × (0 < k) × (k ≤ most_paths) × (have ≤ k)
         × (limit < unreached) × (length slots.old ≡ most_paths) × (length back.old ≡ back_long)
         × Workspace prices.old even.old odd.old rows.old items.old
-        × Enterable l.now (roots_place l.now) (vertex_count_of l.now 0) slots.old have
-        × Passable l.now received mask left.now k have slots.old }
-    ensures { Passed l.now received mask left.now b k have slots.old back.old
+        × Enterable section.numbers.now (roots_place section.numbers.now) (vertex_count_of section.numbers.now 0) slots.old have
+        × Passable section.numbers.now received mask left.now k have slots.old }
+    ensures { Passed section.entry.numbers.now received mask left.now b k have slots.old back.old
         slots.new back.new result.count
         × (result.limit < unreached)
         × Workspace prices.new even.new odd.new rows.new items.new }
 {
+    let l = section.numbers;
+    let at = section.view;
     put_prices(at.n, received, mask, prices);
-    put_rows(l, at, left, prices, even, odd, rows);
+    put_rows(section, left, prices, even, odd, rows);
     enter(l, at.roots, at.goals - at.roots, slots, have, items);
-    let grown = keep_section(l, at, rows, prices, have, limit, k, items);
+    let grown = keep_section(section, rows, prices, have, limit, k, items);
     leave(l, at.goals, items, grown.count, b, slots, back);
     grown
 }
@@ -98,14 +99,15 @@ pub fn keep_blocks(
     let mut grown = Grown { count: 1, limit };
     for b in 0..indices.len() {
         let i = usize::from(indices[b]);
-        let at = views[i];
+        let view = views[i];
         let first = starts[i];
+        let numbers = &sections[first..];
+        let section = Section { numbers, view };
         let word = received[b];
         let mask = erased[b];
         let left = left_behind(costs, ends, indices.len(), b);
         grown = through_block(
-            &sections[first..],
-            at,
+            section,
             word,
             mask,
             &left,

@@ -16,7 +16,7 @@ ghost use Rattle.gathering.specs.Inner.Growing.{PutBehind, BeginsAt, Starts, Gat
 use codes::{further, vertex_of};
 use edges::Step;
 use numbers::{number, wide};
-use section_file::View;
+use section_file::Section;
 use trellis::MOST_WORDS;
 
 // Where the edges of each vertex begin. Going down, the last note of a vertex is its first edge.
@@ -119,10 +119,12 @@ fn first_level(s: &[u16], at: usize, count: usize, codes: &mut [u32; MOST_WORDS]
 }
 
 // Finds the section's words, depth by depth: how many they are, if not more than a table has.
-pub fn gather(s: &[u16], at: View, codes: &mut [u32; MOST_WORDS]) -> Option<usize>
-    requires { Seen s.now at × (length codes.old ≡ most_words) }
-    ensures { Gathered s.now codes.new result }
+pub fn gather(section: Section, codes: &mut [u32; MOST_WORDS]) -> Option<usize>
+    requires { Seen section.numbers.now section.view × (length codes.old ≡ most_words) }
+    ensures { Gathered section.entry.numbers.now codes.new result }
 {
+    let s = section.numbers;
+    let at = section.view;
     let n = at.n;
     let roots = at.roots;
     let mut have = at.goals - roots;

@@ -12,7 +12,7 @@ ghost use Rattle.least_rows.specs.Inner.Rows.{SaveAsked, RowSaved, RowsPut};
 
 use passes::put_goals_side;
 use ranks::cost_of;
-use section_file::View;
+use section_file::Section;
 use sweep::lower_side;
 use trellis::{COSTS_A_BLOCK, MOST_SYMBOLS, MOST_WORDS};
 
@@ -51,25 +51,26 @@ fn save_side(
 // From what is left to pay behind the block, state by state, to the least costs from all vertices. The two rows are working room.
 #[tactic(auto, using(section_file::proofs::Seen::header))]
 pub fn put_rows(
-    l: &[u16],
-    at: View,
+    section: Section,
     left: &[u32; COSTS_A_BLOCK],
     prices: &[u64],
     even: &mut [u64; MOST_WORDS],
     odd: &mut [u64; MOST_WORDS],
     rows: &mut [u32; ROWS],
 )
-    requires { Seen l.now at × PriceRoom prices.now }
-    ensures { RowsPut l.now prices.now left.now rows.new
+    requires { Seen section.numbers.now section.view × PriceRoom prices.now }
+    ensures { RowsPut section.entry.numbers.now prices.now left.now rows.new
         × (length even.new ≡ most_words) × (length odd.new ≡ most_words) }
 {
-    put_goals_side(l, at, left, even, odd);
+    let l = section.numbers;
+    let at = section.view;
+    put_goals_side(section, left, even, odd);
     let n = at.n;
     let mut before = at.edges;
     save_side(even, odd, at.pairs - at.goals, n, rows);
     for t in (0..n).rev() {
         before -= usize::from(l[4 + n + t]);
-        lower_side(l, at, t, before, prices, even, odd);
+        lower_side(section, t, before, prices, even, odd);
         save_side(even, odd, usize::from(l[3 + t]), t, rows);
     }
 }

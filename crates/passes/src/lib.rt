@@ -15,7 +15,7 @@ ghost use Rattle.passes.specs.Inner.Loops.{GoalsRanked, RootsAsked, RootsPut};
 
 pub use ranks::{cost_of, goal_of};
 use ranks::{note_of, ranked_left};
-use section_file::View;
+use section_file::Section;
 use trellis::{COSTS_A_BLOCK, MOST_WORDS};
 
 // No path, in a cost table: callers in C are given the table, so a place has a mark and no option.
@@ -23,13 +23,14 @@ pub const NO_PATH: u32 = 4294967295;
 
 // The row of depth n: what it costs to end in each goal.
 #[tactic(auto, using(crate::proofs::Ends::goal_read))]
-fn put_goals(l: &[u16], at: View, left: &[u32; COSTS_A_BLOCK], row: &mut [u64; MOST_WORDS])
-    requires { Seen l.now at }
-    ensures { GoalsRanked l.now left.now row.new
-        (vertex_count_of l.now (n_of l.now)) }
+fn put_goals(section: Section, left: &[u32; COSTS_A_BLOCK], row: &mut [u64; MOST_WORDS])
+    requires { Seen section.numbers.now section.view }
+    ensures { GoalsRanked section.entry.numbers.now left.now row.new
+        (vertex_count_of section.entry.numbers.now (n_of section.entry.numbers.now)) }
 {
-    let goals = at.goals;
-    let count = at.pairs - goals;
+    let l = section.numbers;
+    let goals = section.view.goals;
+    let count = section.view.pairs - goals;
     for g in 0..count {
         let s = usize::from(l[goals + g]);
         row[g] = ranked_left(left[s], s);
@@ -38,41 +39,40 @@ fn put_goals(l: &[u16], at: View, left: &[u32; COSTS_A_BLOCK], row: &mut [u64; M
 
 // The same, in the array of depth n's parity.
 pub fn put_goals_side(
-    l: &[u16],
-    at: View,
+    section: Section,
     left: &[u32; COSTS_A_BLOCK],
     even: &mut [u64; MOST_WORDS],
     odd: &mut [u64; MOST_WORDS],
 )
-    requires { Seen l.now at }
-    ensures { GoalsRanked l.now left.now
-        (side (n_of l.now) even.new odd.new)
-        (vertex_count_of l.now (n_of l.now))
+    requires { Seen section.numbers.now section.view }
+    ensures { GoalsRanked section.entry.numbers.now left.now
+        (side (n_of section.entry.numbers.now) even.new odd.new)
+        (vertex_count_of section.entry.numbers.now (n_of section.entry.numbers.now))
         × (length even.new ≡ most_words) × (length odd.new ≡ most_words) }
 {
-    if at.n % 2 == 0 {
-        put_goals(l, at, left, even);
+    if section.view.n % 2 == 0 {
+        put_goals(section, left, even);
         return;
     }
-    put_goals(l, at, left, odd);
+    put_goals(section, left, odd);
 }
 
 // What is left to pay before the block, and the notes: at the states of the roots what the row of depth 0 has, and no path elsewhere.
 #[tactic(auto, using(crate::proofs::Ends::root_read))]
 fn put_roots(
-    l: &[u16],
-    at: View,
+    section: Section,
     row: &[u64; MOST_WORDS],
     left: &mut [u32; COSTS_A_BLOCK],
     notes: &mut [u32],
 )
-    requires { Seen l.now at × RootsAsked l.now row.now notes.old }
-    ensures { RootsPut l.now row.now left.new notes.new (vertex_count_of l.now 0) }
+    requires { Seen section.numbers.now section.view × RootsAsked section.numbers.now row.now notes.old }
+    ensures { RootsPut section.entry.numbers.now row.now left.new notes.new (vertex_count_of section.entry.numbers.now 0) }
 {
+    let l = section.numbers;
     *left = [NO_PATH; COSTS_A_BLOCK];
     notes.fill(NO_PATH);
-    let roots = at.roots;
-    let count = at.goals - roots;
+    let roots = section.view.roots;
+    let count = section.view.goals - roots;
     for v in 0..count {
         let s = usize::from(l[roots + v]);
         let rank = row[v];
@@ -84,19 +84,18 @@ fn put_roots(
 // One block backward. `left` has what is left to pay in each state behind the block, and then before it; `notes` gets the note of each
 // state. The two rows are working room.
 pub fn pass_block(
-    l: &[u16],
-    at: View,
+    section: Section,
     prices: &[u64],
     left: &mut [u32; COSTS_A_BLOCK],
     notes: &mut [u32],
     even: &mut [u64; MOST_WORDS],
     odd: &mut [u64; MOST_WORDS],
 )
-    requires { Seen l.now at × PriceRoom prices.now × (length notes.old ≡ most_states) }
-    ensures { BlockPassed l.now prices.now left.old left.new notes.new
+    requires { Seen section.numbers.now section.view × PriceRoom prices.now × (length notes.old ≡ most_states) }
+    ensures { BlockPassed section.entry.numbers.now prices.now left.old left.new notes.new
         × (length even.new ≡ most_words) × (length odd.new ≡ most_words) }
 {
-    put_goals_side(l, at, left, even, odd);
-    sweep::sweep(l, at, prices, even, odd);
-    put_roots(l, at, even, left, notes);
+    put_goals_side(section, left, even, odd);
+    sweep::sweep(section, prices, even, odd);
+    put_roots(section, even, left, notes);
 }

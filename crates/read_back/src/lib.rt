@@ -11,27 +11,28 @@ ghost use Rattle.read_back.specs.ReadingBack.{left, reading_back};
 pub use answers::read_back::{ReadBack, ReadBackRefusal};
 pub use codes::{further, label_of, root_of, vertex_of};
 use gathering::gather;
-use section_file::View;
+use section_file::Section;
 use trellis::MOST_WORDS;
 pub use whole_section::section_of;
 use word_file::put_file;
 
 // Writes the table file of a section's words.
 #[tactic(auto, using(gathering::proofs::Depths::near))]
-fn put_words(section: &[u16], at: View, file: &mut [u8]) -> ReadBack
-    requires { Seen section.now at × (is_section section.now ≡ true) }
-    ensures { left (read_back_outcome result) file.new ≡ reading_back section.now file.old }
+fn put_words(section: Section, file: &mut [u8]) -> ReadBack
+    requires { Seen section.numbers.now section.view × (is_section section.numbers.now ≡ true) }
+    ensures { left (read_back_outcome result) file.new ≡ reading_back section.entry.numbers.now file.old }
 {
-    let goals = at.goals;
+    let numbers = section.numbers;
+    let goals = section.view.goals;
     let mut codes = [0u32; MOST_WORDS];
-    let Some(count) = gather(section, at, &mut codes) else {
+    let Some(count) = gather(section, &mut codes) else {
         return Err(ReadBackRefusal::TooMany);
     };
     let needed = 5 + 4 * count;
     if file.len() < needed {
         return Err(ReadBackRefusal::Short(needed));
     }
-    put_file(section, &section[goals..], &codes, count, file);
+    put_file(numbers, &numbers[goals..], &codes, count, file);
     Ok(needed)
 }
 
@@ -40,7 +41,10 @@ pub fn read_back(section: &[u16], file: &mut [u8]) -> ReadBack
     ensures { left (read_back_outcome result) file.new ≡ reading_back section.now file.old }
 {
     match section_of(section) {
-        Some(at) => put_words(section, at, file),
+        Some(view) => {
+            let numbers = section;
+            put_words(Section { numbers, view }, file)
+        },
         None => Err(ReadBackRefusal::Unusable),
     }
 }

@@ -13,7 +13,7 @@ ghost use Rattle.same_section.specs.Comparing.{same_code, comparing};
 pub use answers::same_section::{SameSection, SameSectionRefusal};
 use following::follow;
 use numbers::number;
-use section_file::View;
+use section_file::Section;
 use whole_section::section_of;
 
 // Whether the first `count` numbers of two slices are the same.
@@ -26,32 +26,27 @@ fn alike(a: &[u16], b: &[u16], count: usize) -> bool
 // Whether two sections have the same words. Sizes, counts and end states stand in front of the edges. With one step no vertex is an inner
 // one, so all numbers are the same; else the matching is followed. There being as many vertices and edges in both, what carries the edges
 // of the one to edges of the other meets them all.
-fn same_code(a: &[u16], b: &[u16], at: View) -> bool
-    requires { Seen a.now at × (is_section a.now ≡ true) × (is_section b.now ≡ true) }
-    ensures { result ≡ same_code a.now b.now }
+fn same_code(a: Section, b: &[u16]) -> bool
+    requires { Seen a.numbers.now a.view × (is_section a.numbers.now ≡ true) × (is_section b.now ≡ true) }
+    ensures { result ≡ same_code a.entry.numbers.now b.now }
 {
-    if !alike(a, b, at.pairs) {
+    let at = a.view;
+    if !alike(a.numbers, b, at.pairs) {
         return false;
     }
     if at.n == 1 {
-        return alike(a, b, at.end);
+        return alike(a.numbers, b, at.end);
     }
-    follow(a, b, at)
+    follow(a, b)
 }
 
 // The first of the two is a section.
-fn compare(a: &[u16], at: View, b: &[u16]) -> SameSection
-    requires { Seen a.now at × (is_section a.now ≡ true) }
-    ensures { same_section_outcome result ≡ comparing a.now b.now }
+fn compare(a: Section, b: &[u16]) -> SameSection
+    requires { Seen a.numbers.now a.view × (is_section a.numbers.now ≡ true) }
+    ensures { same_section_outcome result ≡ comparing a.entry.numbers.now b.now }
 {
     match section_of(b) {
-        Some(_there) => {
-            if same_code(a, b, at) {
-                Ok(true)
-            } else {
-                Ok(false)
-            }
-        },
+        Some(_there) => { if same_code(a, b) { Ok(true) } else { Ok(false) } },
         None => Err(SameSectionRefusal::Unusable(1)),
     }
 }
@@ -61,7 +56,7 @@ pub fn same_section(a: &[u16], b: &[u16]) -> SameSection
     ensures { same_section_outcome result ≡ comparing a.now b.now }
 {
     match section_of(a) {
-        Some(at) => compare(a, at, b),
+        Some(view) => compare(Section { numbers: a, view }, b),
         None => Err(SameSectionRefusal::Unusable(0)),
     }
 }

@@ -30,6 +30,13 @@ pub struct View {
     pub end: usize,
 }
 
+// A section: its numbers, at the front of a slice, and its view.
+#[derive(Clone, Copy)]
+pub struct Section<'a> {
+    pub numbers: &'a [u16],
+    pub view: View,
+}
+
 #[tactic(auto, unfolding(crate::specs::Usable::sizes_right, trellis::specs::Lists::within))]
 pub fn sizes_right(l: &[u16]) -> bool
     ensures { result ≡ sizes_right l.now }

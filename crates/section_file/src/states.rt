@@ -5,7 +5,7 @@ ghost use Rattle.section_file.specs.Usable.{states_right};
 ghost use Rattle.section_file.specs.Inner.Steps.{higher, state_right};
 ghost use Rattle.section_file.specs.Inner.View.{Laid};
 
-use crate::View;
+use crate::Section;
 use numbers::number;
 
 // Whether vertex v has a state above that of the vertex before it.
@@ -34,10 +34,12 @@ fn is_rising(states: &[u16], count: usize, bound: u16) -> bool
 
 // Whether the end states ascend strictly and are below S.
 #[tactic(auto, using(crate::proofs::Seen::near_of))]
-pub fn states_right(l: &[u16], at: View) -> bool
-    requires { Laid l.now at }
-    ensures { result ≡ states_right l.now }
+pub fn states_right(section: Section) -> bool
+    requires { Laid section.numbers.now section.view }
+    ensures { result ≡ states_right section.entry.numbers.now }
 {
+    let l = section.numbers;
+    let at = section.view;
     let roots = at.roots;
     let goals = at.goals;
     let states = number(l, 2);

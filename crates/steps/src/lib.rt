@@ -15,7 +15,7 @@ use edge_search::edges_each;
 use edges::Step;
 use least_rows::ROWS;
 use one_step::Costs;
-use section_file::View;
+use section_file::Section;
 pub use step_limits::NONE_ABOVE;
 use step_limits::{keep_step, limit_of};
 use trellis::MOST_PATHS;
@@ -29,8 +29,7 @@ pub struct Grown {
 
 // From depth 0 to depth n of a section: the k best at each depth. Any limit will do for the first step.
 pub fn keep_section(
-    l: &[u16],
-    at: View,
+    section: Section,
     rows: &[u32; ROWS],
     prices: &[u64],
     have: usize,
@@ -38,11 +37,13 @@ pub fn keep_section(
     k: usize,
     items: &mut [u64; MOST_PATHS],
 ) -> Grown
-    requires { Seen l.now at × (0 < k) × (k ≤ most_paths) × (have ≤ k) × PriceRoom prices.now
+    requires { Seen section.numbers.now section.view × (0 < k) × (k ≤ most_paths) × (have ≤ k) × PriceRoom prices.now
         × (limit < unreached) }
-    ensures { Gone (step_edges l.now) rows.now prices.now k (n_of l.now) have
+    ensures { Gone (step_edges section.entry.numbers.now) rows.now prices.now k (n_of section.entry.numbers.now) have
         items.old items.new result.count × (result.limit < unreached) }
 {
+    let l = section.numbers;
+    let at = section.view;
     let n = at.n;
     let mut grown = Grown { count: have, limit };
     let mut pairs = at.pairs;

@@ -12,23 +12,24 @@ ghost use Rattle.lowering.specs.Inner.Loops.{RowAsked, RowDone};
 
 use edges::Step;
 use lowering::{clear, lower};
-use section_file::View;
+use section_file::Section;
 use trellis::MOST_WORDS;
 
 // The row of depth t from the row behind it. The edges of the step begin behind the `before` edges of the steps before it.
 #[tactic(auto, using(crate::proofs::Sweeping::near_by))]
 fn lower_depth(
-    l: &[u16],
-    at: View,
+    section: Section,
     t: usize,
     before: usize,
     prices: &[u64],
     behind: &[u64; MOST_WORDS],
     row: &mut [u64; MOST_WORDS],
 )
-    requires { Seen l.now at × RowAsked l.now t before prices.now behind.now row.old }
-    ensures { RowDone l.now t prices.now behind.now row.new }
+    requires { Seen section.numbers.now section.view × RowAsked section.numbers.now t before prices.now behind.now row.old }
+    ensures { RowDone section.entry.numbers.now t prices.now behind.now row.new }
 {
+    let l = section.numbers;
+    let at = section.view;
     let pairs = at.pairs + 2 * before;
     let symbols = at.symbols + before;
     let first = 4 * t;
@@ -43,44 +44,43 @@ fn lower_depth(
 
 // The same, where the rows of even depths stand in one array and those of odd depths in the other.
 pub fn lower_side(
-    l: &[u16],
-    at: View,
+    section: Section,
     t: usize,
     before: usize,
     prices: &[u64],
     even: &mut [u64; MOST_WORDS],
     odd: &mut [u64; MOST_WORDS],
 )
-    requires { Seen l.now at
-        × RowAsked l.now t before prices.now (side (suc t) even.old odd.old) (side t even.old odd.old) }
-    ensures { RowDone l.now t prices.now (side (suc t) even.old odd.old)
+    requires { Seen section.numbers.now section.view
+        × RowAsked section.numbers.now t before prices.now (side (suc t) even.old odd.old) (side t even.old odd.old) }
+    ensures { RowDone section.entry.numbers.now t prices.now (side (suc t) even.old odd.old)
         (side t even.new odd.new)
         × (length even.new ≡ most_words) × (length odd.new ≡ most_words) }
 {
     if t % 2 == 0 {
-        lower_depth(l, at, t, before, prices, odd, even);
+        lower_depth(section, t, before, prices, odd, even);
         return;
     }
-    lower_depth(l, at, t, before, prices, even, odd);
+    lower_depth(section, t, before, prices, even, odd);
 }
 
 // From the row of depth n to the row of depth 0, which is left in `even`.
 #[tactic(auto, using(section_file::proofs::Seen::header))]
 pub fn sweep(
-    l: &[u16],
-    at: View,
+    section: Section,
     prices: &[u64],
     even: &mut [u64; MOST_WORDS],
     odd: &mut [u64; MOST_WORDS],
 )
-    requires { Seen l.now at × SweepAsked l.now prices.now even.old odd.old }
-    ensures { Swept l.now prices.now even.old odd.old even.new
+    requires { Seen section.numbers.now section.view × SweepAsked section.numbers.now prices.now even.old odd.old }
+    ensures { Swept section.entry.numbers.now prices.now even.old odd.old even.new
         odd.new }
 {
-    let n = at.n;
-    let mut before = at.edges;
+    let l = section.numbers;
+    let n = section.view.n;
+    let mut before = section.view.edges;
     for t in (0..n).rev() {
         before -= usize::from(l[4 + n + t]);
-        lower_side(l, at, t, before, prices, even, odd);
+        lower_side(section, t, before, prices, even, odd);
     }
 }

@@ -15,7 +15,7 @@ ghost use Rattle.usable.specs.Inner.Part.{part_of};
 use edges::Step;
 use numbers::number;
 use section_file::states::states_right;
-use section_file::{View, counts_right, sizes_right, view_of};
+use section_file::{Section, View, counts_right, sizes_right, view_of};
 use twins::{covers, twins_right};
 
 // The edges of one step. That they are within bounds is checked first: their vertices and symbols are places in the arrays of marks.
@@ -35,10 +35,12 @@ fn edges_right(step: Step, q: usize, froms: usize, tos: usize, reached: bool, le
 
 // One step, whose edges stand behind those of the steps before it.
 #[tactic(auto, using(crate::proofs::Steps::step_places))]
-fn step_right(l: &[u16], at: View, t: usize, before: usize) -> bool
-    requires { Laid l.now at × (t < at.n) × (before ≡ edges_before l.now t) }
-    ensures { result ≡ step_right l.now t }
+fn step_right(section: Section, t: usize, before: usize) -> bool
+    requires { Laid section.numbers.now section.view × (t < section.view.n) × (before ≡ edges_before section.numbers.now t) }
+    ensures { result ≡ step_right section.entry.numbers.now t }
 {
+    let l = section.numbers;
+    let at = section.view;
     let n = at.n;
     let count = usize::from(number(l, 4 + n + t));
     let froms = usize::from(number(l, 3 + t));
@@ -54,14 +56,15 @@ fn step_right(l: &[u16], at: View, t: usize, before: usize) -> bool
 }
 
 #[tactic(auto, using(section_file::proofs::Seen::near_of))]
-fn steps_right(l: &[u16], at: View) -> bool
-    requires { Laid l.now at }
-    ensures { result ≡ all (step_right l.now) at.n }
+fn steps_right(section: Section) -> bool
+    requires { Laid section.numbers.now section.view }
+    ensures { result ≡ all (step_right section.entry.numbers.now) section.entry.view.n }
 {
-    let n = at.n;
+    let l = section.numbers;
+    let n = section.view.n;
     let mut before: usize = 0;
     for t in 0..n {
-        if !step_right(l, at, t, before) {
+        if !step_right(section, t, before) {
             return false;
         }
         before += usize::from(number(l, 4 + n + t));
@@ -84,10 +87,14 @@ fn front_part(l: &[u16]) -> Option<View>
     if l.len() < at.end {
         return None;
     }
-    if !states_right(l, at) {
+    let section = Section {
+        numbers: l,
+        view: at,
+    };
+    if !states_right(section) {
         return None;
     }
-    if !steps_right(l, at) {
+    if !steps_right(section) {
         return None;
     }
     Some(at)

@@ -63,13 +63,13 @@ offset_bounds-sections-start c =
     let B = block_at c.requires.0 (one_below c.loop-b.invariant.b_le c.loop-b-test.true) c.from-i.ensures in
     omega arith
 
-pub slice_bounds-fill_block-count : goal.slice_bounds-fill_block-count
-slice_bounds-fill_block-count c =
+pub slice_bounds-numbers-count : goal.slice_bounds-numbers-count
+slice_bounds-numbers-count c =
     let B = block_at c.requires.0 (one_below c.loop-b.invariant.b_le c.loop-b-test.true) c.from-i.ensures in
     omega arith
 
-pub slice_bounds-fill_block-start : goal.slice_bounds-fill_block-start
-slice_bounds-fill_block-start c =
+pub slice_bounds-numbers-start : goal.slice_bounds-numbers-start
+slice_bounds-numbers-start c =
     let B = block_at c.requires.0 (one_below c.loop-b.invariant.b_le c.loop-b-test.true) c.from-i.ensures in
     omega arith
 
@@ -78,18 +78,18 @@ offset_bounds-costs-first c =
     let B = block_at c.requires.0 (one_below c.loop-b.invariant.b_le c.loop-b-test.true) c.from-i.ensures in
     omega arith
 
-pub slice_bounds-fill_block-count-in-loop-b : goal.slice_bounds-fill_block-count-in-loop-b
-slice_bounds-fill_block-count-in-loop-b c =
+pub slice_bounds-fill_block-count : goal.slice_bounds-fill_block-count
+slice_bounds-fill_block-count c =
     let B = block_at c.requires.0 (one_below c.loop-b.invariant.b_le c.loop-b-test.true) c.from-i.ensures in
     omega arith
 
-pub slice_bounds-fill_block-start-in-loop-b : goal.slice_bounds-fill_block-start-in-loop-b
-slice_bounds-fill_block-start-in-loop-b c =
+pub slice_bounds-fill_block-start : goal.slice_bounds-fill_block-start
+slice_bounds-fill_block-start c =
     let B = row_inside c.loop-b.invariant.b_le c.loop-b-test.true c.loop-b.invariant.long c.requires.2 in
     omega arith
 
-pub slice_bounds-fill_block-end-in-loop-b : goal.slice_bounds-fill_block-end-in-loop-b
-slice_bounds-fill_block-end-in-loop-b c =
+pub slice_bounds-fill_block-end : goal.slice_bounds-fill_block-end
+slice_bounds-fill_block-end c =
     let B = row_inside c.loop-b.invariant.b_le c.loop-b-test.true c.loop-b.invariant.long c.requires.2 in
     omega arith
 

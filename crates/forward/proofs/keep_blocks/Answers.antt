@@ -87,13 +87,13 @@ offset_bounds-sections-first c =
     let A = held_at c.requires.0 c.loop-b-test.true c.from-i.ensures in
     omega (arith, A.inside, c.well_formed.0)
 
-pub slice_bounds-through_block-count : goal.slice_bounds-through_block-count
-slice_bounds-through_block-count c =
+pub slice_bounds-numbers-count : goal.slice_bounds-numbers-count
+slice_bounds-numbers-count c =
     let A = held_at c.requires.0 c.loop-b-test.true c.from-i.ensures in
     omega (arith, A.inside)
 
-pub slice_bounds-through_block-start : goal.slice_bounds-through_block-start
-slice_bounds-through_block-start c =
+pub slice_bounds-numbers-start : goal.slice_bounds-numbers-start
+slice_bounds-numbers-start c =
     let A = held_at c.requires.0 c.loop-b-test.true c.from-i.ensures in
     omega (arith, A.inside)
 

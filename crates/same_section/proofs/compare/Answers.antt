@@ -12,12 +12,12 @@ same_code-requires c =
 pub returns-then-same_code : goal.returns-then-same_code
 returns-then-same_code c =
     let F = whole_filled c.args.b.now c.in-Some.ensures in
-    both_compared c.args.a.now c.args.b.now c.requires.1 F.is_section_lem (sym c.if-same_code.true ∙ c.same_code.ensures)
+    both_compared c.args.a.numbers.now c.args.b.now c.requires.1 F.is_section_lem (sym c.if-same_code.true ∙ c.same_code.ensures)
 
 pub returns-else-same_code : goal.returns-else-same_code
 returns-else-same_code c =
     let F = whole_filled c.args.b.now c.in-Some.ensures in
-    both_compared c.args.a.now c.args.b.now c.requires.1 F.is_section_lem (sym c.if-same_code.false ∙ c.same_code.ensures)
+    both_compared c.args.a.numbers.now c.args.b.now c.requires.1 F.is_section_lem (sym c.if-same_code.false ∙ c.same_code.ensures)
 
 pub returns-in-None : goal.returns-in-None
-returns-in-None c = second_unusable c.args.a.now c.args.b.now c.requires.1 (whole_none c.args.b.now c.in-None.ensures)
+returns-in-None c = second_unusable c.args.a.numbers.now c.args.b.now c.requires.1 (whole_none c.args.b.now c.in-None.ensures)

@@ -3,4 +3,4 @@ use Rattle.usable.proofs.Steps.{InSteps}
 use Rattle.usable.proofs.steps_right.Given as goal
 
 abbrev pub invariant-loop-t : goal.invariant-loop-t
-invariant-loop-t l = InSteps l.l l.at.n l.before l.t
+invariant-loop-t l = InSteps l.l l.section.view.n l.before l.t
