@@ -12,6 +12,7 @@ ghost use Rattle.merging.specs.Merging.{Ends, merging, merged_table};
 ghost use Rattle.merging.specs.Inner.Sizes.{any_sizes, sized_table, sizing, EndsSized, Measured};
 
 pub use answers::merge::{MergeRefusal, Merged};
+use depths::TableWords;
 use merge_words::merge_words;
 pub use merging::ANY_SIZES;
 use table::Sizes;
@@ -39,20 +40,13 @@ fn merge_table(
         return Err(MergeRefusal::ShortMap(needed));
     }
     let lists = copy_words(file, stated.words);
-    let roots = &lists.roots[..w];
-    let labels = &lists.labels[..w];
-    let goals = &lists.goals[..w];
-    merge_words(
-        stated.q,
+    let table = TableWords {
         n,
-        stated.states,
-        roots,
-        labels,
-        goals,
-        map,
-        section,
-        sizes,
-    )
+        roots: &lists.roots[..w],
+        labels: &lists.labels[..w],
+        goals: &lists.goals[..w],
+    };
+    merge_words(stated.q, stated.states, table, map, section, sizes)
 }
 
 // A file: refusals 1 to 4, or what its table comes to.

@@ -13,8 +13,8 @@ returns-then-map-needed c = ends_map _ (c.requires.accepted, c.requires.counted)
 pub copy_words-lists-requires : goal.copy_words-lists-requires
 copy_words-lists-requires c = count_few _ (c.requires.accepted, c.requires.counted)
 
-pub shared_ref_as_front-roots : goal.shared_ref_as_front-roots
-shared_ref_as_front-roots c = count_few _ (c.requires.accepted, c.requires.counted)
+pub shared_ref_as_front-table : goal.shared_ref_as_front-table
+shared_ref_as_front-table c = count_few _ (c.requires.accepted, c.requires.counted)
 
 pub merge_words-requires : goal.merge_words-requires
 merge_words-requires c =
