@@ -7,7 +7,6 @@
 ghost use Rattle.std.specs.Prelude.{◌≡◌, ◌+◌, ◌*◌, ◌<◌, ◌≤◌, length};
 ghost use Rattle.fields.specs.Fields.{file_words};
 ghost use Rattle.table.specs.File.{accepted, table_file};
-ghost use Rattle.depths.specs.Inner.Words.{words};
 ghost use Rattle.merging.specs.Merging.{Ends, merging, merged_table};
 ghost use Rattle.merging.specs.Inner.Sizes.{any_sizes, sized_table, sizing, EndsSized, Measured};
 
