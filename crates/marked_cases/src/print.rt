@@ -18,8 +18,8 @@ pub fn put_numbers<T: Copy + Display>(
 
 // The number of an answer's outcome, and the numbers returned with it.
 pub fn put_outcome<A: Answer>(rt: &impl Print, name: &[u8], answer: A) -> io::Result<()> {
-    rt.write_all(name)?;
     let outcome = answer.returned();
+    rt.write_all(name)?;
     let number = outcome.number;
     print!(rt; " {number}")?;
     let values = outcome.values;
