@@ -6,8 +6,8 @@ ghost use Rattle.std.specs.Prelude.{◌≡◌, ◌+◌, ◌*◌, ◌<◌, ◌≤
 ghost use Rattle.trellis.specs.Bounds.{most_words, most_symbols};
 ghost use Rattle.edge_search.specs.Inner.FirstEdge.{FromsRise, FirstFrom, is_first};
 
-// The first of a step's edges that leaves the vertex or a later one, found by halves. The edges are pairs that lie
-// one behind another in the list, so no search of the library finds them, and the loop stays a `while`.
+// The first of a step's edges that leaves the vertex or a later one, found by halves. The pairs lie one behind another in one list, and a
+// search of the library over parts of it would be no plainer than this `while`.
 fn search_edge(pairs: &[u16], count: usize, vertex: usize) -> usize
     requires { FromsRise pairs.now count }
     ensures { FirstFrom (λ j. get_or pairs.now (2 * j) 0) count vertex result }

@@ -1,6 +1,7 @@
 // The kit's front door. Rattle programs get the layers' functions with their answers and promises from here. Programs in C or Rust, which
-// take no enum of ours, get one call for each, which `link_kit_c` exports: it returns document 01's number, puts the numbers returned with
-// it into `values`, and leaves every buffer as its layer does. No call asks anything of its arguments.
+// take no type of ours, get one call for each, which `link_kit_c` exports, since a crate is a library or a static library: it returns
+// document 01's number, puts the numbers returned with it into `values`, and leaves every buffer as its layer does. No call asks anything
+// of its arguments.
 
 #![tactic(auto)]
 

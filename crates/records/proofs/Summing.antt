@@ -77,6 +77,17 @@ summed_next {records} {i} {sums} {r} {block} s l e h a =
       selections_few = omega arith;
     }
 
+-- so adding a record stays below 2^64, as long as the list is as short as a frame's blocks are few
+pub summed_fits : {records : List BlockRecord} {i : ℕ} {sums : Sums} {block : BlockRecord} → Summed records i sums
+    → length records ≤ most_blocks → i < length records → Held block
+    → (sums.additions + block.additions < 2 ^ 64) × (sums.selections + block.selections < 2 ^ 64)
+summed_fits {records} {i} {sums} {block} s few l h =
+    let s₀ : sums.additions ≤ i * 2 ^ 32 = s.additions_few in
+    let s₁ : sums.selections ≤ i * 2 ^ 32 = s.selections_few in
+    let h₀ : block.additions < 2 ^ 32 = h.additions_fit in
+    let h₁ : block.selections < 2 ^ 32 = h.selections_fit in
+    (omega arith, omega arith)
+
 pub summed_all : {records : List BlockRecord} {i : ℕ} {sums : Sums} → Summed records i sums → length records ≤ i → SumsOf records sums
 summed_all {records} {i} {sums} s over =
     let e = take_all i records over in

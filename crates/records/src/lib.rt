@@ -1,5 +1,4 @@
-// The records of a block sheet, one for each block of a frame, and the sums over a lent list of them. The list is a slice of structs, and
-// the functions that take it are thin; what they call takes and gives plain values.
+// The records of a block sheet, one for each block of a frame, and the sums over a lent list of them, a slice of structs.
 
 #![tactic(auto)]
 
