@@ -35,11 +35,11 @@ pub fn decode(
         ≡ decoding (frame sections.now k indices.now received.now erased.now start end)
         costs.old labels.old goals.old masks.old }
 {
-    let found = match sections::find(sections, k) {
-        Ok(found) => found,
-        Err(index) => return Err(DecodeRefusal::Section(index)),
-    };
-    decode_frame(
-        sections, &found, k, indices, received, erased, start, end, costs, labels, goals, masks,
-    )
+    // Matched in its place: moved out of the result, it would stand on the stack twice.
+    match &sections::find(sections, k) {
+        Ok(found) => decode_frame(
+            sections, found, k, indices, received, erased, start, end, costs, labels, goals, masks,
+        ),
+        Err(index) => Err(DecodeRefusal::Section(*index)),
+    }
 }

@@ -64,12 +64,12 @@ pub fn decode_list(
         ≡ listing (frame sections.now k indices.now received.now erased.now start end) paths
         costs.old distances.old labels.old goals.old }
 {
-    let found = match sections::find(sections, k) {
-        Ok(found) => found,
-        Err(index) => return Err(DecodeListRefusal::Section(index)),
-    };
-    list_frame(
-        sections, &found, k, indices, received, erased, start, end, paths, costs, distances,
-        labels, goals,
-    )
+    // Matched in its place, as in decoding.
+    match &sections::find(sections, k) {
+        Ok(found) => list_frame(
+            sections, found, k, indices, received, erased, start, end, paths, costs, distances,
+            labels, goals,
+        ),
+        Err(index) => Err(DecodeListRefusal::Section(*index)),
+    }
 }
