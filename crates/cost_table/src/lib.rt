@@ -48,16 +48,16 @@ fn fill_block(
 pub fn fill(
     sections: &[u16],
     starts: &[usize; MOST_SECTIONS + 1],
-    views: [View; MOST_SECTIONS],
+    views: &[View; MOST_SECTIONS],
     indices: &[u8],
     received: &[u16],
     erased: &[u8],
     ends: [u32; COSTS_A_BLOCK],
     costs: &mut [u32],
 ) -> [u32; COSTS_A_BLOCK]
-    requires { Ready (held_blocks sections.now starts.now views indices.now received.now erased.now)
+    requires { Ready (held_blocks sections.now starts.now views.now indices.now received.now erased.now)
         × (length ends ≡ most_states) × (costs_a_block * length indices.now ≤ length costs.old) }
-    ensures { Filled (held_blocks sections.now starts.now views indices.now received.now
+    ensures { Filled (held_blocks sections.now starts.now views.now indices.now received.now
         erased.now) ends result costs.old costs.new }
 {
     let mut left = ends;

@@ -35,7 +35,7 @@ pub fn decode_with(
     let to_pay = fill(
         f.sections,
         &f.found.starts,
-        f.found.views,
+        &f.found.views,
         f.indices,
         f.received,
         f.erased,

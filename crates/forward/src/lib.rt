@@ -70,7 +70,7 @@ fn through_block(
 pub fn keep_blocks(
     sections: &[u16],
     starts: &[usize; MOST_SECTIONS + 1],
-    views: [View; MOST_SECTIONS],
+    views: &[View; MOST_SECTIONS],
     indices: &[u8],
     received: &[u16],
     erased: &[u8],
@@ -81,7 +81,7 @@ pub fn keep_blocks(
     slots: &mut [u64; MOST_PATHS],
     back: &mut [u32; BACK],
 ) -> usize
-    requires { Checked sections.now starts.now views indices.now received.now erased.now start end
+    requires { Checked sections.now starts.now views.now indices.now received.now erased.now start end
         × Tabled (frame sections.now 0 indices.now received.now erased.now start end) costs.now
         × (0 < k) × (k ≤ most_paths) × (length slots.old ≡ most_paths) × NotedWell back.old }
     ensures { KeptAt (frame sections.now 0 indices.now received.now erased.now start end)

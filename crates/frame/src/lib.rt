@@ -51,14 +51,14 @@ pub fn frame_bad(indices: &[u8], received: &[u16], erased: &[u8], start: u8, end
 
 // The first bad block.
 pub fn first_bad(
-    views: [View; MOST_SECTIONS],
+    views: &[View; MOST_SECTIONS],
     k: usize,
     indices: &[u8],
     received: &[u16],
     erased: &[u8],
 ) -> Option<usize>
-    requires { Views views k × (length received.now ≡ length indices.now) × (length erased.now ≡ length indices.now) }
-    ensures { (sections starts : List ℕ) (start end : ℕ) → SectionsFound sections starts views k
+    requires { Views views.now k × (length received.now ≡ length indices.now) × (length erased.now ≡ length indices.now) }
+    ensures { (sections starts : List ℕ) (start end : ℕ) → SectionsFound sections starts views.now k
         → result ≡ found_below (length indices.now)
         (first (block_bad (frame sections k indices.now received.now erased.now start end)) (length indices.now)) }
 {
@@ -95,7 +95,7 @@ pub fn checked<'a>(
     if frame_bad(indices, received, erased, start, end) {
         return Err(indices.len());
     }
-    if let Some(bad) = first_bad(found.views, k, indices, received, erased) {
+    if let Some(bad) = first_bad(&found.views, k, indices, received, erased) {
         return Err(bad);
     }
     Ok(CheckedFrame {

@@ -43,7 +43,7 @@ fn list_paths(
     let count = keep_blocks(
         f.sections,
         &f.found.starts,
-        f.found.views,
+        &f.found.views,
         f.indices,
         f.received,
         f.erased,
@@ -85,7 +85,7 @@ pub fn list_with(
     let to_pay = fill(
         f.sections,
         &f.found.starts,
-        f.found.views,
+        &f.found.views,
         f.indices,
         f.received,
         f.erased,
