@@ -35,7 +35,7 @@ pub fn decode(
         ≡ decoding (frame sections.now k indices.now received.now erased.now start end)
         costs.old labels.old goals.old masks.old }
 {
-    // Matched in its place: moved out of the result, it would stand on the stack twice.
+    // Matched in its place, so that where the sections begin is lent from the result and not moved out of it.
     match &sections::find(sections, k) {
         Ok(found) => decode_frame(
             sections, found, k, indices, received, erased, start, end, costs, labels, goals, masks,
