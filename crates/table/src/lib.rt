@@ -5,6 +5,7 @@
 
 ghost use Rattle.std.specs.Prelude.{◌≡◌};
 ghost use Rattle.trellis.specs.Lists.{found_below};
+ghost use Rattle.label.specs.Inner.Labels.{InOrder};
 ghost use Rattle.fields.specs.Fields.{byte_at, word_count};
 ghost use Rattle.fields.specs.Inner.Answer.{meant_word};
 ghost use Rattle.table.specs.File.{outside, word_outside, is_before, first_size, first_bad, first_not_above, table_file, file_outcome};
@@ -82,8 +83,10 @@ fn first_bad(file: &[u8]) -> Option<usize>
     None
 }
 
+// Of two words with one root and two labels, the one whose label comes before the other's: symbols are compared from the first one on.
 fn is_before(v: Word, w: Word) -> bool
-    ensures { result ≡ is_before (meant_word v) (meant_word w) }
+    ensures order { result ≡ is_before (meant_word v) (meant_word w) }
+    ensures symbols { v.root ≡ w.root → (v.label ≡ w.label → ⊥) → InOrder v.label w.label result }
 {
     v < w
 }

@@ -14,12 +14,12 @@ pub returns-then-not-is_before : goal.returns-then-not-is_before
 returns-then-not-is_before c =
     ap Some c.from.ensures
     ∙ ascending_found c.loop-i.invariant (search rules)
-    c.word_through-here.ensures c.is_before.ensures (ap not c.if-not-is_before.true)
+    c.word_through-here.ensures c.is_before.ensures.order (ap not c.if-not-is_before.true)
 
 pub loop-i-preserved : goal.loop-i-preserved
 loop-i-preserved c =
     ascending_next c.loop-i.invariant
-    c.word_through-here.ensures c.is_before.ensures (ap not c.if-not-is_before.false)
+    c.word_through-here.ensures c.is_before.ensures.order (ap not c.if-not-is_before.false)
 
 pub returns : goal.returns
 returns c = ascending_all c.loop-i.invariant (search rules)
