@@ -4,7 +4,7 @@
 
 #![tactic(auto)]
 
-ghost use Rattle.std.specs.Prelude.{◌*◌, ◌≤◌};
+ghost use Rattle.std.specs.Prelude.{◌≡◌, ◌*◌, ◌≤◌};
 
 use comparing::Comparison;
 use std::io;
@@ -36,18 +36,21 @@ fn one_at_a_time(x: u16, erased: u8) -> Comparison {
     Comparison { mask, distance }
 }
 
-// All labels compared under one mask: the sum of the distances, and how many comparisons came out otherwise one symbol at a time.
-fn compare_all(erased: u8) -> (u32, u32)
-    ensures { (result.0 ≤ 8 * 65536) × (result.1 ≤ 65536) }
+// All labels compared under one mask: how many comparisons there were, the sum of the distances, and how many came out otherwise one
+// symbol at a time.
+fn compare_all(erased: u8) -> (u32, u32, u32)
+    ensures { (result.0 ≡ 65536) × (result.1 ≤ 8 * 65536) × (result.2 ≤ 65536) }
 {
+    let mut comparisons: u32 = 0;
     let mut sum: u32 = 0;
     let mut otherwise: u32 = 0;
     for x in 0..=u16::MAX {
         let found = at_once(x, erased);
+        comparisons += 1;
         sum += found.distance;
         otherwise += u32::from(found != one_at_a_time(x, erased));
     }
-    (sum, otherwise)
+    (comparisons, sum, otherwise)
 }
 
 fn put_line(rt: &impl Print, name: &str, x: u32) -> io::Result<()> {
@@ -55,14 +58,18 @@ fn put_line(rt: &impl Print, name: &str, x: u32) -> io::Result<()> {
 }
 
 fn main(rt: HostRuntime) -> io::Result<()> {
+    let mut comparisons: u32 = 0;
     let mut sum: u32 = 0;
     let mut otherwise: u32 = 0;
     for erased in ERASED {
-        let (distances, others) = compare_all(erased);
+        let (made, distances, others) = compare_all(erased);
+        comparisons += made;
         sum += distances;
         otherwise += others;
     }
-    put_line(&rt, "comparisons", COMPARISONS)?;
+    // No mask was left out: the sums above would not show one under which all symbols are erased.
+    prove!(comparisons == COMPARISONS);
+    put_line(&rt, "comparisons", comparisons)?;
     put_line(&rt, "distances", sum)?;
     put_line(&rt, "otherwise", otherwise)
 }
