@@ -1,42 +1,47 @@
--- The first numbers of an array, copied into a buffer; and what stands in front of a buffer can be read off it again.
-use mathlib.Core.Path.{◌≡◌, refl, sym, ap, ◌∙◌}
-use mathlib.Core.List.{List, ◌++◌}
-use Prim.Native.Nat.{ℕ, ◌+◌, ◌-◌, ◌<◌, ◌≤◌}
+-- What put_numbers keeps: the numbers that are written so far. And what stands in front of a buffer can be read off it again.
+use mathlib.Core.Path.{◌≡◌, refl, sym, ap, subst, ◌∙◌}
+use mathlib.Core.List.{List, [], ◌∷◌, ◌++◌}
+use Prim.Native.Nat.{ℕ, ◌+◌, ◌<◌, ◌≤◌}
 use native.Mathlib.Omega.{arith}
-use lib.ListN.{length, get_or, drop, take, get_or-append}
-use lib.Seq.{ext_get_or, sets-eq}
-use borrow.Rule.Slice.PartMut.{put_mid}
-use Rattle.std.proofs.lemmas.Slice.{put_mid-paste}
-use Rattle.std.proofs.lemmas.List.{length-take, get_or-take, take_all}
+use native.Mathlib.Numerals.{add-one}
+use lib.ListN.{length, get_or, drop, set, length-set, get_or-append}
+use lib.Seq.{ext_get_or}
+use Rattle.trellis.specs.Lists.{run}
 use Rattle.trellis.specs.Inner.Write.{Wrote}
-use Rattle.trellis.proofs.Lists.{length_run, each_at}
-use Rattle.trellis.proofs.Write.{wrote_front}
+use Rattle.trellis.proofs.Lists.{length_run, each_at, run_snoc}
+use Rattle.trellis.proofs.Write.{wrote_one, wrote_front}
 use Rattle.assemble.specs.Inner.Numbers.{first_numbers}
 
--- the first numbers of an array are a part of it
-first_is : (source : List ℕ) (count : ℕ) → count ≤ length source → first_numbers source count ≡ take count source
-first_is source count h =
-    ext_get_or 0 (first_numbers source count) (take count source)
-    (length_run (λ k. get_or source k 0) 0 count ∙ sym (length-take count source ∙ omega arith))
-    (λ k l. same k (omega (arith, length_run (λ k. get_or source k 0) 0 count)))
-  where
-    same : (k : ℕ) → k < count → get_or (first_numbers source count) k 0 ≡ get_or (take count source) k 0
-    same k l = each_at (λ k. get_or source k 0) count k 0 l ∙ sym (get_or-take count source k 0 l)
+pub record InNumbers (source : List ℕ) (count : ℕ) (old : List ℕ) (at : ℕ) (new : List ℕ) (i : ℕ) : Type 0 where
+  pub i_le : i ≤ count
+  pub wrote : Wrote old at (first_numbers source i) new (at + i)
+  pub len : length new ≡ length old
 
--- that part copied into a buffer
-pub numbers_copied : (source old part : List ℕ) (count at : ℕ) → count ≤ length source → at + count ≤ length old → part ≡ take count source
-    → Wrote old at (first_numbers source count) (put_mid at (at + count - at) old part) (at + count)
-numbers_copied source old part count at h room e = record {
-  new_is =
-      put_mid-paste at (at + count - at) old part (first_numbers source count) (length (first_numbers source count))
-      (e ∙ sym (first_is source count h)) (omega (arith, long)) refl
-      ∙ ap (λ x. take at old ++ x ++ drop (at + length (first_numbers source count)) old) (take_all _ (first_numbers source count) (omega arith))
-      ∙ sym (sets-eq (first_numbers source count) old at (omega (arith, long)));
-  end_is = ap (λ k. at + k) (sym long);
+pub numbers_none : (source : List ℕ) (count : ℕ) (old : List ℕ) (at : ℕ) → InNumbers source count old at old 0
+unfolding run
+numbers_none source count old at = record { i_le = omega arith; wrote = record { new_is = refl; end_is = refl }; len = refl }
+
+pub numbers_more : {source old new : List ℕ} {count at i v : ℕ} → InNumbers source count old at new i → v ≡ get_or source i 0 → i < count
+    → InNumbers source count old at (set new (at + i) v) (i + 1)
+numbers_more {source} {old} {new} {count} {at} {i} {v} c e h = record {
+  i_le = omega arith;
+  wrote = record { new_is = W.new_is; end_is = omega (arith, W.end_is) };
+  len = simp length-set c.len;
 }
   where
-    long : length (first_numbers source count) ≡ count
-    long = length_run (λ k. get_or source k 0) 0 count
+    more : first_numbers source (i + 1) ≡ first_numbers source i ++ (v ∷ [])
+    more = rw (add-one i)
+        (run_snoc (λ k. get_or source k 0) 0 i
+        ∙ ap (λ x. first_numbers source i ++ (x ∷ [])) (let z : 0 + i ≡ i = omega arith in rw z (sym e)))
+
+    W : Wrote old at (first_numbers source (i + 1)) (set new (at + i) v) (at + i + 1)
+    W = subst (λ vs. Wrote old at vs (set new (at + i) v) (at + i + 1)) (sym more) (wrote_one v c.wrote)
+
+pub numbers_end : {source old new : List ℕ} {count at i : ℕ} → InNumbers source count old at new i → count ≤ i
+    → Wrote old at (first_numbers source count) new (at + count)
+numbers_end {source} {old} {new} {count} {at} {i} c h =
+    let e : i ≡ count = omega (arith, c.i_le) in
+    subst (λ k. Wrote old at (first_numbers source k) new (at + k)) e c.wrote
 
 -- numbers written from the front on are the first of the buffer
 pub wrote_first : {old new vs : List ℕ} {end : ℕ} → Wrote old 0 vs new end → length vs ≤ length old → first_numbers new (length vs) ≡ vs

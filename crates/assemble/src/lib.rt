@@ -13,12 +13,15 @@ pub use outer_depths::{Outer, OuterDepth, put_outer};
 use takers::Edges;
 use trellis::MOST_SYMBOLS;
 
-// The first `count` numbers of an array, from place `at` on.
+// The first `count` numbers of an array, from place `at` on. One by one: of `copy_from_slice` between two lent buffers clang makes a call of
+// memmove, which nothing else in the archive for C needs.
 pub fn put_numbers(source: &[u16], count: usize, section: &mut [u16], at: usize) -> usize
     requires { (count ≤ length source.now) × (at + count ≤ length section.old) }
     ensures { Wrote section.old at (first_numbers source.now count) section.new result }
 {
-    section[at..at + count].copy_from_slice(&source[..count]);
+    for i in 0..count {
+        section[at + i] = source[i];
+    }
     at + count
 }
 
