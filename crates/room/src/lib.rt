@@ -4,9 +4,16 @@
 
 ghost use Rattle.std.specs.Prelude.{◌≡◌, ◌≤◌, find, nat_lt};
 ghost use Rattle.trellis.specs.Bounds.{most_blocks, most_paths};
-ghost use Rattle.room.specs.Room.{if_any, needed_by, needed_to_decode, needed_to_list};
+ghost use Rattle.room.specs.Room.{short_of, if_any, needed_by, needed_to_decode, needed_to_list};
 
 use trellis::COSTS_A_BLOCK;
+
+// One buffer, of which so much is there and so much is needed, before what follows.
+pub fn short_of(there: usize, needed: usize, follows: usize) -> usize
+    ensures { result ≡ short_of there needed follows }
+{
+    if there < needed { needed } else { follows }
+}
 
 // The first short buffer. Of each so much is there and so much is needed.
 fn first_short(buffers: &[(usize, usize)]) -> Option<(usize, usize)>
