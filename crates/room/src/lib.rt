@@ -8,7 +8,8 @@ ghost use Rattle.room.specs.Room.{short_of, if_any, needed_by, needed_to_decode,
 
 use trellis::COSTS_A_BLOCK;
 
-// One buffer, of which so much is there and so much is needed, before what follows.
+// One buffer, of which so much is there and so much is needed, before what follows: one step of the definition `needed_by`. It is for callers
+// whose buffers stand in no list; nothing of the kit calls it.
 pub fn short_of(there: usize, needed: usize, follows: usize) -> usize
     ensures { result ≡ short_of there needed follows }
 {

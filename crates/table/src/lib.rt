@@ -83,7 +83,8 @@ fn first_bad(file: &[u8]) -> Option<usize>
     None
 }
 
-// Of two words with one root and two labels, the one whose label comes before the other's: symbols are compared from the first one on.
+// Whether v comes before w: by root, then label, then goal. The order of two labels as numbers is that of their symbols, from the first one
+// on, and `symbols` says so wherever labels decide.
 fn is_before(v: Word, w: Word) -> bool
     ensures order { result ≡ is_before (meant_word v) (meant_word w) }
     ensures symbols { v.root ≡ w.root → (v.label ≡ w.label → ⊥) → InOrder v.label w.label result }

@@ -1,4 +1,4 @@
--- `assemble::put_numbers` writes one number after another: the loop keeps those that are written so far.
+-- The loop of `assemble::put_numbers`: of `count` numbers the first i are written from place `at` on, and the buffer is as long as it was.
 use Rattle.assemble.proofs.Numbers.{InNumbers}
 use Rattle.assemble.proofs.put_numbers.Given as goal
 
